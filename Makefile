@@ -14,9 +14,10 @@ run: build
 build:
 	@cd crates/elasticlunr_index && rt run < ../../$(EXAMPLE) > /dev/null
 
-# Proves every crate from nothing, tries the wrong bodies, and runs the tests and the programs.
+# `rt ci` (proves every crate from nothing, tries the wrong bodies, runs the tests and the programs), then the built
+# program on the table of jobs and with each request for memory refused.
 test:
-	@rt ci
+	@bench/test.sh
 
 install: build
 	@install -d "$(DESTDIR)$(PREFIX)/bin"

@@ -4,6 +4,7 @@ pub mod WordSetLemmas
 pub mod RangeLemmas
 pub mod JoinLemmas
 pub mod LawLemmas
+pub mod ScalarLemmas
 pub mod FirstLemmas
 pub mod ReadingLemmas
 pub mod TrimLemmas

@@ -11,7 +11,9 @@ use unicode::properties::Script;
 /// A class of characters.
 #[derive(Drop)]
 pub enum Class {
+    /// The characters of the ranges.
     Ranges(Ranges),
+    /// The characters of the scripts.
     Scripts(Vec<Script>),
     /// ASCII letters, ASCII digits and the underscore.
     Word,
@@ -20,6 +22,7 @@ pub enum Class {
 impl Class {
     ghost use Rattle.elasticlunr_text.specs.Classes.{in_class};
 
+    /// Whether the character is in the class.
     pub fn contains(&self, c: char) -> bool
         ensures { result ≡ in_class self.now c }
     {
@@ -45,6 +48,7 @@ impl Class {
             .trim_end_matches(|c| !self.contains(c))
     }
 
+    /// A class with the same characters.
     pub fn clone(&self, alloc: Global) -> Result<Self, AllocError>
         ensures { IfOk result (λ copy. (c : ℕ) → in_class copy c ≡ in_class self.now c) }
     {

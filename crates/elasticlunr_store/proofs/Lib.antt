@@ -12,6 +12,7 @@ pub mod Settled
 pub mod Docs
 pub mod Finishing
 pub mod Unique
+pub mod Bounds
 pub mod OneValue
 pub mod Rising
 pub mod Printed

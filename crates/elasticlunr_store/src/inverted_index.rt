@@ -20,7 +20,7 @@ ghost use Rattle.elasticlunr_store.specs.Reading.{seen, ReadsChildren, ReadsNode
 ghost use Rattle.std.specs.Str.{all_scalars};
 ghost use Rattle.elasticlunr_store.specs.Children.{child, IsStrictlySorted, IsAt, IsGapFor};
 ghost use Rattle.elasticlunr_store.specs.Table.{postings_of};
-ghost use Rattle.elasticlunr_store.specs.Nodes.{children_at, children_of, entries_of, step_of, walk, IsTrie, SameNodes, IsBranch, HasBranch, GainsChild, IsLocated, SetsPosting, SameTrie, Grows, IsPlace, table_of, LosesReference, ClearsPosting, RemovesPosting, look};
+ghost use Rattle.elasticlunr_store.specs.Nodes.{children_at, children_of, entries_of, step_of, walk, IsTrie, AreSmall, SameNodes, IsBranch, HasBranch, GainsChild, IsLocated, SetsPosting, SameTrie, Grows, IsPlace, table_of, LosesReference, ClearsPosting, RemovesPosting, look};
 
 mod print;
 
@@ -66,7 +66,8 @@ impl Model for InvertedIndex {
 
 impl InvertedIndex {
     pub fn new(alloc: Global) -> Self
-        ensures { result ≡ new_table }
+        ensures new { result ≡ new_table }
+        ensures table { IsTable result }
     {
         InvertedIndex {
             root: Vec::new(alloc),
@@ -151,6 +152,7 @@ impl InvertedIndex {
     /// The JSON value of the trie.
     pub fn to_value(&self) -> Result<Value, IndexError>
         ensures tree { IfOk result (λ v. IsTrieValue self.now (view v)) }
+        ensures table { IsTable self.now }
         ensures only { IfOk result (λ v. (U : Table) → IsTable U → IsTrieValue U (view v) → U ≡ self.now) }
         ensures whole { IfOk result (λ v. has_float (view v) ≡ false) }
         ensures memory { IsOkUnless result Memory }
@@ -165,6 +167,7 @@ impl InvertedIndex {
     /// The trie of a JSON value.
     pub fn from_value(alloc: Global, value: &Value) -> Result<Self, IndexError>
         ensures ok { IfOk result (λ t. IsTrieValue t (view value.now)) }
+        ensures table { IfOk result (λ t. IsTable t) }
         ensures foreign { IfErr result (IsRefused ((T : Table) → IsTable T → ¬ (IsTrieValue T (view value.now)))) }
     {
         let Some(root) = only_member(value, "root") else {
@@ -627,6 +630,7 @@ fn only_member<'a>(value: &'a Value, key: &str) -> Option<&'a Value>
 // The number under `tf`, where nothing else stands.
 fn read_frequency(value: &Value) -> Option<u64>
     ensures found { IfSome result (λ n. view value.now ≡ frequency n) }
+    ensures small { IfSome result (λ n. n < 2 ^ 64) }
     ensures none { result ≡ None → (n : ℕ) → view value.now ≢ frequency n }
 {
     only_member(value, "tf")?.as_u64()
@@ -635,6 +639,7 @@ fn read_frequency(value: &Value) -> Option<u64>
 // The postings that the value under `docs` tells.
 fn read_docs(alloc: Global, value: &Value) -> Result<BTreeMap<String, u64>, IndexError>
     ensures ok { IfOk result (λ m. view value.now ≡ object (frequencies (entries (postings_of m.entries)))) }
+    ensures small { IfOk result (λ m. AreSmall m.entries) }
     ensures foreign { IfErr result (IsRefused ((es : List (Bytes × ℕ)) → view value.now ≢ object (frequencies es))) }
 {
     let Some(docs) = value.as_object() else {
@@ -652,7 +657,7 @@ fn read_docs(alloc: Global, value: &Value) -> Result<BTreeMap<String, u64>, Inde
 
 // The character of a text of one character.
 fn only_char(text: &str) -> Option<char>
-    ensures found { IfSome result (λ c. text.now ≡ encode_utf8 c) }
+    ensures found { IfSome result (λ c. (text.now ≡ encode_utf8 c) × (all_scalars (c ∷ []) ≡ true)) }
     ensures none { result ≡ None → (c : ℕ) → all_scalars (c ∷ []) ≡ true → text.now ≢ encode_utf8 c }
 {
     let mut letters = text.chars();

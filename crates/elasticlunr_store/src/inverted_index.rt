@@ -22,6 +22,7 @@ ghost use Rattle.elasticlunr_store.specs.Children.{child, IsStrictlySorted, IsAt
 ghost use Rattle.elasticlunr_store.specs.Table.{postings_of};
 ghost use Rattle.elasticlunr_store.specs.Nodes.{children_at, children_of, entries_of, step_of, walk, IsTrie, AreSmall, SameNodes, IsBranch, HasBranch, GainsChild, IsLocated, SetsPosting, SameTrie, Grows, IsPlace, table_of, LosesReference, ClearsPosting, RemovesPosting, look};
 
+mod compact;
 mod print;
 
 use elasticlunr_text::IndexError;

@@ -1,0 +1,4 @@
+pub mod Table
+pub mod Tree
+pub mod Contents
+pub mod Maps

@@ -39,13 +39,9 @@ impl InvertedIndex {
         term_freq: u64,
     ) -> Result<(), IndexError>
         ensures ok { OnOk result (chars token.now ≢ [] → AddsToken self.old self.new (chars token.now) doc_ref.now term_freq) }
-        ensures empty_token { chars token.now ≡ [] → IsOk result × (self.new ≡ self.old) }
         ensures memory { IsOkUnless result Memory }
         ensures err { OnErr result (self.new ≡ self.old) }
     {
-        if token.is_empty() {
-            return Ok(());
-        }
         Err(IndexError::Memory)
     }
 

@@ -20,6 +20,7 @@ pub struct InvertedIndex {
 
 impl Model for InvertedIndex {
     ghost use Rattle.std.specs.FinMap as map;
+    ghost use Rattle.elasticlunr_store.specs.Table.{Table};
     ghost use Rattle.std.specs.Prelude.{[]};
     ghost use Rattle.elasticlunr_text.specs.Text.{text_code};
     ghost use Rattle.std.specs.Coded.{coded_ℕ};

@@ -1,4 +1,0 @@
-pub mod Table
-pub mod Tree
-pub mod Contents
-pub mod Maps

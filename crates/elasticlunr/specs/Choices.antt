@@ -61,17 +61,15 @@ module _ {L P T : Type 0} where
   language_plan name_of stages_of given = record { fields = given.fields; reference_field = given.reference_field; save = given.save; language = name_of given.language; stages = stages_of given.language }
 
   module _ (tokens_of : L → Text → List Text) (answers : T → Bytes → List Text → Type 0) where
-    -- the field's tokenizer may answer these tokens to the value, or else the language makes them of it
-    abbrev pub IsTokenized : Choices L P T → ℕ → Bytes → List Text → Type 0
-    IsTokenized c i value made = IsMadeBy (slice_get c.tokenizers i) where
-      IsMadeBy : Option (Option T) → Type 0
-      IsMadeBy None = ⊥
-      IsMadeBy (Some None) = made ≡ tokens_of c.language (chars value)
-      IsMadeBy (Some (Some tokenizer)) = answers tokenizer value made
+    -- these tokens are made of the value at a place of the list of tokenizers: by the tokenizer there, or else by the language
+    abbrev pub IsMadeAt : L → (place : Option (Option T)) → Bytes → List Text → Type 0
+    IsMadeAt language None value made = ⊥
+    IsMadeAt language (Some None) value made = made ≡ tokens_of language (chars value)
+    IsMadeAt language (Some (Some tokenizer)) value made = answers tokenizer value made
 
     -- the pipeline may leave these tokens of those that are made of the value for the field of this number
     pub record Reads (runs : P → List Text → List Text → Type 0) (c : Choices L P T) (i : ℕ) (value : Bytes) (tokens : List Text) : Type 0 where
       pub made : List Text
       pub are_texts : AllByRecursion (λ token. IsTrue (all_scalars token)) made
-      pub tokenized : IsTokenized c i value made
+      pub tokenized : IsMadeAt c.language (slice_get c.tokenizers i) value made
       pub left : runs c.pipeline made tokens

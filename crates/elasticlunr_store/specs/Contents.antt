@@ -1,12 +1,14 @@
 -- What a document store stands for, and its JSON value.
-use Rattle.std.specs.Prelude.{◌≡◌, ◌≢◌, ℕ, List, [], ◌∷◌, Bool, false, Option, Some, IfSome, unwrap_or, option_and_then, refl, if◌then◌else◌, codes, ◌&&◌, nat_eq}
+use Rattle.std.specs.Prelude.{◌≡◌, ◌≢◌, ℕ, List, Bool, false, Option, Some, IfSome, unwrap_or, option_and_then, refl, if◌then◌else◌, codes, ◌&&◌, nat_eq, String, string_bytes}
+use Rattle.std.specs.declared.alloc.Global.{Global}
+use Rattle.std.specs.BTreeMap.{BTreeMap}
 use mathlib.Core.Bool.{beq}
 use Rattle.std.specs.Str.{bytes_eq}
-use Rattle.std.specs.Cmp.Lexicographic.{pointwise}
 use Rattle.std.specs.Coded.{Coded, code_by, coded×, coded_ℕ, coded_bool}
 use Rattle.std.specs.FinMap as map
-use Rattle.serde_json.specs.Data.{Data, boolean, number, string, object, unsigned, Members, no_members, member}
+use Rattle.serde_json.specs.Data.{Data, boolean, string, object, Members, no_members, member}
 use Rattle.elasticlunr_text.specs.Text.{Bytes, text_cmp, text_code}
+use Rattle.elasticlunr_store.specs.Maps.{seen, keyed, count, same_map}
 
 -- from fields to their texts
 abbrev pub TextMap : Type 0
@@ -53,19 +55,6 @@ without c reference = record c { texts = map.remove c.texts reference; lengths =
 abbrev pub length_at : Contents → Bytes → Bytes → Option ℕ
 length_at c reference field = option_and_then (λ lengths. map.get lengths field) (map.get c.lengths reference)
 
--- each key with the value of what stands at it
-abbrev pub members : {X : Type 0} → (X → Data) → List (Bytes × X) → Members
-members value [] = no_members
-members value (e ∷ es) = member e.0 (value e.1) (members value es)
-
--- the object that has the keys of a map, each with the value of what the map has there
-abbrev pub keyed : {X : Type 0} → (X → Data) → map.FinMap text_cmp X → Data
-keyed value m = object (members value (map.entries m))
-
--- a length as a value
-abbrev pub count : ℕ → Data
-count n = number (unsigned n)
-
 -- the four members of a store's object
 abbrev pub store_members : Data → Data → Data → Data → Members
 store_members lengths texts length save = member (codes "docInfo") lengths (member (codes "docs") texts (member (codes "length") length (member (codes "save") save no_members)))
@@ -82,10 +71,26 @@ store_value c = store_object c.save (keyed (keyed string) c.texts) (keyed (keyed
 abbrev pub IsStoreValue : Contents → Data → Type 0
 IsStoreValue c value = value ≡ store_value c
 
--- two maps have the same keys, and at each key what the test takes for the same
-abbrev pub same_map : {X : Type 0} → (X → X → Bool) → map.FinMap text_cmp X → map.FinMap text_cmp X → Bool
-same_map same m n = pointwise (λ p q. bytes_eq p.0 q.0 && same p.1 q.1) (map.entries m) (map.entries n)
-
 -- two contents are the same in each part
 abbrev pub same_contents : Contents → Contents → Bool
 same_contents c d = beq c.save d.save && (same_map (same_map bytes_eq) c.texts d.texts && same_map (same_map nat_eq) c.lengths d.lengths)
+
+-- what a map of texts stands for
+abbrev pub text_map : List (String Global × String Global) → TextMap
+text_map entries = seen string_bytes entries
+
+-- what a map of lengths stands for
+abbrev pub length_map : List (String Global × ℕ) → LengthMap
+length_map entries = seen (λ n. n) entries
+
+-- what a map of documents stands for
+abbrev pub document_texts : List (String Global × BTreeMap (String Global) (String Global)) → map.FinMap text_cmp TextMap
+document_texts entries = seen (λ m. text_map m.entries) entries
+
+-- what a map of the lengths of documents stands for
+abbrev pub document_lengths : List (String Global × BTreeMap (String Global) ℕ) → map.FinMap text_cmp LengthMap
+document_lengths entries = seen (λ m. length_map m.entries) entries
+
+-- the contents of a store with these fields
+abbrev pub contents_of : Bool → List (String Global × BTreeMap (String Global) (String Global)) → List (String Global × BTreeMap (String Global) ℕ) → Contents
+contents_of save docs doc_info = record { save = save; texts = document_texts docs; lengths = document_lengths doc_info }

@@ -1,31 +1,29 @@
--- What the maps of the program stand for.
-use Rattle.std.specs.Prelude.{ℕ, List, map, Bool, String, string_bytes}
+-- Maps of the program, as finite maps from texts, as JSON objects, and their equality test.
+use Rattle.std.specs.Prelude.{ℕ, List, [], ◌∷◌, map, Bool, ◌&&◌, String, string_bytes}
 use Rattle.std.specs.declared.alloc.Global.{Global}
-use Rattle.std.specs.BTreeMap.{BTreeMap}
+use Rattle.std.specs.Str.{bytes_eq}
+use Rattle.std.specs.Cmp.Lexicographic.{pointwise}
 use Rattle.std.specs.FinMap as finite
-use Rattle.elasticlunr_text.specs.Text.{text_cmp}
-use Rattle.elasticlunr_store.specs.Contents.{TextMap, LengthMap, Contents}
+use Rattle.serde_json.specs.Data.{Data, number, object, unsigned, Members, no_members, member}
+use Rattle.elasticlunr_text.specs.Text.{Bytes, text_cmp}
 
--- entries under texts, each seen by f
+-- what the entries of a map stand for, each value seen by f
 abbrev pub seen : {X Y : Type 0} → (X → Y) → List (String Global × X) → finite.FinMap text_cmp Y
 seen f entries = finite.from_entries (map (λ e. (string_bytes e.0, f e.1)) entries)
 
--- what a map of texts stands for
-abbrev pub text_map : List (String Global × String Global) → TextMap
-text_map entries = seen string_bytes entries
+-- each key with the value of what stands at it
+abbrev pub members : {X : Type 0} → (X → Data) → List (Bytes × X) → Members
+members value [] = no_members
+members value (e ∷ es) = member e.0 (value e.1) (members value es)
 
--- what a map of lengths stands for
-abbrev pub length_map : List (String Global × ℕ) → LengthMap
-length_map entries = seen (λ n. n) entries
+-- the object that has the keys of a map, each with the value of what the map has there
+abbrev pub keyed : {X : Type 0} → (X → Data) → finite.FinMap text_cmp X → Data
+keyed value m = object (members value (finite.entries m))
 
--- what a map of documents stands for
-abbrev pub documents_of : List (String Global × BTreeMap (String Global) (String Global)) → finite.FinMap text_cmp TextMap
-documents_of entries = seen (λ m. text_map m.entries) entries
+-- a whole number as a value
+abbrev pub count : ℕ → Data
+count n = number (unsigned n)
 
--- what a map of the lengths of documents stands for
-abbrev pub lengths_of : List (String Global × BTreeMap (String Global) ℕ) → finite.FinMap text_cmp LengthMap
-lengths_of entries = seen (λ m. length_map m.entries) entries
-
--- the contents of a store with these fields
-abbrev pub contents_of : Bool → List (String Global × BTreeMap (String Global) (String Global)) → List (String Global × BTreeMap (String Global) ℕ) → Contents
-contents_of save docs doc_info = record { save = save; texts = documents_of docs; lengths = lengths_of doc_info }
+-- two maps have the same keys, and at each key what the test takes for the same
+abbrev pub same_map : {X : Type 0} → (X → X → Bool) → finite.FinMap text_cmp X → finite.FinMap text_cmp X → Bool
+same_map same m n = pointwise (λ p q. bytes_eq p.0 q.0 && same p.1 q.1) (finite.entries m) (finite.entries n)

@@ -1,18 +1,30 @@
 -- What an inverted index stands for: a table of texts and postings.
-use Rattle.std.specs.Prelude.{◌≡◌, ◌↔◌, ◌⊎◌, ℕ, ◌^◌, ◌<◌, Bool, true, List, [], ◌++◌, Option, Some, None, IsTrue, unwrap_or}
-use Rattle.std.specs.Ordering.{nat_cmp}
-use Rattle.std.specs.Cmp.Lexicographic.{slice_cmp}
+use Rattle.std.specs.Prelude.{◌≡◌, ◌↔◌, ◌⊎◌, ℕ, ◌^◌, ◌<◌, Bool, true, List, [], ◌++◌, Option, Some, None, IsTrue, unwrap_or, nat_eq, String}
+use Rattle.std.specs.declared.alloc.Global.{Global}
 use Rattle.std.specs.Str.{all_scalars, IsUtf8}
-use Rattle.elasticlunr_text.specs.Text.{Text, Bytes}
-use Rattle.std.specs.FinMap.{FinMap, get, contains_key, empty}
+use Rattle.std.specs.FinMap.{FinMap, get, contains_key, empty, insert}
+use Rattle.elasticlunr_text.specs.Text.{Text, Bytes, text_cmp}
+use Rattle.elasticlunr_store.specs.Maps.{seen, same_map}
 
 -- the frequency of each reference that has a posting
 abbrev pub Postings : Type 0
-Postings = FinMap {K = Bytes} (slice_cmp nat_cmp) ℕ
+Postings = FinMap {K = Bytes} text_cmp ℕ
+
+-- the entries of a map from references to frequencies
+abbrev pub Entries : Type 0
+Entries = List (String Global × ℕ)
+
+-- what they stand for
+abbrev pub postings_of : Entries → Postings
+postings_of entries = seen (λ n. n) entries
 
 -- the known texts, each with its postings
 abbrev pub Table : Type 0
-Table = FinMap {K = Text} (slice_cmp nat_cmp) Postings
+Table = FinMap {K = Text} text_cmp Postings
+
+-- the table that knows the empty text alone, and has no posting
+abbrev pub new_table : Table
+new_table = insert empty [] empty
 
 -- t is a known text
 abbrev pub knows : Table → Text → Bool
@@ -25,6 +37,10 @@ postings T t = unwrap_or (get T t) empty
 -- the frequency that the reference r has at t
 abbrev pub posting : Table → Text → Bytes → Option ℕ
 posting T t r = get (postings T t) r
+
+-- two tables know the same texts, each with the same postings
+abbrev pub same_tables : Table → Table → Bool
+same_tables T U = same_map (same_map nat_eq) T U
 
 -- s is a beginning of t
 abbrev pub IsPrefix : Text → Text → Type 0

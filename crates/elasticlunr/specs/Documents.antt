@@ -1,5 +1,5 @@
 -- The document that a reference and values make.
-use Rattle.std.specs.Prelude.{◌≡◌, ℕ, List, map, slice_get, Some, IsSomeAnd, IfSome}
+use Rattle.std.specs.Prelude.{◌≡◌, ℕ, List, map, slice_get, None, Some, IsSomeAnd, IfSome}
 use Rattle.elasticlunr_text.specs.Text.{Text, Bytes}
 use Rattle.elasticlunr.specs.History.{Given, Document}
 

@@ -1,5 +1,5 @@
--- How one document changes what an index holds.
-use Rattle.std.specs.Prelude.{◌≡◌, ◌≢◌, ℕ, List, [], length, Option, None, Some, IsSomeAnd, slice_get, count_by, Contains, IsTrue, ◌↔◌, ◌⊎◌, if◌then◌else◌}
+-- How one document, a removal or a compaction changes what an index holds.
+use Rattle.std.specs.Prelude.{◌≡◌, ◌≢◌, ℕ, List, [], length, map, Option, None, Some, IsSome, IsSomeAnd, IfSome, slice_get, count_by, Contains, IsTrue, ◌↔◌, ◌⊎◌, if◌then◌else◌}
 use Rattle.std.specs.Option.{option_map_or}
 use Rattle.std.specs.Str.{bytes_eq}
 use Rattle.std.specs.FinMap as map
@@ -9,12 +9,41 @@ use Rattle.elasticlunr_store.specs.Contents.{Contents, IsContents, length_at}
 use Rattle.elasticlunr.specs.History.{Document}
 use Rattle.elasticlunr.specs.Standing.{Plan, tokens_at, IsPosting, stored, length_in}
 
--- the reference has the postings of these tokens and no others; the tokens' prefixes are known
+-- the document has this reference, these values and these tokens
+pub record IsMadeOf (document : Document) (reference : Bytes) (values : List Bytes) (tokens : List (Option (List Text))) : Type 0 where
+  pub its_reference : document.reference ≡ reference
+  pub its_values : map (λ given. given.value) document.given ≡ values
+  pub its_tokens : map (λ given. given.tokens) document.given ≡ tokens
+
+-- the table loses the postings of the reference
+pub record TakesOut (old new : Table) (reference : Bytes) : Type 0 where
+  pub known : (text : Text) → knows new text ≡ knows old text
+  pub its_own : (token : Text) → posting new token reference ≡ None
+  pub others : (token : Text) (other : Bytes) → other ≢ reference → posting new token other ≡ posting old token other
+
+-- the postings stay; known are the empty text and what begins a token that has a posting
+pub record IsCompacted (old new : Table) : Type 0 where
+  pub known : (text : Text) → IsTrue (knows new text) ↔ ((text ≡ []) ⊎ ((token : Text) × (r : Bytes) × IsPrefix text token × IsSome (posting old token r)))
+  pub postings : (token : Text) (r : Bytes) → posting new token r ≡ posting old token r
+
+-- the text begins one of these tokens that is not empty
+pub record BeginsOne (tokens : List Text) (text : Text) : Type 0 where
+  pub token : Text
+  pub not_empty : token ≢ []
+  pub among : Contains tokens token
+  pub begins : IsPrefix text token
+
+-- the reference has the postings of these tokens and no others; what begins one of them is known
 pub record ReplacesPostings (old new : Table) (reference : Bytes) (tokens : Option (List Text)) : Type 0 where
-  pub known : (text : Text) → IsTrue (knows new text) ↔ (IsTrue (knows old text) ⊎ ((token : Text) × IsSomeAnd tokens (λ ts. Contains ts token) × IsPrefix text token))
+  pub known : (text : Text) → IsTrue (knows new text) ↔ (IsTrue (knows old text) ⊎ IsSomeAnd tokens (λ these. BeginsOne these text))
   pub its_own : (token : Text) → token ≢ [] → IsPosting (option_map_or (count_by (bytes_eq token)) tokens 0) (posting new token reference)
   pub others : (token : Text) (other : Bytes) → other ≢ reference → posting new token other ≡ posting old token other
   pub no_empty : (r : Bytes) → posting old [] r ≡ None → posting new [] r ≡ None
+
+-- a reference that has no texts has no postings and no lengths
+pub record HasOnlyStored (tables : List Table) (contents : Contents) (reference : Bytes) : Type 0 where
+  pub postings : map.get contents.texts reference ≡ None → (i : ℕ) → IfSome (slice_get tables i) (λ table. (token : Text) → posting table token reference ≡ None)
+  pub lengths : map.get contents.texts reference ≡ None → (field : Bytes) → length_at contents reference field ≡ None
 
 -- the document is in the place of what its reference had
 pub record Enters (plan : Plan) (document : Document) (old_tables new_tables : List Table) (old new : Contents) : Type 0 where

@@ -2,7 +2,7 @@
 use Rattle.std.specs.Prelude.{List, [], ◌∷◌, Bool, true, not, ◌&&◌}
 use Rattle.std.specs.List.{list_any}
 use Rattle.std.specs.Str.{bytes_eq}
-use Rattle.elasticlunr_text.specs.Bytes.{Bytes}
+use Rattle.elasticlunr_text.specs.Text.{Bytes}
 
 -- whether the name is one of these
 abbrev pub has_name : Bytes → List Bytes → Bool

@@ -20,7 +20,7 @@ use Rattle.elasticlunr_store.specs.Table.{Table, knows, posting, IsPrefix, AddsT
 use Rattle.elasticlunr.specs.Root.{IsRoot}
 use Rattle.elasticlunr.specs.Standing.{IsPosting}
 use Rattle.elasticlunr.specs.Entered.{BeginsOne, ReplacesPostings}
-use Rattle.elasticlunr.specs.Counted.{StandsIn, counted_texts, BeginsCounted, IsPosted, IsLeft, Posts}
+use Rattle.elasticlunr.specs.Counted.{StandsIn, counted_texts, AreCounts, BeginsCounted, IsPosted, IsLeft, Posts}
 use Rattle.elasticlunr.proofs.Adding.{same, apart, either}
 use Rattle.elasticlunr.proofs.Pairing.{FoundIn, before, last, found}
 use Rattle.elasticlunr.proofs.Removing.{count_step, counted_stands, stands_counted}
@@ -60,9 +60,6 @@ stands_from_contains xs x (i, inside, is) = (i, at xs i inside is) where
 
 -- one more counted token
 module _ (old mid new : Table) (reference : Bytes) (counts : List (Text × ℕ)) (t : Text) (n m : ℕ) (so_far : Posts old mid reference counts) (is_root : IsRoot n m) where
-  more : List (Text × ℕ)
-  more = counts ++ (t, n) ∷ []
-
   begins_more : (text : Text) → BeginsCounted counts text → BeginsCounted (counts ++ (t, n) ∷ []) text
   begins_more text b = record { token = b.token; count = b.count; not_empty = b.not_empty; among = stands_before counts _ _ b.among; begins = b.begins }
 
@@ -123,6 +120,12 @@ module _ (old mid new : Table) (reference : Bytes) (counts : List (Text × ℕ))
       begins = b.begins;
     }
 
+  pub posts_more : (t ≢ [] → AddsToken mid new t reference m) → (t ≡ [] → new ≡ mid) → Posts old new reference (counts ++ (t, n) ∷ [])
+  posts_more adds stays = by_test (bytes_eq t []) refl where
+    by_test : (b : Bool) → bytes_eq t [] ≡ b → Posts old new reference (counts ++ (t, n) ∷ [])
+    by_test true e = posts_empty (same t [] e) (stays (same t [] e))
+    by_test false e = posts_token (apart t [] e) (adds (apart t [] e))
+
 pub posts_none : (old : Table) (reference : Bytes) → Posts old old reference []
 posts_none old reference = record {
   known = λ text. (inl, either (λ k. k) (λ b. nothing (Text × ℕ) _ b.among));
@@ -163,11 +166,6 @@ pub mapped_there : {A B : Type 0} (f : A → B) (xs : List A) (i : ℕ) (x : A) 
 mapped_there f [] i x e = cc (e)
 mapped_there f (w ∷ xs) zero x e = cc (e)
 mapped_there f (w ∷ xs) (suc i) x e = mapped_there f xs i x e
-
--- a map that has how often each text stands among the tokens
-pub record AreCounts (tokens : List (String Global)) (counts : BTreeMap (String Global) ℕ) : Type 0 where
-  pub counted : (text : Bytes) → unwrap_or (get_by_text counts text) 0 ≡ count_by (λ token. bytes_eq text (string_bytes token)) tokens
-  pub positive : (text : Bytes) → get_by_text counts text ≢ Some 0
 
 module _ (tokens : List (String Global)) (counts : BTreeMap (String Global) ℕ) (are : AreCounts tokens counts) (ordered : IsOrdered string_cmp counts) where
   entry_counts : (token : Text) (n : ℕ) → StandsIn (counted_texts counts.entries) (token, n) → (n ≡ count_by (bytes_eq token) (texts_of tokens)) × (n ≢ 0)

@@ -1,5 +1,7 @@
 -- Tokens with how often they stand, and the postings that these make.
-use Rattle.std.specs.Prelude.{◌≡◌, ◌≢◌, ℕ, List, [], map, Some, IsSomeAnd, IsTrue, slice_get, ◌↔◌, ◌⊎◌, String}
+use Rattle.std.specs.Prelude.{◌≡◌, ◌≢◌, ℕ, List, [], map, Some, IsSomeAnd, IsTrue, slice_get, unwrap_or, count_by, ◌↔◌, ◌⊎◌, String, string_bytes}
+use Rattle.std.specs.BTreeMap.{BTreeMap, get_by_text}
+use Rattle.std.specs.Str.{bytes_eq}
 use Rattle.std.specs.declared.alloc.Global.{Global}
 use Rattle.elasticlunr_text.specs.Text.{Text, Bytes, text_of}
 use Rattle.elasticlunr_store.specs.Table.{Table, knows, posting, IsPrefix}
@@ -12,6 +14,11 @@ StandsIn xs x = (i : ℕ) × (slice_get xs i ≡ Some x)
 -- strings with their counts, as texts with their counts
 abbrev pub counted_texts : List (String Global × ℕ) → List (Text × ℕ)
 counted_texts entries = map (λ e. (text_of e.0, e.1)) entries
+
+-- the map has how often each text stands among the tokens
+pub record AreCounts (tokens : List (String Global)) (counts : BTreeMap (String Global) ℕ) : Type 0 where
+  pub counted : (text : Bytes) → unwrap_or (get_by_text counts text) 0 ≡ count_by (λ token. bytes_eq text (string_bytes token)) tokens
+  pub positive : (text : Bytes) → get_by_text counts text ≢ Some 0
 
 -- the text begins a counted token that is not empty
 pub record BeginsCounted (counts : List (Text × ℕ)) (text : Text) : Type 0 where

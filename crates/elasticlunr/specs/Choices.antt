@@ -60,16 +60,16 @@ module _ {L P T : Type 0} where
   abbrev pub language_plan : (name_of : L → Bytes) (stages_of : L → List Bytes) → Choices L (Option P) T → Plan
   language_plan name_of stages_of given = record { fields = given.fields; reference_field = given.reference_field; save = given.save; language = name_of given.language; stages = stages_of given.language }
 
-  module _ (tokens_of : L → Text → List Text) (answers : T → Bytes → List Text → Type 0) where
-    -- these tokens are made of the value at a place of the list of tokenizers: by the tokenizer there, or else by the language
-    abbrev pub IsMadeAt : L → (place : Option (Option T)) → Bytes → List Text → Type 0
-    IsMadeAt language None value made = ⊥
-    IsMadeAt language (Some None) value made = made ≡ tokens_of language (chars value)
-    IsMadeAt language (Some (Some tokenizer)) value made = answers tokenizer value made
+module _ {L T : Type 0} (tokens_of : L → Text → List Text) (answers : T → Bytes → List Text → Type 0) where
+  -- these tokens are made of the value at a place of the list of tokenizers: by the tokenizer there, or else by the language
+  abbrev pub IsMadeAt : L → (place : Option (Option T)) → Bytes → List Text → Type 0
+  IsMadeAt language None value made = ⊥
+  IsMadeAt language (Some None) value made = made ≡ tokens_of language (chars value)
+  IsMadeAt language (Some (Some tokenizer)) value made = answers tokenizer value made
 
-    -- the pipeline may leave these tokens of those that are made of the value for the field of this number
-    pub record Reads (runs : P → List Text → List Text → Type 0) (c : Choices L P T) (i : ℕ) (value : Bytes) (tokens : List Text) : Type 0 where
-      pub made : List Text
-      pub are_texts : AllByRecursion (λ token. IsTrue (all_scalars token)) made
-      pub tokenized : IsMadeAt c.language (slice_get c.tokenizers i) value made
-      pub left : runs c.pipeline made tokens
+  -- the pipeline may leave these tokens of those that are made of the value for the field of this number
+  pub record Reads {P : Type 0} (runs : P → List Text → List Text → Type 0) (c : Choices L P T) (i : ℕ) (value : Bytes) (tokens : List Text) : Type 0 where
+    pub made : List Text
+    pub are_texts : AllByRecursion (λ token. IsTrue (all_scalars token)) made
+    pub tokenized : IsMadeAt c.language (slice_get c.tokenizers i) value made
+    pub left : runs c.pipeline made tokens

@@ -1,5 +1,5 @@
 -- How one document, a removal or a compaction changes what an index holds.
-use Rattle.std.specs.Prelude.{◌≡◌, ◌≢◌, ℕ, List, [], length, map, Option, None, Some, IsSome, IsSomeAnd, IfSome, slice_get, count_by, Contains, IsTrue, ◌↔◌, ◌⊎◌, if◌then◌else◌}
+use Rattle.std.specs.Prelude.{◌≡◌, ◌≢◌, ℕ, false, List, [], length, map, Option, None, Some, IsSome, IsSomeAnd, IfSome, slice_get, count_by, Contains, IsTrue, ◌↔◌, ◌⊎◌, if◌then◌else◌}
 use Rattle.std.specs.Option.{option_map_or}
 use Rattle.std.specs.Str.{bytes_eq}
 use Rattle.std.specs.FinMap as map
@@ -44,6 +44,14 @@ pub record ReplacesPostings (old new : Table) (reference : Bytes) (tokens : Opti
 pub record HasOnlyStored (tables : List Table) (contents : Contents) (reference : Bytes) : Type 0 where
   pub postings : map.get contents.texts reference ≡ None → (i : ℕ) → IfSome (slice_get tables i) (λ table. (token : Text) → posting table token reference ≡ None)
   pub lengths : map.get contents.texts reference ≡ None → (field : Bytes) → length_at contents reference field ≡ None
+
+-- the reference has no postings and no lengths, and what others have stays
+pub record MakesRoom (reference : Bytes) (old_tables new_tables : List Table) (old new : Contents) : Type 0 where
+  pub tables : (i : ℕ) (before after : Table) → slice_get old_tables i ≡ Some before → slice_get new_tables i ≡ Some after → TakesOut before after reference
+  pub kept : IsContents old → IsContents new
+  pub save : new.save ≡ old.save
+  pub texts : (r : Bytes) → bytes_eq r reference ≡ false → map.get new.texts r ≡ map.get old.texts r
+  pub lengths : (r field : Bytes) → length_at new r field ≡ (if bytes_eq r reference then None else length_at old r field)
 
 -- the document is in the place of what its reference had
 pub record Enters (plan : Plan) (document : Document) (old_tables new_tables : List Table) (old new : Contents) : Type 0 where

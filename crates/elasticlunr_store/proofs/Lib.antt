@@ -12,6 +12,7 @@ pub mod Settled
 pub mod Docs
 pub mod Finishing
 pub mod Unique
+pub mod Bounds
 pub mod OneValue
 pub mod Rising
 pub mod Printed
@@ -29,3 +30,6 @@ pub mod Sorted
 pub mod Values
 pub mod ReadingMaps
 pub mod SameMaps
+pub mod Marks
+pub mod Compact
+pub mod Changes

@@ -1,5 +1,5 @@
 -- What a map of references has at a reference.
-use Rattle.std.proofs.Common.{◌≡◌, ◌≢◌, ℕ, Bool, true, false, cond, [], ◌∷◌, Option, Some, None, refl, sym, ap, subst, ◌∙◌, string_bytes, string_cmp, String, Global, Less, Equal, Greater}
+use Rattle.std.proofs.Common.{◌≡◌, ◌≢◌, inl, inr, ◌<◌, ◌^◌, ℕ, Bool, true, false, cond, [], ◌∷◌, Option, Some, None, refl, sym, ap, subst, ◌∙◌, string_bytes, string_cmp, String, Global, Less, Equal, Greater}
 use Rattle.std.specs.Ordering.{nat_cmp, eq_by_cmp, is_eq, match_ordering}
 use Rattle.std.specs.Cmp.Lexicographic.{slice_cmp}
 use Rattle.std.specs.FinMap.{get, get-from_entries}
@@ -10,7 +10,8 @@ use Rattle.std.specs.Map.{lookup}
 use Rattle.std.proofs.lemmas.Cmp.{nat_list_cmp_total}
 use Rattle.elasticlunr_text.specs.Text.{Text, Bytes}
 use Rattle.elasticlunr_store.specs.Table.{Entries, postings_of}
-use Rattle.elasticlunr_store.specs.Nodes.{at}
+use Rattle.elasticlunr_store.specs.Nodes.{at, AreSmall}
+use Rattle.elasticlunr_store.proofs.Forest.{same_or_not}
 use Rattle.elasticlunr_store.proofs.Tables.{text_tie, text_tied}
 
 pub get_postings_of : (es : Entries) (r : Bytes) → get (postings_of es) r ≡ at r es
@@ -62,3 +63,16 @@ apart_bytes r q other w old = by (bytes_eq r q) refl
     by : (b : Bool) → bytes_eq r q ≡ b → cond (bytes_eq r q) w old ≡ old
     by true e = absurd (other (sym ((bytes_eq-Decides r q).0 e)))
     by false e = ap (λ x. cond x w old) e
+
+pub no_entries_small : AreSmall []
+no_entries_small r n e = absurd (cc)
+
+-- one more frequency of 64 bits
+pub small_inserted : (es : Entries) (key : String Global) (m : ℕ) → AreSmall es → m < 2 ^ 64 → AreSmall (insert_entry string_cmp es key m)
+small_inserted es key m small fits q n e = elim (same_or_not q (string_bytes key)) [
+  | inl same ↦
+      let is : Some n ≡ Some m = sym e ∙ ap (λ x. at x (insert_entry string_cmp es key m)) same ∙ at_inserted es key m in
+      let value : m ≡ n = cc in
+      subst (λ x. x < 2 ^ 64) value fits
+  | inr apart ↦ small q n (sym (at_other es key m q apart) ∙ e)
+]

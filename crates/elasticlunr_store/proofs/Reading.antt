@@ -1,11 +1,12 @@
 -- What a value tells, when it is read.
-use Rattle.std.proofs.Common.{◌≡◌, ◌≢◌, ◌⊎◌, inl, inr, ℕ, zero, suc, get_or, ◌+◌, ◌<◌, List, [], ◌∷◌, ◌++◌, length, Option, Some, None, IsSome, is_some, option_map, option_and_then, codes, encode_utf8, refl, sym, ap, subst, ◌∙◌, arith, append-nil, append_assoc, Less, Equal, Greater, String, Global, string_bytes, string_cmp, length-append}
+use Rattle.std.proofs.Common.{true, ◌≡◌, ◌≢◌, ◌⊎◌, inl, inr, ℕ, zero, suc, get_or, ◌+◌, ◌<◌, List, [], ◌∷◌, ◌++◌, length, Option, Some, None, IsSome, is_some, option_map, option_and_then, codes, encode_utf8, refl, sym, ap, subst, ◌∙◌, arith, append-nil, append_assoc, Less, Equal, Greater, String, Global, string_bytes, string_cmp, length-append}
 use mathlib.Core.Bool.{false≢true}
 use Rattle.std.proofs.lemmas.Bool.{cases_eq}
 use Rattle.std.proofs.lemmas.Cmp.{nat_list_cmp_total, tied_itself}
 use Rattle.std.proofs.lemmas.Str.{encode_same}
 use Rattle.std.specs.Ordering.{nat_cmp, match_ordering, ordering_reverse, is_eq}
 use Rattle.std.specs.Cmp.Lexicographic.{slice_cmp}
+use Rattle.std.specs.Str.{all_scalars}
 use Rattle.std.specs.List.{AllByRecursion, insert, slice_get}
 use Rattle.std.specs.List.Sorted.{IsStrictlySortedBy}
 use Rattle.std.specs.Map.{keys_of}
@@ -175,7 +176,7 @@ module _ (es : Children) (old new : List Value) (ms : Members) (reads : ReadsChi
     ];
   }
 
-  module _ (c at : ℕ) (v : Value) (none : child es c ≡ None) (gap : IsGapFor es c at) (es2 : Children) (gains : es2 ≡ insert es at (c, length new)) where
+  module _ (c at : ℕ) (v : Value) (none : child es c ≡ None) (gap : IsGapFor es c at) (es2 : Children) (gains : es2 ≡ insert es at (c, length new)) (scalar : all_scalars (c ∷ []) ≡ true) where
     here : child es2 c ≡ Some (length new)
     here = ap (λ l. child l c) gains ∙ (sets_only_insert es c at gap (length new)).this_key
 
@@ -190,6 +191,10 @@ module _ (es : Children) (old new : List Value) (ms : Members) (reads : ReadsChi
       more = reads.values.more ++ v ∷ [];
       grown = ap (λ t. t ++ v ∷ []) reads.values.grown ∙ append_assoc old reads.values.more (v ∷ []);
       sorted = subst (λ l. IsStrictlySorted l) (sym gains) (sorted_insert es c at gap (length new) reads.values.sorted);
+      characters = λ x k e. elim (cases_eq x c) [
+        | inl same ↦ subst (λ y. all_scalars (y ∷ []) ≡ true) (sym same) scalar
+        | inr apart ↦ reads.values.characters x k (sym (others x apart) ∙ e)
+      ];
       fresh = λ x k e. elim (cases_eq x c) [
         | inl same ↦
             let is : Some k ≡ Some (length new) = sym e ∙ ap (child es2) same ∙ here in
@@ -258,6 +263,7 @@ nothing_read vs = record {
     more = [];
     grown = sym (append-nil vs);
     sorted = λ i j lt in_range. absurd (omega arith);
+    characters = λ c k e. absurd (cc);
     fresh = λ c k e. absurd (cc);
     apart = λ c d k e f. absurd (cc);
     each = λ k low high. absurd (omega arith);

@@ -1,16 +1,16 @@
 -- One posting is taken away.
-use Rattle.std.proofs.Common.{◌≡◌, ◌≢◌, inl, inr, ℕ, ◌<◌, List, length, set, get_or, Option, Some, None, is_some, refl, sym, ap, subst, ◌∙◌, length-set}
+use Rattle.std.proofs.Common.{◌≡◌, ◌≢◌, ◌⊎◌, ◌^◌, inl, inr, ℕ, ◌<◌, List, length, set, get_or, Option, Some, None, is_some, refl, sym, ap, subst, ◌∙◌, length-set}
 use Rattle.std.proofs.lemmas.Bool.{cases_eq}
 use Rattle.std.specs.List.{slice_get}
 use Rattle.elasticlunr_text.specs.Text.{Text, Bytes}
-use Rattle.elasticlunr_store.specs.Table.{knows, posting}
+use Rattle.elasticlunr_store.specs.Table.{knows, posting, RemovesToken}
 use Rattle.elasticlunr_store.specs.Children.{Children}
-use Rattle.elasticlunr_store.specs.Nodes.{at, children_of, entries_of, children_at, entries_at, step_of, walk, table_of, IsTrie, ClearsPosting, RemovesPosting}
+use Rattle.elasticlunr_store.specs.Nodes.{at, children_of, entries_of, children_at, entries_at, step_of, walk, table_of, IsTrie, AreSmall, ClearsPosting, RemovesPosting}
 use Rattle.elasticlunr_store.specs.declared.inverted_index.Node.{Node}
 use Rattle.elasticlunr_store.specs.declared.inverted_index.Place.{Place}
 use Rattle.elasticlunr_store.specs.declared.inverted_index.Place.TheVariants.{Root, At}
 use Rattle.elasticlunr_store.proofs.Places.{get_set, get_set_other, get_there}
-use Rattle.elasticlunr_store.proofs.Forest.{one_path}
+use Rattle.elasticlunr_store.proofs.Forest.{one_path, same_or_not}
 use Rattle.elasticlunr_store.proofs.Tables.{knows_walk}
 use Rattle.elasticlunr_store.proofs.Adding.{posting_walk, posting_none}
 use Rattle.elasticlunr_store.proofs.Settled.{same_steps, settled_trie}
@@ -52,8 +52,26 @@ module _ (root : Children) (nodes : List Node) (trie : IsTrie root nodes) (nodes
   children Root = refl
   children (At k) = removes.children k
 
+  removed_small : (q : Place) → AreSmall (entries_at root nodes2 q)
+  removed_small Root = trie.small Root
+  removed_small (At k) = by
+    where
+      leads : (o : Option Place) → walk (step_of root nodes) Root t ≡ o → ((o ≡ Some (At k)) ⊎ (o ≡ Some (At k) → ⊥))
+      leads None is = inr (λ h. cc)
+      leads (Some Root) is = inr (λ h. cc)
+      leads (Some (At j)) is = elim (cases_eq j k) [ inl same ↦ inl (ap (λ x. Some (At x)) same) | inr apart ↦ inr (λ h. apart (cc)) ]
+
+      by : AreSmall (entries_of (slice_get nodes2 k))
+      by q n e = elim (same_or_not q r) [
+        | inr apart ↦ trie.small (At k) q n (sym (removes.others k q (λ both. apart both.1)) ∙ e)
+        | inl same ↦ elim (leads (walk (step_of root nodes) Root t) refl) [
+          | inl there ↦ let none = sym (removes.gone k there) ∙ ap (λ x. at x (entries_of (slice_get nodes2 k))) (sym same) ∙ e in absurd (cc)
+          | inr away ↦ trie.small (At k) q n (sym (removes.others k q (λ both. away both.0)) ∙ e)
+        ]
+      ]
+
   pub removed_trie : IsTrie root nodes2
-  removed_trie = settled_trie root nodes trie root nodes2 removes.count children
+  removed_trie = settled_trie root nodes trie root nodes2 removes.count children removed_small
 
   steps : (s : Text) → walk (step_of root nodes2) Root s ≡ walk (step_of root nodes) Root s
   steps s = λ i. walk (sym (same_steps root nodes trie root nodes2 removes.count children) i) Root s
@@ -79,3 +97,6 @@ module _ (root : Children) (nodes : List Node) (trie : IsTrie root nodes) (nodes
       by : (o : Option Place) → walk (step_of root nodes) Root s ≡ o → posting (table_of root nodes2) s q ≡ posting (table_of root nodes) s q
       by None e = posting_none root nodes2 removed_trie s q (steps s ∙ e) ∙ sym (posting_none root nodes trie s q e)
       by (Some p) e = posting_walk root nodes2 removed_trie s p q (steps s ∙ e) ∙ same p e ∙ sym (posting_walk root nodes trie s p q e)
+
+  pub removed : RemovesToken (table_of root nodes) (table_of root nodes2) t r
+  removed = record { known = removed_known; gone = removed_gone; others = removed_others }

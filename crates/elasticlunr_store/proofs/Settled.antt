@@ -1,5 +1,6 @@
 -- Nodes whose children stay.
-use Rattle.std.proofs.Common.{◌≡◌, ◌≢◌, ℕ, ◌<◌, List, [], ◌∷◌, ◌++◌, length, Option, Some, None, option_map, refl, sym, ap, subst, ◌∙◌, append-nil, Result, Ok, Err, OnErr, is_some}
+use Rattle.std.proofs.Common.{◌≡◌, ◌≢◌, inl, inr, ◌^◌, string_bytes, ℕ, ◌<◌, List, [], ◌∷◌, ◌++◌, length, Option, Some, None, option_map, refl, sym, ap, subst, ◌∙◌, append-nil, Result, Ok, Err, OnErr, is_some}
+use Rattle.std.proofs.lemmas.Bool.{cases_eq}
 use Rattle.std.proofs.lemmas.Cmp.{nat_list_cmp_total}
 use Rattle.std.specs.List.{slice_get}
 use Rattle.std.specs.Ordering.{nat_cmp}
@@ -10,13 +11,13 @@ use Rattle.std.proofs.Common.{string_cmp}
 use Rattle.elasticlunr_text.specs.Text.{Text, Bytes}
 use Rattle.elasticlunr_store.specs.Table.{Table, new_table, Postings, knows, posting, AddsToken, postings_of}
 use Rattle.elasticlunr_store.specs.Children.{Children, child, IsStrictlySorted}
-use Rattle.elasticlunr_store.specs.Nodes.{at, entries_of, children_at, entries_at, step_of, walk, look, table_of, IsTrie, IsForest, SameTrie, SameNodes, SetsPosting, LosesReference}
+use Rattle.elasticlunr_store.specs.Nodes.{at, entries_of, children_at, entries_at, step_of, walk, look, table_of, IsTrie, AreCharacters, AreSmall, IsForest, SameTrie, SameNodes, SetsPosting, LosesReference}
 use Rattle.elasticlunr_store.proofs.Places.{get_past}
-use Rattle.elasticlunr_store.proofs.Forest.{Grown, grown}
+use Rattle.elasticlunr_store.proofs.Forest.{same_or_not, Grown, grown}
 use Rattle.elasticlunr_store.proofs.Tables.{empty_trie, get_table, knows_walk}
 use Rattle.elasticlunr_store.proofs.Adding.{Entered, token_added, posting_walk, posting_none}
 use Rattle.elasticlunr_store.proofs.Growth.{blank_steps}
-use Rattle.elasticlunr_store.proofs.Postings.{at_inserted, at_other}
+use Rattle.elasticlunr_store.proofs.Postings.{small_inserted, at_inserted, at_other}
 use Rattle.elasticlunr_store.specs.declared.inverted_index.Node.{Node}
 use Rattle.elasticlunr_store.specs.declared.inverted_index.Place.{Place}
 use Rattle.elasticlunr_store.specs.declared.inverted_index.Place.TheVariants.{Root, At}
@@ -40,23 +41,38 @@ module _ (root : Children) (nodes : List Node) (trie : IsTrie root nodes) (root2
   pub same_steps : step_of root nodes ≡ step_of root2 nodes2
   same_steps = λ i. λ q d. child (sym (children q) i) d
 
-  pub settled_trie : IsTrie root2 nodes2
-  settled_trie = record {
+  pub settled_trie : ((q : Place) → AreSmall (entries_at root2 nodes2 q)) → IsTrie root2 nodes2
+  settled_trie small = record {
     in_order = λ q. subst IsStrictlySorted (sym (children q)) (trie.in_order q);
     forest = subst (λ s. IsForest s (length nodes2)) same_steps (subst (IsForest (step_of root nodes)) (sym count) trie.forest);
+    characters = λ q. subst AreCharacters (sym (children q)) (trie.characters q);
+    small = small;
   }
 
+  pub same_small : ((q : Place) → entries_at root2 nodes2 q ≡ entries_at root nodes q) → (q : Place) → AreSmall (entries_at root2 nodes2 q)
+  same_small entries q = subst AreSmall (sym (entries q)) (trie.small q)
+
   pub settled_table : ((q : Place) → entries_at root2 nodes2 q ≡ entries_at root nodes q) → table_of root2 nodes2 ≡ table_of root nodes
-  settled_table entries = same_table _ _ (λ t. get_table root2 nodes2 settled_trie t ∙ (λ i. option_map (λ p. postings_of (entries p i)) (walk (sym same_steps i) Root t)) ∙ sym (get_table root nodes trie t))
+  settled_table entries = same_table _ _ (λ t. get_table root2 nodes2 (settled_trie (same_small entries)) t ∙ (λ i. option_map (λ p. postings_of (entries p i)) (walk (sym same_steps i) Root t)) ∙ sym (get_table root nodes trie t))
 
 -- a posting is set
-module _ (root : Children) (nodes : List Node) (trie : IsTrie root nodes) (nodes2 : List Node) (k : ℕ) (r : Bytes) (m : ℕ) (sets : SetsPosting nodes nodes2 k r m) where
+module _ (root : Children) (nodes : List Node) (trie : IsTrie root nodes) (nodes2 : List Node) (k : ℕ) (r : Bytes) (m : ℕ) (sets : SetsPosting nodes nodes2 k r m) (fits : m < 2 ^ 64) where
   children : (q : Place) → children_at root nodes2 q ≡ children_at root nodes q
   children Root = refl
   children (At j) = sets.children j
 
+  set_small : AreSmall (entries_of (slice_get nodes2 k))
+  set_small = subst AreSmall (sym sets.here.1) (small_inserted (entries_of (slice_get nodes k)) sets.here.0 m (trie.small (At k)) fits)
+
+  posting_small : (q : Place) → AreSmall (entries_at root nodes2 q)
+  posting_small Root = trie.small Root
+  posting_small (At j) = elim (cases_eq j k) [
+    | inl same ↦ subst (λ x. AreSmall (entries_of (slice_get nodes2 x))) (sym same) set_small
+    | inr apart ↦ subst AreSmall (sym (sets.others j apart)) (trie.small (At j))
+  ]
+
   pub posting_trie : IsTrie root nodes2
-  posting_trie = settled_trie root nodes trie root nodes2 sets.count children
+  posting_trie = settled_trie root nodes trie root nodes2 sets.count children posting_small
 
   steps : step_of root nodes ≡ step_of root nodes2
   steps = same_steps root nodes trie root nodes2 sets.count children
@@ -91,7 +107,7 @@ same_nodes root nodes nodes2 same = record { count = same.count; children = chil
     entries (At k) = same.entries k
 
 pub same_trie : (root : Children) (nodes : List Node) (root2 : Children) (nodes2 : List Node) → IsTrie root nodes → SameTrie root nodes root2 nodes2 → IsTrie root2 nodes2
-same_trie root nodes root2 nodes2 trie same = settled_trie root nodes trie root2 nodes2 same.count same.children
+same_trie root nodes root2 nodes2 trie same = settled_trie root nodes trie root2 nodes2 same.count same.children (same_small root nodes trie root2 nodes2 same.count same.children same.entries)
 
 pub same_trie_table : (root : Children) (nodes : List Node) (root2 : Children) (nodes2 : List Node) → IsTrie root nodes → SameTrie root nodes root2 nodes2 → table_of root2 nodes2 ≡ table_of root nodes
 same_trie_table root nodes root2 nodes2 trie same = settled_table root nodes trie root2 nodes2 same.count same.children same.entries
@@ -106,8 +122,15 @@ module _ (root : Children) (nodes : List Node) (trie : IsTrie root nodes) (nodes
   lost_children Root = refl
   lost_children (At k) = loses.children k
 
+  lost_small : (q : Place) → AreSmall (entries_at root nodes2 q)
+  lost_small Root = trie.small Root
+  lost_small (At k) = λ q n e. elim (same_or_not q r) [
+    | inl same ↦ let none = sym (loses.gone k) ∙ ap (λ x. at x (entries_of (slice_get nodes2 k))) (sym same) ∙ e in absurd (cc)
+    | inr apart ↦ trie.small (At k) q n (sym (loses.others k q apart) ∙ e)
+  ]
+
   pub lost_trie : IsTrie root nodes2
-  lost_trie = settled_trie root nodes trie root nodes2 loses.count lost_children
+  lost_trie = settled_trie root nodes trie root nodes2 loses.count lost_children lost_small
 
   lost_steps : (t : Text) → walk (step_of root nodes2) Root t ≡ walk (step_of root nodes) Root t
   lost_steps t = λ i. walk (sym (same_steps root nodes trie root nodes2 loses.count lost_children) i) Root t

@@ -11,7 +11,7 @@ use Rattle.std.proofs.lemmas.Slice.Eq.{bytes_eq-Decides}
 use Rattle.elasticlunr_text.specs.Text.{Text, Bytes}
 use Rattle.elasticlunr_store.specs.Table.{Postings, knows, postings, posting, postings_of}
 use Rattle.elasticlunr_store.specs.Children.{Children, child, IsStrictlySorted}
-use Rattle.elasticlunr_store.specs.Nodes.{pairs, given, branches, children_at, entries_at, step_of, walk, look, paths, table_of, IsTrie}
+use Rattle.elasticlunr_store.specs.Nodes.{pairs, given, branches, children_at, entries_at, step_of, walk, look, paths, table_of, IsTrie, AreSmall}
 use Rattle.elasticlunr_store.proofs.Forest.{walk_cons, rises, within}
 use Rattle.elasticlunr_store.specs.declared.inverted_index.Node.{Node}
 use Rattle.elasticlunr_store.specs.declared.inverted_index.Place.{Place}
@@ -144,8 +144,14 @@ empty_trie = record {
     one_parent = λ p q c d k e f. absurd (none p c k e);
     one_character = λ p q c d k e f. absurd (none p c k e);
   };
+  characters = λ p c k e. absurd (none p c k e);
+  small = small;
 }
   where
+    small : (p : Place) → AreSmall (entries_at [] [] p)
+    small Root = λ r n e. absurd (cc)
+    small (At k) = λ r n e. absurd (cc)
+
     none : (p : Place) (c k : ℕ) → step_of [] [] p c ≡ Some k → ⊥
     none Root c k e = cc
     none (At j) c k e = cc
@@ -153,14 +159,3 @@ empty_trie = record {
     by : (p : Place) → IsStrictlySorted (children_at [] [] p)
     by Root i j lt in_range = absurd (omega arith)
     by (At k) i j lt in_range = absurd (omega arith)
-
-pub blank_known : (t : Text) → IsTrue (knows (table_of [] []) t) ↔ (t ≡ [])
-blank_known t = (known t, λ e. ap (knows (table_of [] [])) e ∙ knows_walk [] [] empty_trie [])
-  where
-    known : (t : Text) → IsTrue (knows (table_of [] []) t) → t ≡ []
-    known [] h = refl
-    known (c ∷ t) h = absurd (false≢true (sym (knows_walk [] [] empty_trie (c ∷ t)) ∙ h))
-
-pub blank_postings : (t : Text) (r : Bytes) → posting (table_of [] []) t r ≡ None
-blank_postings [] r = ap (λ m. get m r) (postings_walk [] [] empty_trie [] Root refl) ∙ get-empty (slice_cmp nat_cmp) r
-blank_postings (c ∷ t) r = ap (λ m. get m r) (no_postings [] [] empty_trie (c ∷ t) refl) ∙ get-empty (slice_cmp nat_cmp) r

@@ -12,7 +12,7 @@ use Rattle.elasticlunr_text.specs.Text.{Text}
 use Rattle.elasticlunr_store.specs.Table.{Table, IsTable, postings, posting, Entries, postings_of}
 use Rattle.elasticlunr_store.specs.Tree.{IsTree, frequencies}
 use Rattle.elasticlunr_store.specs.Children.{Children, child, IsStrictlySorted}
-use Rattle.elasticlunr_store.specs.Nodes.{rank, walk, IsForest, at, children_of, entries_of, children_at, entries_at, step_of, table_of, IsTrie}
+use Rattle.elasticlunr_store.specs.Nodes.{rank, walk, IsForest, at, children_of, entries_of, children_at, entries_at, step_of, table_of, IsTrie, AreCharacters, AreSmall}
 use Rattle.elasticlunr_store.specs.Finished.{value_at, IsNode}
 use Rattle.elasticlunr_store.specs.Reading.{ReadsNode}
 use Rattle.elasticlunr_store.specs.declared.inverted_index.Node.{Node}
@@ -40,6 +40,8 @@ pub record IsRead (root : Children) (nodes : List Node) (d : Data) (vs : List Va
   pub low : length nodes ≤ length vs
   pub in_order : (p : Place) → IsStrictlySorted (children_at root nodes p)
   pub forest : IsForest (step_of root nodes) (length vs)
+  pub characters : (p : Place) → AreCharacters (children_at root nodes p)
+  pub small : (p : Place) → AreSmall (entries_at root nodes p)
   pub read : (p : Place) → rank p ≤ length nodes → HasNode root nodes d vs p
   pub possible : (T : Table) → IsTable T → IsTree T [] d → (k : ℕ) (v : Value) → slice_get vs k ≡ Some v → (p : Text) × IsTree T p (view v)
 
@@ -89,6 +91,8 @@ root_read kids es new d reads bare = record {
     one_parent = parent;
     one_character = character;
   };
+  characters = letters;
+  small = few;
   read = at_root;
   possible = λ T table tree k v there. child_possible kids es [] new d reads T [] tree k v (omega arith) there;
 }
@@ -96,6 +100,14 @@ root_read kids es new d reads bare = record {
     order : (p : Place) → IsStrictlySorted (children_at kids [] p)
     order Root = reads.values.sorted
     order (At k) = λ i j lt in_range. absurd (omega arith)
+
+    letters : (p : Place) → AreCharacters (children_at kids [] p)
+    letters Root = reads.values.characters
+    letters (At k) = λ c j e. absurd (cc)
+
+    few : (p : Place) → AreSmall (entries_at kids [] p)
+    few Root = λ r n e. absurd (cc)
+    few (At k) = λ r n e. absurd (cc)
 
     higher : (p : Place) (c k : ℕ) → step_of kids [] p c ≡ Some k → rank p ≤ k
     higher Root c k e = omega arith
@@ -242,6 +254,14 @@ module _ (root : Children) (nodes : List Node) (d : Data) (vs new : List Value) 
       | inr apart ↦ subst IsStrictlySorted (sym (other_children q apart)) (before.in_order q)
     ];
     forest = more_forest;
+    characters = λ q. elim (same_place q (At (length nodes))) [
+      | inl is ↦ subst AreCharacters (sym (new_children q is)) reads.values.characters
+      | inr apart ↦ subst AreCharacters (sym (other_children q apart)) (before.characters q)
+    ];
+    small = λ q. elim (same_place q (At (length nodes))) [
+      | inl is ↦ subst AreSmall (sym (new_entries q is)) reads.small
+      | inr apart ↦ subst AreSmall (sym (other_entries q apart)) (before.small q)
+    ];
     read = λ q low. elim (same_place q (At (length nodes))) [
       | inl is ↦ new_node q is
       | inr apart ↦ old_node q apart (rank_other q apart (omega (arith, longer)))
@@ -257,7 +277,7 @@ module _ (root : Children) (nodes : List Node) (d : Data) (vs new : List Value) 
 -- all nodes are read
 module _ (root : Children) (nodes : List Node) (d : Data) (vs : List Value) (all : IsRead root nodes d vs) (count : length vs ≡ length nodes) where
   pub read_trie : IsTrie root nodes
-  read_trie = record { in_order = all.in_order; forest = subst (IsForest (step_of root nodes)) count all.forest }
+  read_trie = record { in_order = all.in_order; forest = subst (IsForest (step_of root nodes)) count all.forest; characters = all.characters; small = all.small }
 
   tree_from : (fuel : ℕ) (t : Text) (p : Place) → walk (step_of root nodes) Root t ≡ Some p → rank p ≤ length nodes → length nodes ≤ rank p + fuel → (x : Data) → data_at d vs p ≡ Some x → IsTree (table_of root nodes) t x
   tree_from zero t p leads low far x is =
@@ -278,7 +298,7 @@ module _ (root : Children) (nodes : List Node) (d : Data) (vs : List Value) (all
   read_tree = tree_from (length nodes) [] Root refl (omega arith) (omega arith) d refl
 
 -- the root of a table has no postings
-first_found : (e : String Global × ℕ) (es : Entries) → at (string_bytes e.0) (e ∷ es) ≡ Some e.1
+pub first_found : (e : String Global × ℕ) (es : Entries) → at (string_bytes e.0) (e ∷ es) ≡ Some e.1
 first_found e es = rw (tied_itself nat_list_cmp_total (string_bytes e.0))
 
 pub root_refused : (kids : Children) (es : Entries) (old new : List Value) (d : Data) → ReadsNode kids es old new d → (length es ≡ 0 → ⊥) → (T : Table) → IsTable T → IsTree T [] d → ⊥

@@ -1,8 +1,9 @@
 -- The table that numbered nodes stand for; for private clauses.
-use Rattle.std.specs.Prelude.{◌≡◌, ◌≢◌, string_cmp, ℕ, zero, suc, ◌<◌, ◌≤◌, List, [], ◌∷◌, ◌++◌, map, length, slice_get, slice_index, ◌+◌, Option, Some, None, option_map, option_and_then, string_bytes, String}
+use Rattle.std.specs.Prelude.{◌≡◌, ◌≢◌, string_cmp, ◌^◌, true, ℕ, zero, suc, ◌<◌, ◌≤◌, List, [], ◌∷◌, ◌++◌, map, length, slice_get, slice_index, ◌+◌, Option, Some, None, option_map, option_and_then, string_bytes, String}
 use Rattle.std.specs.declared.alloc.Global.{Global}
 use Rattle.std.specs.Ordering.{nat_cmp}
 use Rattle.std.specs.Cmp.Lexicographic.{slice_cmp}
+use Rattle.std.specs.Str.{all_scalars}
 use Rattle.std.specs.FinMap.{find, from_entries}
 use Rattle.elasticlunr_text.specs.Text.{Text, Bytes}
 use Rattle.elasticlunr_store.specs.Table.{Postings, Table}
@@ -25,6 +26,14 @@ children_of (Some n) = n.children.items
 abbrev pub entries_of : Option Node → Entries
 entries_of None = []
 entries_of (Some n) = n.postings.entries
+
+-- the children stand under characters
+abbrev pub AreCharacters : Children → Type 0
+AreCharacters es = (c k : ℕ) → child es c ≡ Some k → all_scalars (c ∷ []) ≡ true
+
+-- the frequencies have 64 bits
+abbrev pub AreSmall : Entries → Type 0
+AreSmall es = (r : Bytes) (n : ℕ) → at r es ≡ Some n → n < 2 ^ 64
 
 -- the pairs of a text of ts and what f gives for it
 abbrev pub given : {X : Type 0} → Option X → Text → List (Text × X) → List (Text × X)
@@ -92,6 +101,8 @@ module _ (root : Children) (nodes : List Node) where
   pub record IsTrie : Type 0 where
     pub in_order : (p : Place) → IsStrictlySorted (children_at p)
     pub forest : IsForest step_of (length nodes)
+    pub characters : (p : Place) → AreCharacters (children_at p)
+    pub small : (p : Place) → AreSmall (entries_at p)
 
 -- as many nodes, with the same children and entries
 pub record SameNodes (old new : List Node) : Type 0 where

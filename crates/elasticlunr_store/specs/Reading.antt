@@ -8,6 +8,7 @@ use Rattle.serde_json.specs.Find.{get_member}
 use Rattle.serde_json.specs.declared.value.Value.{Value}
 use Rattle.elasticlunr_store.specs.Children.{Children, child, IsStrictlySorted}
 use Rattle.elasticlunr_store.specs.Table.{Entries, postings_of}
+use Rattle.elasticlunr_store.specs.Nodes.{AreCharacters, AreSmall}
 use Rattle.elasticlunr_store.specs.Tree.{frequencies}
 use Rattle.elasticlunr_store.specs.Finished.{value_at, IsNode}
 
@@ -20,6 +21,7 @@ pub record HasNewValues (children : Children) (old new : List Value) : Type 0 wh
   pub more : List Value
   pub grown : new ≡ old ++ more
   pub sorted : IsStrictlySorted children
+  pub characters : AreCharacters children
   pub fresh : (c k : ℕ) → child children c ≡ Some k → (length old ≤ k) × (k < length new)
   pub apart : (c d k : ℕ) → child children c ≡ Some k → child children d ≡ Some k → c ≡ d
   pub each : (k : ℕ) → length old ≤ k → k < length new → (c : ℕ) × (child children c ≡ Some k)
@@ -37,6 +39,7 @@ HasForeignKey ms = (q : List ℕ) × IsSome (get_member q ms) × (q ≢ codes "d
 -- d is the value of a node with these children and entries
 pub record ReadsNode (children : Children) (es : Entries) (old new : List Value) (d : Data) : Type 0 where
   pub values : HasNewValues children old new
+  pub small : AreSmall es
   pub members : Members
   pub is : d ≡ object members
   pub node : IsNode children new (object (frequencies (entries (postings_of es)))) (len (postings_of es)) members

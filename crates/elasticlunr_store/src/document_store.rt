@@ -14,6 +14,8 @@ ghost use Rattle.serde_json.specs.View.{view, members_view};
 ghost use Rattle.serde_json.specs.Written.{has_float};
 ghost use Rattle.elasticlunr_store.specs.Contents.{text_map, length_map, document_texts, document_lengths};
 
+mod print;
+
 use elasticlunr_text::IndexError;
 use serde_json::{Map, Value};
 use std::alloc::{AllocError, Global};

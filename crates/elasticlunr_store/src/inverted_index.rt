@@ -2,7 +2,7 @@ ghost use Rattle.std.specs.FinMap.{get as get_postings};
 ghost use Rattle.std.specs.Prelude.{option_map, codes, ◌⊎◌, Some, true, encode_utf8, ◌∷◌, IfSome, ◌≡◌, ℕ, ◌<◌, ◌+◌, ◌^◌, ◌↔◌, [], List, length, None, IsTrue, IfOk, IfErr, IsOk, OnOk, OnErr, IsOkUnless, false, string_bytes, string_cmp, unwrap_or, slice_set, ◌≢◌, ◌++◌, slice_get};
 ghost use Rattle.std.specs.Str.{chars, IsUtf8};
 ghost use Rattle.elasticlunr_text.specs.Text.{Text, Bytes};
-ghost use Rattle.elasticlunr_store.specs.Table.{Table, new_table, knows, posting, postings, IsTable, AddsToken};
+ghost use Rattle.elasticlunr_store.specs.Table.{Table, new_table, knows, posting, postings, IsTable, AddsToken, RemovesToken};
 ghost use Rattle.std.specs.BTreeMap.{IsOrdered};
 ghost use Rattle.std.specs.Option.{option_map_or};
 ghost use Rattle.std.specs.FinMap.{entries, len};
@@ -20,8 +20,9 @@ ghost use Rattle.elasticlunr_store.specs.Reading.{seen, ReadsChildren, ReadsNode
 ghost use Rattle.std.specs.Str.{all_scalars};
 ghost use Rattle.elasticlunr_store.specs.Children.{child, IsStrictlySorted, IsAt, IsGapFor};
 ghost use Rattle.elasticlunr_store.specs.Table.{postings_of};
-ghost use Rattle.elasticlunr_store.specs.Nodes.{children_at, children_of, entries_of, step_of, walk, IsTrie, SameNodes, IsBranch, HasBranch, GainsChild, IsLocated, SetsPosting, SameTrie, Grows, IsPlace, table_of, LosesReference, ClearsPosting, RemovesPosting, look};
+ghost use Rattle.elasticlunr_store.specs.Nodes.{children_at, children_of, entries_of, step_of, walk, IsTrie, AreSmall, SameNodes, IsBranch, HasBranch, GainsChild, IsLocated, SetsPosting, SameTrie, Grows, IsPlace, table_of, LosesReference, ClearsPosting, RemovesPosting, look};
 
+mod compact;
 mod print;
 
 use elasticlunr_text::IndexError;
@@ -66,7 +67,8 @@ impl Model for InvertedIndex {
 
 impl InvertedIndex {
     pub fn new(alloc: Global) -> Self
-        ensures { result ≡ new_table }
+        ensures new { result ≡ new_table }
+        ensures table { IsTable result }
     {
         InvertedIndex {
             root: Vec::new(alloc),
@@ -112,9 +114,7 @@ impl InvertedIndex {
 
     /// Takes a posting away if it is there. The known texts stay.
     pub fn remove_token(&mut self, doc_ref: &str, token: &str)
-        ensures known { (t : Text) → knows self.new t ≡ knows self.old t }
-        ensures gone { posting self.new (chars token.now) doc_ref.now ≡ None }
-        ensures others { (t : Text) (r : Bytes) → ¬ ((t ≡ chars token.now) × (r ≡ doc_ref.now)) → posting self.new t r ≡ posting self.old t r }
+        ensures { RemovesToken self.old self.new (chars token.now) doc_ref.now }
     {
         remove_posting(&self.root, &mut self.nodes, doc_ref, token);
     }
@@ -151,6 +151,7 @@ impl InvertedIndex {
     /// The JSON value of the trie.
     pub fn to_value(&self) -> Result<Value, IndexError>
         ensures tree { IfOk result (λ v. IsTrieValue self.now (view v)) }
+        ensures table { IsTable self.now }
         ensures only { IfOk result (λ v. (U : Table) → IsTable U → IsTrieValue U (view v) → U ≡ self.now) }
         ensures whole { IfOk result (λ v. has_float (view v) ≡ false) }
         ensures memory { IsOkUnless result Memory }
@@ -165,6 +166,7 @@ impl InvertedIndex {
     /// The trie of a JSON value.
     pub fn from_value(alloc: Global, value: &Value) -> Result<Self, IndexError>
         ensures ok { IfOk result (λ t. IsTrieValue t (view value.now)) }
+        ensures table { IfOk result (λ t. IsTable t) }
         ensures foreign { IfErr result (IsRefused ((T : Table) → IsTable T → ¬ (IsTrieValue T (view value.now)))) }
     {
         let Some(root) = only_member(value, "root") else {
@@ -627,6 +629,7 @@ fn only_member<'a>(value: &'a Value, key: &str) -> Option<&'a Value>
 // The number under `tf`, where nothing else stands.
 fn read_frequency(value: &Value) -> Option<u64>
     ensures found { IfSome result (λ n. view value.now ≡ frequency n) }
+    ensures small { IfSome result (λ n. n < 2 ^ 64) }
     ensures none { result ≡ None → (n : ℕ) → view value.now ≢ frequency n }
 {
     only_member(value, "tf")?.as_u64()
@@ -635,6 +638,7 @@ fn read_frequency(value: &Value) -> Option<u64>
 // The postings that the value under `docs` tells.
 fn read_docs(alloc: Global, value: &Value) -> Result<BTreeMap<String, u64>, IndexError>
     ensures ok { IfOk result (λ m. view value.now ≡ object (frequencies (entries (postings_of m.entries)))) }
+    ensures small { IfOk result (λ m. AreSmall m.entries) }
     ensures foreign { IfErr result (IsRefused ((es : List (Bytes × ℕ)) → view value.now ≢ object (frequencies es))) }
 {
     let Some(docs) = value.as_object() else {
@@ -652,7 +656,7 @@ fn read_docs(alloc: Global, value: &Value) -> Result<BTreeMap<String, u64>, Inde
 
 // The character of a text of one character.
 fn only_char(text: &str) -> Option<char>
-    ensures found { IfSome result (λ c. text.now ≡ encode_utf8 c) }
+    ensures found { IfSome result (λ c. (text.now ≡ encode_utf8 c) × (all_scalars (c ∷ []) ≡ true)) }
     ensures none { result ≡ None → (c : ℕ) → all_scalars (c ∷ []) ≡ true → text.now ≢ encode_utf8 c }
 {
     let mut letters = text.chars();

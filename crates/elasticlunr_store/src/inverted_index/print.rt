@@ -5,7 +5,7 @@ ghost use Rattle.json.specs.Tree.{json_tokens};
 ghost use Rattle.json.specs.Layout.{pretty};
 ghost use Rattle.serde_json.specs.Data.{Data, object, member, no_members};
 ghost use Rattle.serde_json.specs.Written.{outline, compact_text};
-ghost use Rattle.elasticlunr_store.specs.Table.{Table};
+ghost use Rattle.elasticlunr_store.specs.Table.{Table, IsTable};
 ghost use Rattle.elasticlunr_store.specs.Tree.{IsTrieValue};
 ghost use Rattle.elasticlunr_store.specs.Table.{postings_of};
 ghost use Rattle.elasticlunr_store.specs.Nodes.{IsTrie, table_of, children_of, entries_of, entries_at};
@@ -29,6 +29,7 @@ impl InvertedIndex {
     pub fn write<W: Tokens>(&self, out: &mut W) -> Result<(), AllocError>
         ensures written { OnOk result ((v : Data) × IsTrieValue self.now v × (W.Tokens.written out.new ≡ W.Tokens.written out.old ++ json_tokens (outline v))) }
         ensures before { W.Tokens.before out.new ≡ W.Tokens.before out.old }
+        ensures table { IsTable self.now }
     {
         let alloc = *self.nodes.allocator();
         write_trie(alloc, &self.root, &self.nodes, out)

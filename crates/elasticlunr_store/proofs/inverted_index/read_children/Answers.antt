@@ -59,7 +59,7 @@ gap-at-requires-clause-free c =
     let e : Entry = (c.in-Some.key.now, c.in-Some.value.now) in
     let step = ap (λ xs. held.done ++ xs) (sym c.in-Some.ensures.steps) in
     let sorted = subst (λ es. IsStrictlySortedBy string_cmp (keys_of es)) (sym step) held.sorted in
-    ap (λ es. child es c.in-Some-only_char.c) c.deref.ensures.value ∙ not_yet _ _ _ _ held.reads c.in-Some-only_char.c (ap (λ k. get_member k (members_view held.done)) (sym c.in-Some-only_char.ensures.found ∙ c.as_str-in-loop-key.ensures.value) ∙ not_among held.done e c.next.new.self sorted)
+    ap (λ es. child es c.in-Some-only_char.c) c.deref.ensures.value ∙ not_yet _ _ _ _ held.reads c.in-Some-only_char.c (ap (λ k. get_member k (members_view held.done)) (sym c.in-Some-only_char.ensures.found.0 ∙ c.as_str-in-loop-key.ensures.value) ∙ not_among held.done e c.next.new.self sorted)
 
 pub loop-key-preserved : goal.loop-key-preserved
 loop-key-preserved c =
@@ -72,12 +72,12 @@ loop-key-preserved c =
     let step = ap (λ xs. held.done ++ xs) (sym c.in-Some.ensures.steps) in
     let more = append_assoc held.done (e ∷ []) c.next.new.self ∙ step in
     let sorted = subst (λ es. IsStrictlySortedBy string_cmp (keys_of es)) (sym step) held.sorted in
-    let key : encode_utf8 letter ≡ string_bytes e.0 = sym c.in-Some-only_char.ensures.found ∙ c.as_str-in-loop-key.ensures.value in
+    let key : encode_utf8 letter ≡ string_bytes e.0 = sym c.in-Some-only_char.ensures.found.0 ∙ c.as_str-in-loop-key.ensures.value in
     let none = not_yet children old new (members_view held.done) held.reads letter (ap (λ k. get_member k (members_view held.done)) key ∙ not_among held.done e c.next.new.self sorted) in
     let gap = subst (λ es. IsGapFor es letter c.gap-at.result) c.deref.ensures.value c.gap-at.ensures in
     let count : c.len.result ≡ length new = c.len.ensures ∙ c.loop-key.waiting.ok.0 ∙ sym (length-seen c.loop-key.waiting.items) in
     let gains = c.in_ok-insert.ensures.items ∙ ap (λ n. insert children c.gap-at.result (letter, n)) count in
-    let took = takes_key children old new (members_view held.done) held.reads letter c.gap-at.result e.1 none gap c.insert.new.self.items gains in
+    let took = takes_key children old new (members_view held.done) held.reads letter c.gap-at.result e.1 none gap c.insert.new.self.items gains c.in-Some-only_char.ensures.found.1 in
     let waiting : new ++ e.1 ∷ [] ≡ seen c.push.new.self.items = sym (seen_push c.loop-key.waiting.items c.in-Some.value) ∙ ap seen (sym c.in_ok-push.ensures.items) in
     let members : put (encode_utf8 letter) (view e.1) (members_view held.done) ≡ members_view (held.done ++ e ∷ []) = ap (λ k. put k (view e.1) (members_view held.done)) key ∙ put_last held.done e c.next.new.self sorted in
     record {

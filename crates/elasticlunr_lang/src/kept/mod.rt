@@ -1,0 +1,4 @@
+//! The kept languages, one type each.
+mod english;
+
+pub use english::English;

@@ -1,0 +1,2 @@
+//! The lists of stop words, by the codes of their languages.
+pub mod en;

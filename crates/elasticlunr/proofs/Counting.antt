@@ -2,6 +2,7 @@
 use Rattle.std.proofs.Common.{◌≡◌, ◌≢◌, ◌⊎◌, inl, inr, ℕ, zero, suc, ◌+◌, ◌<◌, List, [], ◌∷◌, ◌++◌, length, map, get_or, arith, Bool, true, false, cond, Option, None, Some, IfSome, unwrap_or, true≢false, bytes_eq, String, Global, string_bytes, refl, sym, ap, subst, ◌∙◌}
 use Rattle.std.specs.Prelude.{IsSomeAnd, IsTrue, Contains, count_by, string_cmp}
 use Rattle.std.specs.List.{slice_get}
+use Rattle.std.proofs.Math.ListN.{set}
 use Rattle.std.specs.Str.{chars, encode_utf8_all}
 use Rattle.std.specs.Option.{option_map_or}
 use Rattle.std.specs.BTreeMap.{BTreeMap, IsOrdered, get_by_text, get, is_at}
@@ -22,16 +23,16 @@ use Rattle.elasticlunr.specs.Standing.{IsPosting}
 use Rattle.elasticlunr.specs.Entered.{BeginsOne, ReplacesPostings}
 use Rattle.elasticlunr.specs.Counted.{StandsIn, counted_texts, AreCounts, BeginsCounted, IsPosted, IsLeft, Posts}
 use Rattle.elasticlunr.proofs.Adding.{same, apart, either}
-use Rattle.elasticlunr.proofs.Pairing.{FoundIn, before, last, found}
+use Rattle.elasticlunr.proofs.Pairing.{FoundIn, early, late, found, set_here}
 use Rattle.elasticlunr.proofs.Removing.{count_step, counted_stands, stands_counted}
 
 -- standing in a list with one more element
 pub stands_before : {A : Type 0} (xs : List A) (x y : A) → StandsIn xs x → StandsIn (xs ++ y ∷ []) x
-stands_before xs x y (i, e) = (i, early xs i e) where
-  early : (xs : List _) (i : ℕ) → slice_get xs i ≡ Some x → slice_get (xs ++ y ∷ []) i ≡ Some x
-  early [] i e = cc (e)
-  early (w ∷ xs) zero e = e
-  early (w ∷ xs) (suc i) e = early xs i e
+stands_before xs x y (i, e) = (i, still xs i e) where
+  still : (xs : List _) (i : ℕ) → slice_get xs i ≡ Some x → slice_get (xs ++ y ∷ []) i ≡ Some x
+  still [] i e = cc (e)
+  still (w ∷ xs) zero e = e
+  still (w ∷ xs) (suc i) e = still xs i e
 
 pub stands_last : {A : Type 0} (xs : List A) (y : A) → StandsIn (xs ++ y ∷ []) y
 stands_last xs y = (length xs, at_end xs) where
@@ -42,8 +43,8 @@ stands_last xs y = (length xs, at_end xs) where
 pub stands_split : {A : Type 0} (xs : List A) (x y : A) → StandsIn (xs ++ y ∷ []) x → StandsIn xs x ⊎ (y ≡ x)
 stands_split xs x y (i, e) = of_found (found xs y x i e) where
   of_found : FoundIn xs y x i → StandsIn xs x ⊎ (y ≡ x)
-  of_found (before e) = inl (i, e)
-  of_found (last at is) = inr is
+  of_found (early e) = inl (i, e)
+  of_found (late at is) = inr is
 
 -- the two words for standing in a list
 pub contains_from_stands : {A : Type 0} (xs : List A) (x : A) → StandsIn xs x → Contains xs x
@@ -226,3 +227,11 @@ module _ (tokens : List (String Global)) (counts : BTreeMap (String Global) ℕ)
       of_count : (n : ℕ) → count_by (bytes_eq token) (texts_of tokens) ≡ n → IsPosting n (posting new token reference)
       of_count zero e = p.as_before ∙ none token
       of_count (suc n) e = let counted = token_counted token (counted_stands token (texts_of tokens) n e) in absurd (p.absent counted.0 counted.1)
+
+  -- the same of one table among others
+  pub replaced_at : (tables : List Table) (i : ℕ) (old new : Table) (reference : Bytes) → i < length tables → slice_get tables i ≡ Some old → Posts old new reference (counted_texts counts.entries)
+      → (before after : Table) → slice_get tables i ≡ Some before → slice_get (set tables i new) i ≡ Some after → ((token : Text) → posting before token reference ≡ None) → ReplacesPostings before after reference (Some (texts_of tokens))
+  replaced_at tables i old new reference inside is posted before after eb ea none =
+      let was : old ≡ before = cc (is, eb) in
+      let becomes : new ≡ after = cc (set_here tables i new inside, ea) in
+      replaces_from_posts before after reference none (subst (λ t. Posts t after reference (counted_texts counts.entries)) was (subst (λ t. Posts old t reference (counted_texts counts.entries)) becomes posted))

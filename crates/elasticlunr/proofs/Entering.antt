@@ -1,5 +1,5 @@
 -- A document in the place of what its reference had, from the parts of the work.
-use Rattle.std.proofs.Common.{◌≡◌, ◌≢◌, ◌⊎◌, inl, inr, ℕ, zero, suc, ◌≤◌, ◌<◌, List, [], ◌∷◌, ◌++◌, length, map, arith, Bool, true, false, not, ◌&&◌, ◌||◌, cond, Option, None, Some, IfSome, option_map, option_and_then, true≢false, bytes_eq, refl, sym, ap, subst, ◌∙◌}
+use Rattle.std.proofs.Common.{◌≡◌, ◌≢◌, ◌⊎◌, inl, inr, ℕ, zero, suc, ◌+◌, ◌≤◌, ◌<◌, List, [], ◌∷◌, ◌++◌, length, map, arith, Bool, true, false, not, ◌&&◌, ◌||◌, cond, Option, None, Some, IfSome, option_map, option_and_then, true≢false, bytes_eq, refl, sym, ap, subst, ◌∙◌}
 use Rattle.std.specs.Prelude.{IsSomeAnd, IsSome, IsTrue}
 use Rattle.std.specs.List.{slice_get, zip, list_any}
 use Rattle.std.specs.FinMap as finite
@@ -7,18 +7,21 @@ use Rattle.std.specs.Cmp.Lexicographic.{nat_list_cmp_total}
 use Rattle.std.proofs.lemmas.Slice.Eq.{bytes_eq-Decides}
 use Rattle.std.proofs.lemmas.Map.Text.{is_eq-slice_cmp}
 use Rattle.std.proofs.lemmas.Option.{slice_get_past}
+use Rattle.std.specs.Option.{is_some}
 use Rattle.elasticlunr_text.specs.Text.{Text, Bytes, text_cmp}
 use Rattle.elasticlunr_store.specs.Table.{Table, posting}
-use Rattle.elasticlunr_store.specs.Contents.{Contents, TextMap, IsContents, length_at, with_document, with_length}
+use Rattle.elasticlunr_store.specs.Contents.{Contents, TextMap, IsContents, length_at, with_document, with_length, without}
 use Rattle.elasticlunr.specs.Fields.{has_name, all_differ}
-use Rattle.elasticlunr.specs.History.{Given, Document}
-use Rattle.elasticlunr.specs.Standing.{Plan, tokens_at, stored, length_in}
-use Rattle.elasticlunr.specs.Entered.{IsMadeOf, TakesOut, ReplacesPostings, MakesRoom, Enters}
+use Rattle.elasticlunr.specs.History.{Given, Document, add, Commands, ◌▸◌}
+use Rattle.elasticlunr.specs.Standing.{Plan, tokens_at, stored, length_in, Holds}
+use Rattle.elasticlunr.specs.Entered.{IsMadeOf, TakesOut, ReplacesPostings, HasOnlyStored, MakesRoom, AddsTokens, Enters}
 use Rattle.elasticlunr.specs.Texts.{reference_alone, with_texts, with_tokens, with_all_tokens}
-use Rattle.elasticlunr.proofs.Adding.{same, apart, either, both_some}
+use Rattle.elasticlunr.proofs.Adding.{same, apart, either, both_some, holds_entered}
 use Rattle.elasticlunr.proofs.Counting.{mapped_back, mapped_there}
+use Rattle.elasticlunr.proofs.Pairing.{FoundIn, early, late, found, within_list}
+use Rattle.std.proofs.lemmas.List.{length_push}
 use Rattle.elasticlunr.proofs.Naming.{turned, both_false, both_true}
-use Rattle.elasticlunr.proofs.Storing.{found_after_insert, length_after, with_length_are_contents, with_document_are_contents}
+use Rattle.elasticlunr.proofs.Storing.{found_after_insert, found_after_remove, length_after, length_without, without_are_contents, with_length_are_contents, with_document_are_contents}
 
 -- the first of two that is there
 abbrev or_else : {X : Type 0} → Option X → Option X → Option X
@@ -162,7 +165,7 @@ replaces_after old mid new reference tokens out in_place = record {
   by_test r absent true e = ap (posting mid []) (same r reference e) ∙ out.its_own []
   by_test r absent false e = out.others [] r (apart r reference e) ∙ absent
 
-replaces_nothing : (table : Table) (reference : Bytes) → ((token : Text) → posting table token reference ≡ None) → ReplacesPostings table table reference None
+pub replaces_nothing : (table : Table) (reference : Bytes) → ((token : Text) → posting table token reference ≡ None) → ReplacesPostings table table reference None
 replaces_nothing table reference none = record {
   known = λ text. (inl, either (λ k. k) (λ b. absurd b));
   its_own = λ token there. none token;
@@ -176,7 +179,7 @@ none_past [] i e = omega arith
 none_past (x ∷ xs) zero e = cc (e)
 none_past (x ∷ xs) (suc i) e = let later = none_past xs i e in omega (arith, later)
 
-length-mapped : {A B : Type 0} (f : A → B) (xs : List A) → length (map f xs) ≡ length xs
+pub length-mapped : {A B : Type 0} (f : A → B) (xs : List A) → length (map f xs) ≡ length xs
 length-mapped f [] = refl
 length-mapped f (x ∷ xs) = ap suc (length-mapped f xs)
 
@@ -188,12 +191,47 @@ is_some_from : {A : Type 0} (o : Option A) (x : A) → o ≡ Some x → IsSome o
 is_some_from None x e = cc (e)
 is_some_from (Some y) x e = refl
 
--- the parts of the work: what the reference had goes, the tokens of each field come, and then the texts
-pub record IsEntered (document : Document) (reference : Bytes) (tokens : List (Option (List Text))) (mid_tables new_tables : List Table) : Type 0 where
-  pub as_many : length new_tables ≡ length mid_tables
-  pub with_tokens : (i : ℕ) (before after : Table) (texts : Option (List Text)) → slice_get mid_tables i ≡ Some before → slice_get new_tables i ≡ Some after → slice_get tokens i ≡ Some texts
-      → ((token : Text) → posting before token reference ≡ None) → ReplacesPostings before after reference texts
-  pub without_tokens : (i : ℕ) → length tokens ≤ i → slice_get new_tables i ≡ slice_get mid_tables i
+-- one more field
+pub adds_none : (reference : Bytes) (tables : List Table) → AddsTokens reference [] tables tables
+adds_none reference tables = record { as_many = refl; with_tokens = λ i before after these eb ea e. cc (e); without_tokens = λ i past. refl }
+
+pub adds_more : (reference : Bytes) (tokens : List (Option (List Text))) (n : ℕ) (these : Option (List Text)) (old_tables mid_tables new_tables : List Table) → n ≡ length tokens
+    → AddsTokens reference tokens old_tables mid_tables
+    → length new_tables ≡ length mid_tables
+    → ((before after : Table) → slice_get mid_tables n ≡ Some before → slice_get new_tables n ≡ Some after → ((token : Text) → posting before token reference ≡ None) → ReplacesPostings before after reference these)
+    → ((j : ℕ) → j ≢ n → slice_get new_tables j ≡ slice_get mid_tables j)
+    → AddsTokens reference (tokens ++ these ∷ []) old_tables new_tables
+adds_more reference tokens n these old_tables mid_tables new_tables at so_far many here elsewhere = record {
+  as_many = many ∙ so_far.as_many;
+  with_tokens = λ i before after texts eb ea e none. by_place i before after texts eb ea none (found tokens these texts i e);
+  without_tokens = λ i past. let past_all : length tokens + 1 ≤ i = subst (λ k. k ≤ i) (length_push tokens these) past in
+      elsewhere i (λ is. absurd (omega (arith, past_all, is, at))) ∙ so_far.without_tokens i (omega (arith, past_all));
+} where
+  by_place : (i : ℕ) (before after : Table) (texts : Option (List Text)) → slice_get old_tables i ≡ Some before → slice_get new_tables i ≡ Some after → ((token : Text) → posting before token reference ≡ None)
+      → FoundIn tokens these texts i → ReplacesPostings before after reference texts
+  by_place i before after texts eb ea none (early e) =
+      let inside : i < length tokens = within_list tokens i texts e in
+      so_far.with_tokens i before after texts eb (sym (elsewhere i (λ is. absurd (omega (arith, inside, is, at)))) ∙ ea) e none
+  by_place i before after texts eb ea none (late place is) =
+      let there : i ≡ n = place ∙ sym at in
+      let unchanged : slice_get mid_tables i ≡ Some before = so_far.without_tokens i (omega (arith, place)) ∙ eb in
+      subst (ReplacesPostings before after reference) is (here before after (subst (λ k. slice_get mid_tables k ≡ Some before) there unchanged) (subst (λ k. slice_get new_tables k ≡ Some after) there ea) none)
+
+pub one_more_field : (c : Contents) (reference : Bytes) (fields : List Bytes) (tokens : List (Option (List Text))) (field : Bytes) (these : Option (List Text)) → slice_get fields (length tokens) ≡ Some field
+    → with_tokens (with_all_tokens c reference fields tokens) reference field these ≡ with_all_tokens c reference fields (tokens ++ these ∷ [])
+one_more_field c reference [] [] field these e = cc (e)
+one_more_field c reference [] (t ∷ tokens) field these e = cc (e)
+one_more_field c reference (f ∷ fields) [] field these e = let is : f ≡ field = cc (e) in ap (λ g. with_tokens c reference g these) (sym is) ∙ sym (alone fields (with_tokens c reference f these)) where
+  alone : (fields : List Bytes) (d : Contents) → with_all_tokens d reference fields [] ≡ d
+  alone fields d = refl
+one_more_field c reference (f ∷ fields) (t ∷ tokens) field these e = one_more_field (with_tokens c reference f t) reference fields tokens field these e
+
+pub one_more_text : (texts : TextMap) (fields values : List Bytes) (field value : Bytes) → slice_get fields (length values) ≡ Some field
+    → finite.insert (with_texts texts fields values) field value ≡ with_texts texts fields (values ++ value ∷ [])
+one_more_text texts [] [] field value e = cc (e)
+one_more_text texts [] (v ∷ values) field value e = cc (e)
+one_more_text texts (f ∷ fields) [] field value e = let is : f ≡ field = cc (e) in ap (λ g. finite.insert texts g value) (sym is)
+one_more_text texts (f ∷ fields) (v ∷ values) field value e = one_more_text (finite.insert texts f v) fields values field value e
 
 module _ (plan : Plan) (document : Document) (reference : Bytes) (values : List Bytes) (tokens : List (Option (List Text))) (made : IsMadeOf document reference values tokens) where
   tokens_there : (i : ℕ) (texts : Option (List Text)) → slice_get tokens i ≡ Some texts → tokens_at i document ≡ texts
@@ -208,7 +246,7 @@ module _ (plan : Plan) (document : Document) (reference : Bytes) (values : List 
       ap (option_and_then (λ g. g.tokens)) (slice_get_past document.given i (omega arith))
 
   tables_entered : (old_tables mid_tables new_tables : List Table) (old mid : Contents) → length mid_tables ≡ length old_tables
-      → MakesRoom reference old_tables mid_tables old mid → IsEntered document reference tokens mid_tables new_tables
+      → MakesRoom reference old_tables mid_tables old mid → AddsTokens reference tokens mid_tables new_tables
       → (i : ℕ) (before after : Table) → slice_get old_tables i ≡ Some before → slice_get new_tables i ≡ Some after → ReplacesPostings before after document.reference (tokens_at i document)
   tables_entered old_tables mid_tables new_tables old mid many room step i before after eb ea =
       let between = some_from (slice_get mid_tables i) (both_some mid_tables old_tables i many (is_some_from _ before eb)) in
@@ -224,8 +262,8 @@ module _ (plan : Plan) (document : Document) (reference : Bytes) (values : List 
 
   pub enters_in_place : (old_tables mid_tables new_tables : List Table) (old mid : Contents) (texts : TextMap)
       → IsTrue (all_differ plan.fields) → plan.save ≡ old.save → length mid_tables ≡ length old_tables
-      → MakesRoom reference old_tables mid_tables old mid → IsEntered document reference tokens mid_tables new_tables
-      → (old.save ≡ true → texts ≡ with_texts (reference_alone plan.reference_field reference) plan.fields values)
+      → MakesRoom reference old_tables mid_tables old mid → AddsTokens reference tokens mid_tables new_tables
+      → ((with_all_tokens mid reference plan.fields tokens).save ≡ true → texts ≡ with_texts (reference_alone plan.reference_field reference) plan.fields values)
       → Enters plan document old_tables new_tables old (with_document (with_all_tokens mid reference plan.fields tokens) reference texts)
   enters_in_place old_tables mid_tables new_tables old mid texts differ save many room step are = record {
     as_many = step.as_many ∙ many;
@@ -239,7 +277,7 @@ module _ (plan : Plan) (document : Document) (reference : Bytes) (values : List 
     lengthened = with_all_tokens mid reference plan.fields tokens
 
     stored_is : (b : Bool) → old.save ≡ b → cond b texts finite.empty ≡ stored plan document
-    stored_is true e = are e ∙ texts_are_stored plan.reference_field reference plan.fields values differ
+    stored_is true e = are (save_stays mid reference plan.fields tokens ∙ room.save ∙ e) ∙ texts_are_stored plan.reference_field reference plan.fields values differ
         ∙ ap (λ vs. finite.from_entries (zip plan.fields vs ++ (plan.reference_field, reference) ∷ [])) (sym made.its_values)
         ∙ ap (λ r. finite.from_entries (zip plan.fields (map (λ g. g.value) document.given) ++ (plan.reference_field, r) ∷ [])) (sym made.its_reference)
         ∙ ap (λ b. cond b (finite.from_entries (zip plan.fields (map (λ g. g.value) document.given) ++ (plan.reference_field, document.reference) ∷ [])) finite.empty) (sym (save ∙ e))
@@ -262,3 +300,53 @@ module _ (plan : Plan) (document : Document) (reference : Bytes) (values : List 
         ∙ ap (λ ts. length_named plan.fields ts field) (sym made.its_tokens)
         ∙ sym (length_is_named plan.fields document.given field)
     lengths_by_test r field false e = room.lengths r field ∙ ap (λ b. cond b None (length_at old r field)) e
+
+-- room was made by taking out, or was there
+pub room_taken : (reference : Bytes) (old_tables new_tables : List Table) (old : Contents)
+    → ((i : ℕ) (before after : Table) → slice_get old_tables i ≡ Some before → slice_get new_tables i ≡ Some after → TakesOut before after reference)
+    → MakesRoom reference old_tables new_tables old (without old reference)
+room_taken reference old_tables new_tables old each = record {
+  tables = each;
+  kept = without_are_contents old reference;
+  save = refl;
+  texts = λ r e. found_after_remove old.texts reference r ∙ ap (λ b. cond b None (finite.get old.texts r)) e;
+  lengths = length_without old reference;
+}
+
+pub room_there : (reference : Bytes) (tables : List Table) (contents : Contents) → HasOnlyStored tables contents reference → is_some (finite.get contents.texts reference) ≡ false
+    → MakesRoom reference tables tables contents contents
+room_there reference tables contents only absent = record {
+  tables = λ i before after eb ea. subst (λ t. TakesOut before t reference) (cc (eb, ea)) (same_table before (subst (λ o. IfSome o (λ table. (token : Text) → posting table token reference ≡ None)) eb (only.postings no_texts i)));
+  kept = λ was. was;
+  save = refl;
+  texts = λ r e. refl;
+  lengths = λ r field. by_test r field (bytes_eq r reference) refl;
+} where
+  none_from : (o : Option TextMap) → is_some o ≡ false → o ≡ None
+  none_from None e = refl
+  none_from (Some texts) e = absurd (true≢false e)
+
+  no_texts : finite.get contents.texts reference ≡ None
+  no_texts = none_from _ absent
+
+  same_table : (table : Table) → ((token : Text) → posting table token reference ≡ None) → TakesOut table table reference
+  same_table table none = record { known = λ text. refl; its_own = none; others = λ token other differs. refl }
+
+  by_test : (r field : Bytes) (b : Bool) → bytes_eq r reference ≡ b → length_at contents r field ≡ cond b None (length_at contents r field)
+  by_test r field true e = ap (λ q. length_at contents q field) (same r reference e) ∙ only.lengths no_texts field
+  by_test r field false e = refl
+
+-- the whole of the work
+pub holds_after : (plan : Plan) (document : Document) (commands : Commands) (fields : List Bytes) (field reference : Bytes) (values : List Bytes) (tokens : List (Option (List Text)))
+    (old_tables mid_tables new_tables : List Table) (old mid longer new : Contents) (texts : TextMap)
+    → plan.fields ≡ fields → IsTrue (all_differ plan.fields) → plan.reference_field ≡ field → IsMadeOf document reference values tokens → Holds plan commands old_tables old
+    → length mid_tables ≡ length old_tables → (HasOnlyStored old_tables old reference → MakesRoom reference old_tables mid_tables old mid) → AddsTokens reference tokens mid_tables new_tables
+    → longer ≡ with_all_tokens mid reference fields tokens → (longer.save ≡ true → texts ≡ with_texts (reference_alone field reference) fields values) → new ≡ with_document longer reference texts
+    → Holds plan (commands ▸ add document) new_tables new
+holds_after plan document commands fields field reference values tokens old_tables mid_tables new_tables old mid longer new texts its_fields differ its_field made held many room adds longer_is are new_is =
+    let longer_from : longer ≡ with_all_tokens mid reference plan.fields tokens = longer_is ∙ ap (λ fs. with_all_tokens mid reference fs tokens) (sym its_fields) in
+    subst (λ c. Holds plan (commands ▸ add document) new_tables c) (sym (new_is ∙ ap (λ c. with_document c reference texts) longer_from))
+        (holds_entered commands document plan old_tables new_tables old _ held (λ only.
+          enters_in_place plan document reference values tokens made old_tables mid_tables new_tables old mid texts differ (sym held.store.save) many
+          (room (subst (HasOnlyStored old_tables old) made.its_reference only)) adds
+          (λ saved. are (ap (λ c. c.save) longer_from ∙ saved) ∙ ap (λ f. with_texts (reference_alone f reference) fields values) (sym its_field) ∙ ap (λ fs. with_texts (reference_alone plan.reference_field reference) fs values) (sym its_fields))))

@@ -1,11 +1,15 @@
 -- What a change of a store leaves at each reference.
-use Rattle.std.proofs.Common.{◌≡◌, ◌≢◌, ℕ, Bool, true, false, cond, Option, None, Some, IfSome, unwrap_or, option_and_then, bytes_eq, refl, sym, ap, subst, ◌∙◌}
+use Rattle.std.proofs.Common.{◌≡◌, ◌≢◌, ℕ, Bool, true, false, cond, Option, None, Some, IfSome, unwrap_or, option_and_then, option_map, true≢false, List, [], ◌∷◌, String, Global, string_bytes, BTreeMap, is_eq, nat_cmp, bytes_eq, refl, sym, ap, subst, ◌∙◌}
+use Rattle.std.specs.Prelude.{map as map_list, string_cmp}
 use Rattle.std.specs.FinMap as map
+use Rattle.std.specs.Map.{lookup, update}
+use Rattle.std.specs.BTreeMap.{is_at, get_by_text, UpdatesBy}
+use Rattle.std.specs.Cmp.Lexicographic.{slice_cmp}
 use Rattle.std.specs.Cmp.Lexicographic.{nat_list_cmp_total}
 use Rattle.std.proofs.lemmas.Slice.Eq.{bytes_eq-Decides}
-use Rattle.std.proofs.lemmas.Map.Text.{is_eq-slice_cmp}
+use Rattle.std.proofs.lemmas.Map.Text.{is_eq-slice_cmp, btree_map_updates_text}
 use Rattle.elasticlunr_text.specs.Text.{Bytes, text_cmp}
-use Rattle.elasticlunr_store.specs.Contents.{Contents, TextMap, LengthMap, IsContents, new_contents, length_at, with_document, with_length, without}
+use Rattle.elasticlunr_store.specs.Contents.{Contents, TextMap, LengthMap, IsContents, new_contents, length_at, with_document, with_length, without, text_map}
 
 module _ {X : Type 0} where
   -- what is found after an entry was set, and after one was taken away
@@ -81,3 +85,35 @@ new_are_contents save = record {
 } where
   nothing : None ≡ Some (map.empty {X = ℕ} {R = text_cmp}) → ⊥
   nothing e = cc (e)
+
+-- the texts of a map of strings after an insert
+abbrev mapped : List (String Global × String Global) → List (Bytes × Bytes)
+mapped es = map_list (λ e. (string_bytes e.0, string_bytes e.1)) es
+
+texts_found : (es : List (String Global × String Global)) (q : Bytes) → map.find text_cmp q (mapped es) ≡ option_map string_bytes (lookup (is_at (λ k. slice_cmp nat_cmp q (string_bytes k))) es)
+texts_found [] q = refl
+texts_found (e ∷ es) q = by_test (is_eq (slice_cmp nat_cmp q (string_bytes e.0))) (texts_found es q) where
+  by_test : (b : Bool) → map.find text_cmp q (mapped es) ≡ option_map string_bytes (lookup (is_at (λ k. slice_cmp nat_cmp q (string_bytes k))) es)
+      → cond b (Some (string_bytes e.1)) (map.find text_cmp q (mapped es)) ≡ option_map string_bytes (cond b (Some e.1) (lookup (is_at (λ k. slice_cmp nat_cmp q (string_bytes k))) es))
+  by_test true more = refl
+  by_test false more = more
+
+found_in_texts : (m : BTreeMap (String Global) (String Global)) (q : Bytes) → map.get (text_map m.entries) q ≡ option_map string_bytes (get_by_text m q)
+found_in_texts m q = map.get-from_entries nat_list_cmp_total _ q ∙ texts_found m.entries q
+
+pub text_map_insert : (m n : BTreeMap (String Global) (String Global)) (key : Bytes) (value : String Global) → ((q : Bytes) → get_by_text n q ≡ update bytes_eq (get_by_text m) key (Some value) q)
+    → text_map n.entries ≡ map.insert (text_map m.entries) key (string_bytes value)
+text_map_insert m n key value updates = map.same_map nat_list_cmp_total (map.slice_cmp-IsAntisymmetric map.nat_cmp-IsAntisymmetric) _ _ (λ q.
+  found_in_texts n q ∙ ap (option_map string_bytes) (updates q) ∙ by_test q (bytes_eq key q) (bytes_eq q key) refl refl ∙ sym (found_after_insert (text_map m.entries) key (string_bytes value) q)) where
+    by_test : (q : Bytes) (a b : Bool) → bytes_eq key q ≡ a → bytes_eq q key ≡ b → option_map string_bytes (cond a (Some value) (get_by_text m q)) ≡ cond b (Some (string_bytes value)) (map.get (text_map m.entries) q)
+    by_test q true true ea eb = refl
+    by_test q false false ea eb = sym (found_in_texts m q)
+    by_test q true false ea eb = absurd (true≢false (sym ((bytes_eq-Decides q key).1 (sym ((bytes_eq-Decides key q).0 ea))) ∙ eb))
+    by_test q false true ea eb = absurd (true≢false (sym ((bytes_eq-Decides key q).1 (sym ((bytes_eq-Decides q key).0 eb))) ∙ ea))
+
+-- the same, in the words of the caller
+pub texts_put : (m n : BTreeMap (String Global) (String Global)) (key value : String Global) (texts : TextMap) (field text : Bytes) → UpdatesBy string_cmp (λ k. slice_cmp nat_cmp (string_bytes key) (string_bytes k)) m n (Some value)
+    → text_map m.entries ≡ texts → string_bytes key ≡ field → string_bytes value ≡ text → text_map n.entries ≡ map.insert texts field text
+texts_put m n key value texts field text updates are its_field its_text =
+    text_map_insert m n (string_bytes key) value (btree_map_updates_text (string_bytes key) m n (Some value) updates)
+    ∙ ap (λ t. map.insert t (string_bytes key) (string_bytes value)) are ∙ ap (λ k. map.insert texts k (string_bytes value)) its_field ∙ ap (map.insert texts field) its_text

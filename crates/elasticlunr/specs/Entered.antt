@@ -1,5 +1,5 @@
 -- How one document, a removal or a compaction changes what an index holds.
-use Rattle.std.specs.Prelude.{◌≡◌, ◌≢◌, ℕ, false, List, [], length, map, Option, None, Some, IsSome, IsSomeAnd, IfSome, slice_get, count_by, Contains, IsTrue, ◌↔◌, ◌⊎◌, if◌then◌else◌}
+use Rattle.std.specs.Prelude.{◌≡◌, ◌≢◌, ℕ, ◌≤◌, false, List, [], length, map, Option, None, Some, IsSome, IsSomeAnd, IfSome, slice_get, count_by, Contains, IsTrue, ◌↔◌, ◌⊎◌, if◌then◌else◌}
 use Rattle.std.specs.Option.{option_map_or}
 use Rattle.std.specs.Str.{bytes_eq}
 use Rattle.std.specs.FinMap as map
@@ -52,6 +52,13 @@ pub record MakesRoom (reference : Bytes) (old_tables new_tables : List Table) (o
   pub save : new.save ≡ old.save
   pub texts : (r : Bytes) → bytes_eq r reference ≡ false → map.get new.texts r ≡ map.get old.texts r
   pub lengths : (r field : Bytes) → length_at new r field ≡ (if bytes_eq r reference then None else length_at old r field)
+
+-- each field's table has the tokens at its place for a reference that had none there, and the tables past them stay
+pub record AddsTokens (reference : Bytes) (tokens : List (Option (List Text))) (old_tables new_tables : List Table) : Type 0 where
+  pub as_many : length new_tables ≡ length old_tables
+  pub with_tokens : (i : ℕ) (before after : Table) (these : Option (List Text)) → slice_get old_tables i ≡ Some before → slice_get new_tables i ≡ Some after → slice_get tokens i ≡ Some these
+      → ((token : Text) → posting before token reference ≡ None) → ReplacesPostings before after reference these
+  pub without_tokens : (i : ℕ) → length tokens ≤ i → slice_get new_tables i ≡ slice_get old_tables i
 
 -- the document is in the place of what its reference had
 pub record Enters (plan : Plan) (document : Document) (old_tables new_tables : List Table) (old new : Contents) : Type 0 where

@@ -26,16 +26,16 @@ look_cons root nodes p c t = by (child (children_at root nodes p) c)
     by None = refl
     by (Some k) = refl
 
-sorted_tail : (x : ℕ × ℕ) (l : Children) → IsStrictlySorted (x ∷ l) → IsStrictlySorted l
+pub sorted_tail : (x : ℕ × ℕ) (l : Children) → IsStrictlySorted (x ∷ l) → IsStrictlySorted l
 sorted_tail x l sorted i j lt in_range = sorted (suc i) (suc j) (omega arith) (omega arith)
 
-not_again : (x : ℕ × ℕ) (l : Children) → IsStrictlySorted (x ∷ l) → child l x.0 ≡ None
+pub not_again : (x : ℕ × ℕ) (l : Children) → IsStrictlySorted (x ∷ l) → child l x.0 ≡ None
 not_again x l sorted = child_absent l x.0 (λ j lt same. let up = sorted 0 (suc j) (omega arith) (omega arith) in omega (arith, same, up))
 
 found_first : (x : ℕ × ℕ) (l : Children) → IsSome (child (x ∷ l) x.0)
 found_first x l = ap (λ b. is_some (cond b (Some x.1) (child l x.0))) (eq-eqb x.0 x.0 refl)
 
-skip_first : (x : ℕ × ℕ) (l : Children) (c : ℕ) → x.0 ≢ c → child (x ∷ l) c ≡ child l c
+pub skip_first : (x : ℕ × ℕ) (l : Children) (c : ℕ) → x.0 ≢ c → child (x ∷ l) c ≡ child l c
 skip_first x l c apart = ap (λ b. cond b (Some x.1) (child l c)) (ne_eqb x.0 c apart)
 
 -- sorted lists that have the same keys have them at the same places

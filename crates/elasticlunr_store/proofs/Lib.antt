@@ -30,3 +30,6 @@ pub mod Sorted
 pub mod Values
 pub mod ReadingMaps
 pub mod SameMaps
+pub mod Marks
+pub mod Compact
+pub mod Changes

@@ -298,7 +298,7 @@ module _ (root : Children) (nodes : List Node) (d : Data) (vs : List Value) (all
   read_tree = tree_from (length nodes) [] Root refl (omega arith) (omega arith) d refl
 
 -- the root of a table has no postings
-first_found : (e : String Global × ℕ) (es : Entries) → at (string_bytes e.0) (e ∷ es) ≡ Some e.1
+pub first_found : (e : String Global × ℕ) (es : Entries) → at (string_bytes e.0) (e ∷ es) ≡ Some e.1
 first_found e es = rw (tied_itself nat_list_cmp_total (string_bytes e.0))
 
 pub root_refused : (kids : Children) (es : Entries) (old new : List Value) (d : Data) → ReadsNode kids es old new d → (length es ≡ 0 → ⊥) → (T : Table) → IsTable T → IsTree T [] d → ⊥

@@ -125,7 +125,7 @@ module _ (ms : Members) where
   order_after [] before order = order
   order_after (pair ∷ pairs) before order = order_after pairs (put pair.0 pair.1 before) (order_put pair.0 pair.1 before order)
 
-as_many : (tables : List Table) (values : List Data) → AreTrieValues tables values → length values ≡ length tables
+pub as_many : (tables : List Table) (values : List Data) → AreTrieValues tables values → length values ≡ length tables
 as_many [] [] are = refl
 as_many [] (value ∷ values) are = elim are [ ]
 as_many (table ∷ tables) [] are = elim are [ ]

@@ -1,11 +1,11 @@
 //! Laws of the values of indexes.
-ghost use Rattle.std.specs.Prelude.{◌≡◌, List, false};
+ghost use Rattle.std.specs.Prelude.{◌≡◌, List, false, length, All, IsTrue};
 ghost use Rattle.elasticlunr_store.specs.Table.{Table, IsTable};
-ghost use Rattle.elasticlunr_store.specs.Contents.{Contents, IsContents};
+ghost use Rattle.elasticlunr_store.specs.Contents.{Contents};
 ghost use Rattle.elasticlunr.specs.Fields.{all_differ};
 ghost use Rattle.elasticlunr.specs.History.{Commands, Agree};
 ghost use Rattle.elasticlunr.specs.Standing.{Plan};
-ghost use Rattle.elasticlunr.specs.Printed.{IsValueOf, IsValue};
+ghost use Rattle.elasticlunr.specs.Printed.{IsValueOf, IsValue, PrintAlike};
 ghost use Rattle.serde_json.specs.Data.{Data};
 ghost use Rattle.serde_json.specs.Written.{has_float};
 
@@ -29,3 +29,16 @@ pub fn agreeing_commands_have_equal_values()
 pub fn values_have_no_float()
     ensures { (plan : Plan) (tables : List Table) (contents : Contents) (v : Data) → IsValueOf plan tables contents v → has_float v ≡ false }
 {}
+
+/// A value comes from one list of tables and one contents, and from plans that print alike.
+pub fn values_tell_what_they_print()
+    ensures { (plan : Plan) (other : Plan) (tables : List Table) (others : List Table) (contents : Contents) (kept : Contents) (v : Data)
+        → IsTrue (all_differ plan.fields)
+        → length tables ≡ length plan.fields → All IsTable tables
+        → length others ≡ length other.fields → All IsTable others
+        → IsValueOf plan tables contents v → IsValueOf other others kept v
+        → PrintAlike plan other × (tables ≡ others) × (contents ≡ kept) }
+{
+    one_table_a_value();
+    one_contents_a_value();
+}

@@ -1,14 +1,18 @@
 -- What an index holds that has not failed.
-use Rattle.std.proofs.Common.{◌≡◌, List, Option, Some, subst, refl}
+use Rattle.std.proofs.Common.{◌≡◌, List, Option, Some, subst, sym}
 use Rattle.std.specs.Prelude.{IsSomeAnd}
+use Rattle.elasticlunr_text.specs.Text.{bytes_of}
 use Rattle.elasticlunr_store.specs.Table.{Table}
 use Rattle.elasticlunr_store.specs.Contents as store
 use Rattle.serde_json.specs.Data.{Data}
 use Rattle.elasticlunr.specs.declared.contents.Contents.{Contents}
+use Rattle.elasticlunr.specs.declared.printed.Parts.{Parts}
 use Rattle.elasticlunr.specs.History.{Commands, Agree}
-use Rattle.elasticlunr.specs.Printed.{IsValueOf, IsValue}
+use Rattle.elasticlunr.specs.Parts.{IsPrinted}
+use Rattle.elasticlunr.specs.Printed.{IsValue}
 use Rattle.elasticlunr.specs.Standing.{Plan, Holds}
 use Rattle.elasticlunr.proofs.Agreeing.{holds_agreed}
+use Rattle.elasticlunr.proofs.Printing.{value_of_parts}
 
 -- its contents
 pub held : (plan : Plan) (there : Option Contents) (contents : Contents) (commands : Commands) → there ≡ Some contents
@@ -20,16 +24,20 @@ pub held_beside : (plan : Plan) (tables : List Table) (contents same : Contents)
     → Holds plan commands tables contents.store → Holds plan commands tables same.store
 held_beside plan tables contents same commands is holds = subst (λ (c : Contents). Holds plan commands tables c.store) is holds
 
--- plans that are the same in each part
-pub same_plan : (p q : Plan) → p.fields ≡ q.fields → p.reference_field ≡ q.reference_field → p.save ≡ q.save → p.language ≡ q.language → p.stages ≡ q.stages → p ≡ q
-same_plan p q f r s l t = λ i. record { fields = f i; reference_field = r i; save = s i; language = l i; stages = t i }
+-- the parts are those of the plan and the contents
+pub record ArePartsOf (plan : Plan) (contents : Contents) (parts : Parts) : Type 0 where
+  pub fields : bytes_of parts.fields.now ≡ plan.fields
+  pub reference_field : parts.ref_field.now ≡ plan.reference_field
+  pub language : parts.language.now ≡ plan.language
+  pub stages : bytes_of parts.stages.now ≡ plan.stages
+  pub tries : parts.tries.now ≡ contents.tries.items
+  pub store : parts.store.now ≡ contents.store
 
--- the value that parts print is that of each list of commands that agrees
-pub value_of_parts : (plan parts : Plan) (tables printed : List Table) (contents : store.Contents) (commands other : Commands) (value : Data)
-    → Holds plan commands tables contents → Agree commands other → parts ≡ plan → printed ≡ tables → IsValueOf parts printed contents value → IsValue plan other value
-value_of_parts plan parts tables printed contents commands other value holds agree same these is = record {
-  tables = tables;
-  contents = contents;
-  holds = holds_agreed commands other plan tables contents agree holds;
-  printed = subst (λ p. IsValueOf p tables contents value) same (subst (λ ts. IsValueOf parts ts contents value) these is);
-}
+-- what they print is the value of each list of commands that agrees
+pub value_of_held : (plan : Plan) (contents : Contents) (commands other : Commands) (parts : Parts) (value : Data)
+    → Holds plan commands contents.tries.items contents.store → Agree commands other → ArePartsOf plan contents parts → IsPrinted parts value → IsValue plan other value
+value_of_held plan contents commands other parts value holds agree are printed =
+    let agreed = holds_agreed commands other plan contents.tries.items contents.store agree holds in
+    value_of_parts plan other parts value are.fields are.reference_field are.language are.stages
+    (subst (λ (ts : List Table). Holds plan other ts parts.store.now) (sym are.tries) (subst (λ (kept : store.Contents). Holds plan other contents.tries.items kept) (sym are.store) agreed))
+    printed

@@ -6,7 +6,8 @@ use Rattle.std.specs.FinMap as map
 use Rattle.elasticlunr_text.specs.Text.{Text, Bytes, text_cmp}
 use Rattle.elasticlunr_store.specs.Table.{Table, postings}
 use Rattle.elasticlunr_store.specs.Tree.{IsTree, AreParts, IsTrieValue, frequencies, HasKeysInOrder}
-use Rattle.elasticlunr_store.specs.Contents.{Contents, store_value, members, keyed}
+use Rattle.elasticlunr_store.specs.Contents.{Contents, store_value}
+use Rattle.elasticlunr_store.specs.Maps.{members, keyed}
 use Rattle.serde_json.specs.Data.{Data, null, boolean, number, string, array, object, unsigned, Items, Members, no_members, member, put}
 use Rattle.serde_json.specs.Find.{get_member}
 use Rattle.serde_json.specs.Written.{has_float, items_have_float, members_have_float}

@@ -1,0 +1,2 @@
+//! Laws of the words that this crate's contracts speak of.
+pub mod values;

@@ -13,6 +13,8 @@ use Rattle.elasticlunr_store.specs.Contents.{Contents, TextMap, LengthMap, IsCon
 use Rattle.elasticlunr.specs.Root.{IsRoot}
 use Rattle.elasticlunr.specs.History.{Document, add, remove, compact, Commands, none, ◌▸◌, now, EndsCompacted, AddsEachOnce, IsFresh}
 use Rattle.elasticlunr.specs.Standing.{Plan, tokens_at, Counts, occurrences, IsPosting, IsTableOf, stored, length_in, IsContentsOf, Holds}
+use Rattle.elasticlunr.specs.Printed.{IsValue}
+use Rattle.serde_json.specs.Data.{Data}
 use Rattle.elasticlunr.proofs.Adding.{same, apart, either}
 use Rattle.elasticlunr.proofs.Agreeing.{Alike, holds_alike}
 use Rattle.elasticlunr.proofs.Naming.{turned}
@@ -54,6 +56,12 @@ pub fresh_holds : (commands fresh : Commands) (plan : Plan) (tables : List Table
 fresh_holds commands fresh plan tables contents ends is = (
   holds_alike commands fresh (alike_fresh commands fresh ends is) plan tables contents,
   holds_alike fresh commands (alike_back commands fresh (alike_fresh commands fresh ends is)) plan tables contents,
+)
+
+pub fresh_value : (commands fresh : Commands) (plan : Plan) (value : Data) → EndsCompacted commands → IsFresh commands fresh → IsValue plan commands value ↔ IsValue plan fresh value
+fresh_value commands fresh plan value ends is = (
+  λ v. record { tables = v.tables; contents = v.contents; holds = (fresh_holds commands fresh plan v.tables v.contents ends is).0 v.holds; printed = v.printed },
+  λ v. record { tables = v.tables; contents = v.contents; holds = (fresh_holds commands fresh plan v.tables v.contents ends is).1 v.holds; printed = v.printed },
 )
 
 -- the removal of a reference without a current document changes nothing

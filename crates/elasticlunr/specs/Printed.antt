@@ -58,6 +58,13 @@ pub record IsValue (plan : Plan) (commands : Commands) (value : Data) : Type 0 w
   pub holds : Holds plan commands tables contents
   pub printed : IsValueOf plan tables contents value
 
+-- the same is printed of both: they may differ in whether texts are kept, which stands in the contents
+pub record PrintAlike (plan other : Plan) : Type 0 where
+  pub same_fields : plan.fields ≡ other.fields
+  pub same_reference_field : plan.reference_field ≡ other.reference_field
+  pub same_language : plan.language ≡ other.language
+  pub same_stages : plan.stages ≡ other.stages
+
 -- the text of a value without floats, with a line for each item and member
 abbrev pub pretty_text : Data → List ℕ
 pretty_text value = pretty (json_tokens (outline value))

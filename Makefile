@@ -1,0 +1,24 @@
+# The two commands: `make run` proves, builds and runs the program, `make test` passes the tests.
+PREFIX ?= /usr/local
+PROGRAM = crates/elasticlunr_index/out/elasticlunr_index
+EXAMPLE = examples/job.json
+
+.PHONY: run build test install
+
+# A job on standard input, or the example where standard input is a terminal or empty.
+run: build
+	@if [ -t 0 ]; then job=$(EXAMPLE); \
+	else job=$$(mktemp); cat > "$$job"; [ -s "$$job" ] || job=$(EXAMPLE); fi; \
+	$(PROGRAM) < "$$job"
+
+build:
+	@cd crates/elasticlunr_index && rt run < ../../$(EXAMPLE) > /dev/null
+
+# `rt ci` (proves every crate from nothing, tries the wrong bodies, runs the tests and the programs), then the built
+# program on the table of jobs and with each request for memory refused.
+test:
+	@bench/test.sh
+
+install: build
+	@install -d "$(DESTDIR)$(PREFIX)/bin"
+	@install -m 755 $(PROGRAM) "$(DESTDIR)$(PREFIX)/bin/elasticlunr_index"

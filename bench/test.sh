@@ -1,0 +1,19 @@
+#!/usr/bin/env bash
+# Passes the tests: the gate of the crates, then the built program on the table of jobs and with its memory refused.
+# The last line counts all of them.
+set -u
+cd "$(dirname "$0")/.."
+log=$(mktemp)
+rt ci 2>&1 | tee "$log"
+status=${PIPESTATUS[0]}
+if [ "$status" -eq 0 ]; then
+    make --silent build >>"$log" 2>&1 || { tail -n 20 "$log"; status=1; }
+    for check in bench/check_jobs.py bench/refuse_memory.py; do
+        python3 "$check" | tee -a "$log"
+        [ "${PIPESTATUS[0]}" -eq 0 ] || status=1
+    done
+fi
+awk '/^([a-z]+: )?[0-9]+ passed, [0-9]+ failed$/ { n = NF - 3; passed += $n; failed += $(n + 2) }
+     END { printf "%d passed, %d failed\n", passed, failed }' "$log"
+rm -f "$log"
+exit "$status"

@@ -1,0 +1,74 @@
+-- The calls keep the contents' rule.
+use Rattle.std.proofs.Common.{◌≡◌, ◌≢◌, ℕ, Bool, true, false, cond, Option, Some, None, IfSome, sym, ap, subst, ◌∙◌, is_some, unwrap_or}
+use mathlib.Core.Bool.{false≢true}
+use Rattle.std.specs.Ordering.{eq_by_cmp}
+use Rattle.std.specs.Cmp.{eq_by_cmp_equiv}
+use Rattle.std.specs.FinMap as finite
+use Rattle.std.proofs.lemmas.Cmp.{nat_list_cmp_total}
+use Rattle.elasticlunr_text.specs.Text.{Bytes, text_cmp}
+use Rattle.elasticlunr_store.specs.Contents.{Contents, TextMap, LengthMap, IsContents, new_contents, with_document, with_length, without_document, without}
+
+module _ {X : Type 0} (P : X → Type 0) where
+  either : (b : Bool) (w old : Option X) → IfSome w P → IfSome old P → IfSome (cond b w old) P
+  either true w old p q = p
+  either false w old p q = q
+
+  -- what holds of what a map has holds after a change
+  pub all_inserted : (m : finite.FinMap text_cmp X) (r : Bytes) (x : X) → P x → ((q : Bytes) → IfSome (finite.get m q) P) → (q : Bytes) → IfSome (finite.get (finite.insert m r x) q) P
+  all_inserted m r x p all q = subst (λ o. IfSome o P) (sym (finite.get-insert nat_list_cmp_total m r x q)) (either (eq_by_cmp text_cmp q r) (Some x) (finite.get m q) p (all q))
+
+  pub all_removed : (m : finite.FinMap text_cmp X) (r : Bytes) → ((q : Bytes) → IfSome (finite.get m q) P) → (q : Bytes) → IfSome (finite.get (finite.remove m r) q) P
+  all_removed m r all q = subst (λ o. IfSome o P) (sym (finite.get-remove nat_list_cmp_total m r q)) (either (eq_by_cmp text_cmp q r) None (finite.get m q) tt (all q))
+
+  pub all_empty : (q : Bytes) → IfSome (finite.get (finite.empty {R = text_cmp}) q) P
+  all_empty q = subst (λ o. IfSome o P) (sym (finite.get-empty text_cmp q)) tt
+
+-- the first clause of the rule, value by value
+some_filled : (o : Option LengthMap) → IfSome o (λ m. m ≢ finite.empty) → o ≢ Some finite.empty
+some_filled None h e = cc
+some_filled (Some m) h e = h (ap (λ o. unwrap_or o m) e)
+
+filled_some : (o : Option LengthMap) → o ≢ Some finite.empty → IfSome o (λ m. m ≢ finite.empty)
+filled_some None h = tt
+filled_some (Some m) h = λ e. h (ap Some e)
+
+pub filled : (c : Contents) → IsContents c → (q : Bytes) → IfSome (finite.get c.lengths q) (λ m. m ≢ finite.empty)
+filled c rule q = filled_some (finite.get c.lengths q) (rule.has_lengths q)
+
+pub new_kept : (save : Bool) → IsContents (new_contents save)
+new_kept save = record {
+  has_lengths = λ q. some_filled (finite.get finite.empty q) (all_empty (λ m. m ≢ finite.empty) q);
+  unsaved = λ _ q. all_empty (λ m. m ≡ finite.empty) q;
+}
+
+pub document_kept : (c : Contents) (r : Bytes) (d : TextMap) → IsContents c → IsContents (with_document c r d)
+document_kept c r d rule = record {
+  has_lengths = rule.has_lengths;
+  unsaved = λ not q. all_inserted (λ m. m ≡ finite.empty) c.texts r _ (ap (λ b. cond b d finite.empty) not) (rule.unsaved not) q;
+}
+
+-- a map with an entry is not empty
+pub not_empty : {X : Type 0} (m : finite.FinMap text_cmp X) (k : Bytes) (x : X) → finite.insert m k x ≢ finite.empty
+not_empty m k x e =
+    let itself : eq_by_cmp text_cmp k k ≡ true = (eq_by_cmp_equiv nat_list_cmp_total).refl k in
+    let there : finite.get (finite.insert m k x) k ≡ Some x = finite.get-insert nat_list_cmp_total m k x k ∙ ap (λ b. cond b (Some x) (finite.get m k)) itself in
+    let gone : finite.get (finite.insert m k x) k ≡ None = ap (λ n. finite.get n k) e ∙ finite.get-empty text_cmp k in
+    false≢true (ap is_some (sym gone ∙ there))
+
+pub length_kept : (c : Contents) (r field : Bytes) (n : ℕ) → IsContents c → IsContents (with_length c r field n)
+length_kept c r field n rule = record {
+  has_lengths = λ q. some_filled _ (all_inserted (λ m. m ≢ finite.empty) c.lengths r _ (not_empty _ field n) (filled c rule) q);
+  unsaved = rule.unsaved;
+}
+
+pub removed_kept : (c : Contents) (r : Bytes) → IsContents c → IsContents (without_document c r)
+removed_kept c r rule = record {
+  has_lengths = rule.has_lengths;
+  unsaved = λ not q. all_removed (λ m. m ≡ finite.empty) c.texts r (rule.unsaved not) q;
+}
+
+pub forgotten_kept : (c : Contents) (r : Bytes) → IsContents c → IsContents (without c r)
+forgotten_kept c r rule = record {
+  has_lengths = λ q. some_filled _ (all_removed (λ m. m ≢ finite.empty) c.lengths r (filled c rule) q);
+  unsaved = λ not q. all_removed (λ m. m ≡ finite.empty) c.texts r (rule.unsaved not) q;
+}

@@ -1,0 +1,66 @@
+-- A value is the one of one contents at most, and holds no float.
+use Rattle.std.proofs.Common.{◌≡◌, ℕ, Bool, false, ◌||◌, List, [], ◌∷◌, refl}
+use Rattle.std.specs.FinMap as finite
+use Rattle.serde_json.specs.Data.{Data, string}
+use Rattle.serde_json.specs.Written.{has_float, members_have_float}
+use Rattle.elasticlunr_text.specs.Text.{Bytes, text_cmp}
+use Rattle.elasticlunr_store.specs.Contents.{Contents, TextMap, LengthMap, store_object, store_value}
+use Rattle.elasticlunr_store.specs.Maps.{members, keyed, count}
+
+module _ {X : Type 0} (value : X → Data) where
+  module _ (one : (x y : X) → value x ≡ value y → x ≡ y) where
+    same_members : (xs ys : List (Bytes × X)) → members value xs ≡ members value ys → xs ≡ ys
+    same_members [] [] e = refl
+    same_members [] (y ∷ ys) e = absurd (cc)
+    same_members (x ∷ xs) [] e = absurd (cc)
+    same_members ((r, n) ∷ xs) ((q, m) ∷ ys) e =
+        let rest : members value xs ≡ members value ys = cc in
+        let keys : r ≡ q = cc in
+        let values : value n ≡ value m = cc in
+        λ i. (keys i, one n m values i) ∷ same_members xs ys rest i
+
+    -- an object tells the map
+    pub same_keyed : (m n : finite.FinMap text_cmp X) → keyed value m ≡ keyed value n → m ≡ n
+    same_keyed m n e =
+        let inner : members value (finite.entries m) ≡ members value (finite.entries n) = cc in
+        finite.same_entries_map m n (same_members (finite.entries m) (finite.entries n) inner)
+
+  module _ (bare : (x : X) → has_float (value x) ≡ false) where
+    bare_members : (xs : List (Bytes × X)) → members_have_float (members value xs) ≡ false
+    bare_members [] = refl
+    bare_members (x ∷ xs) = λ i. bare x.1 i || bare_members xs i
+
+    pub bare_keyed : (m : finite.FinMap text_cmp X) → has_float (keyed value m) ≡ false
+    bare_keyed m = bare_members (finite.entries m)
+
+same_string : (x y : Bytes) → string x ≡ string y → x ≡ y
+same_string x y e = cc
+
+same_count : (x y : ℕ) → count x ≡ count y → x ≡ y
+same_count x y e = cc
+
+-- contents with one value are one
+pub one_contents : (c d : Contents) → store_value c ≡ store_value d → c ≡ d
+one_contents c d e =
+    let saves : c.save ≡ d.save = cc in
+    let texts : keyed (keyed string) c.texts ≡ keyed (keyed string) d.texts = cc in
+    let lengths : keyed (keyed count) c.lengths ≡ keyed (keyed count) d.lengths = cc in
+    λ i. record {
+      save = saves i;
+      texts = same_keyed (keyed string) (same_keyed string same_string) c.texts d.texts texts i;
+      lengths = same_keyed (keyed count) (same_keyed count same_count) c.lengths d.lengths lengths i;
+    }
+
+-- the value of contents holds no float
+pub no_float : (c : Contents) → has_float (store_value c) ≡ false
+no_float c = λ i. bare_keyed (keyed count) (bare_keyed count (λ n. refl)) c.lengths i || (bare_keyed (keyed string) (bare_keyed string (λ s. refl)) c.texts i || false)
+
+-- a store's object tells its parts
+pub same_parts : (c : Contents) (save : Bool) (texts : finite.FinMap text_cmp TextMap) (lengths : finite.FinMap text_cmp LengthMap) (n : ℕ) → store_object save (keyed (keyed string) texts) (keyed (keyed count) lengths) n ≡ store_value c
+    → (c.save ≡ save) × (c.texts ≡ texts) × (c.lengths ≡ lengths) × (finite.len c.texts ≡ n)
+same_parts c save texts lengths n e =
+    let saves : c.save ≡ save = cc in
+    let same_texts : keyed (keyed string) c.texts ≡ keyed (keyed string) texts = cc in
+    let same_lengths : keyed (keyed count) c.lengths ≡ keyed (keyed count) lengths = cc in
+    let counts : finite.len c.texts ≡ n = cc in
+    (saves, same_keyed (keyed string) (same_keyed string same_string) c.texts texts same_texts, same_keyed (keyed count) (same_keyed count same_count) c.lengths lengths same_lengths, counts)

@@ -1,0 +1,7 @@
+use Rattle.std.proofs.Common.{sym, subst}
+use Rattle.elasticlunr_store.specs.Contents.{IsContents, contents_of}
+use Rattle.elasticlunr_store.proofs.Kept.{new_kept}
+use Rattle.elasticlunr_store.proofs.document_store.DocumentStore.new.Goals as goal
+
+pub invariant_of-result : goal.invariant_of-result
+invariant_of-result c = subst IsContents (λ i. contents_of c.args.save (sym c.new.ensures.empty i) (sym c.new-2.ensures.empty i)) (new_kept c.args.save)

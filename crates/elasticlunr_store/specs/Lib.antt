@@ -1,0 +1,13 @@
+pub mod Maps
+pub mod Table
+pub mod Tree
+pub mod Contents
+pub mod Refused
+pub mod Equal
+pub mod Children
+pub mod Nodes
+pub mod Finished
+pub mod Reading
+pub mod Same
+pub mod Printed
+pub mod Compact

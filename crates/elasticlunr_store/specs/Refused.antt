@@ -1,0 +1,12 @@
+-- Why reading a value was refused.
+use Rattle.elasticlunr_text.specs.declared.error.IndexError.{IndexError}
+use Rattle.elasticlunr_text.specs.declared.error.IndexError.TheVariants.{DuplicateField, TooManyValues, BadClass, ForeignValue, Failed, Memory}
+
+-- memory was refused, or the value is foreign, and then P
+abbrev pub IsRefused : Type 0 → IndexError → Type 0
+IsRefused P DuplicateField = ⊥
+IsRefused P TooManyValues = ⊥
+IsRefused P BadClass = ⊥
+IsRefused P ForeignValue = P
+IsRefused P Failed = ⊥
+IsRefused P Memory = Unit {0}

@@ -1,0 +1,177 @@
+//! A trie without the paths that lead to no posting.
+ghost use Rattle.std.specs.Prelude.{◌≡◌, ◌↔◌, ◌⊎◌, ℕ, ◌<◌, [], length, Some, IsTrue, IsSome, IfOk, IsOkUnless};
+ghost use Rattle.elasticlunr_text.specs.Text.{Text, Bytes};
+ghost use Rattle.elasticlunr_text.specs.declared.error.IndexError.TheVariants.{Memory};
+ghost use Rattle.elasticlunr_store.specs.Table.{IsTable, IsPrefix, knows, posting};
+ghost use Rattle.elasticlunr_store.specs.Nodes.{IsTrie, at, table_of};
+ghost use Rattle.elasticlunr_store.specs.Children.{child, IsStrictlySorted};
+ghost use Rattle.elasticlunr_store.specs.Compact.{Bears, is_marked, AreNumbers, kept_children, KeepsBelow};
+
+use super::{InvertedIndex, Node, copy_postings};
+use elasticlunr_text::IndexError;
+use std::alloc::{AllocError, Global};
+
+impl InvertedIndex {
+    /// A trie with the same postings, in which only the beginnings of their tokens are known, and the empty text.
+    pub fn compacted(&self) -> Result<Self, IndexError>
+        ensures known { IfOk result (λ T. (s : Text) → IsTrue (knows T s) ↔ ((s ≡ []) ⊎ ((t : Text) × (r : Bytes) × IsPrefix s t × IsSome (posting self.now t r)))) }
+        ensures postings { IfOk result (λ T. (s : Text) (r : Bytes) → posting T s r ≡ posting self.now s r) }
+        ensures table { IfOk result (λ T. IsTable T) }
+        ensures memory { IsOkUnless result Memory }
+    {
+        let alloc = *self.nodes.allocator();
+        let (root, nodes) = compact(alloc, &self.root, &self.nodes)?;
+        Ok(InvertedIndex { root, nodes })
+    }
+}
+
+// The children and the nodes from which a posting is reached, numbered anew.
+fn compact(
+    alloc: Global,
+    root: &[(char, usize)],
+    nodes: &[Node],
+) -> Result<(Vec<(char, usize)>, Vec<Node>), AllocError>
+    requires { IsTrie root.now nodes.now }
+    ensures trie { IfOk result (λ t. IsTrie t.0.items t.1.items) }
+    ensures known { IfOk result (λ t. (s : Text) → IsTrue (knows (table_of t.0.items t.1.items) s) ↔ ((s ≡ []) ⊎ ((u : Text) × (r : Bytes) × IsPrefix s u × IsSome (posting (table_of root.now nodes.now) u r)))) }
+    ensures postings { IfOk result (λ t. (s : Text) (r : Bytes) → posting (table_of t.0.items t.1.items) s r ≡ posting (table_of root.now nodes.now) s r) }
+{
+    let marks = bearing(alloc, nodes)?;
+    let numbers = new_numbers(alloc, &marks)?;
+    let kept_root = keep_children(alloc, root, &marks, &numbers)?;
+    let kept = keep_nodes(alloc, nodes, &marks, &numbers)?;
+    Ok((kept_root, kept))
+}
+
+// For each node, whether a posting is reached from it.
+fn bearing(alloc: Global, nodes: &[Node]) -> Result<Vec<bool>, AllocError>
+    requires { IsTrie [] nodes.now }
+    ensures count { IfOk result (λ marks. length marks.items ≡ length nodes.now) }
+    ensures each { IfOk result (λ marks. (k : ℕ) → k < length nodes.now → IsTrue (is_marked marks.items k) ↔ Bears nodes.now k) }
+{
+    let mut marks = Vec::new(alloc);
+    for _ in nodes {
+        marks.push(false)?;
+    }
+    mark(nodes, &mut marks);
+    Ok(marks)
+}
+
+// Marks the nodes from which a posting is reached, from the last to the first.
+fn mark(nodes: &[Node], marks: &mut [bool])
+    requires trie { IsTrie [] nodes.now }
+    requires one_each { length marks.old ≡ length nodes.now }
+    ensures count { length marks.new ≡ length nodes.now }
+    ensures each { (k : ℕ) → k < length nodes.now → IsTrue (is_marked marks.new k) ↔ Bears nodes.now k }
+{
+    let mut i = nodes.len();
+    while i > 0 {
+        i -= 1;
+        let bears = bears_posting(&nodes[i], marks);
+        marks[i] = bears;
+    }
+}
+
+// Has the node a posting, or a marked child?
+fn bears_posting(node: &Node, marks: &[bool]) -> bool
+    requires sorted { IsStrictlySorted node.now.children.items }
+    requires in_range { (c : ℕ) (k : ℕ) → child node.now.children.items c ≡ Some k → k < length marks.now }
+    ensures { IsTrue result ↔ (((r : Bytes) × (n : ℕ) × (at r node.now.postings.entries ≡ Some n)) ⊎ ((c : ℕ) × (k : ℕ) × (child node.now.children.items c ≡ Some k) × IsTrue (is_marked marks.now k))) }
+{
+    if !node.postings.is_empty() {
+        return true;
+    }
+    has_marked(&node.children, marks)
+}
+
+// Is one of the children marked?
+fn has_marked(children: &[(char, usize)], marks: &[bool]) -> bool
+    requires sorted { IsStrictlySorted children.now }
+    requires in_range { (c : ℕ) (k : ℕ) → child children.now c ≡ Some k → k < length marks.now }
+    ensures { IsTrue result ↔ ((c : ℕ) × (k : ℕ) × (child children.now c ≡ Some k) × IsTrue (is_marked marks.now k)) }
+{
+    for &(_, k) in children {
+        if marks[k] {
+            return true;
+        }
+    }
+    false
+}
+
+// How many marked nodes stand before each node. That is its new number, if it is marked.
+fn new_numbers(alloc: Global, marks: &[bool]) -> Result<Vec<usize>, AllocError>
+    ensures { IfOk result (λ numbers. AreNumbers marks.now numbers.items) }
+{
+    let mut numbers = Vec::new(alloc);
+    let mut count = 0;
+    for &marked in marks {
+        numbers.push(count)?;
+        if marked {
+            count += 1;
+        }
+    }
+    Ok(numbers)
+}
+
+// The marked children, under their new numbers.
+fn keep_children(
+    alloc: Global,
+    children: &[(char, usize)],
+    marks: &[bool],
+    numbers: &[usize],
+) -> Result<Vec<(char, usize)>, AllocError>
+    requires sorted { IsStrictlySorted children.now }
+    requires in_range { (c : ℕ) (k : ℕ) → child children.now c ≡ Some k → k < length marks.now }
+    requires numbers { AreNumbers marks.now numbers.now }
+    ensures { IfOk result (λ kept. kept.items ≡ kept_children marks.now children.now) }
+{
+    let mut kept = Vec::new(alloc);
+    for &(c, k) in children {
+        if !marks[k] {
+            continue;
+        }
+        kept.push((c, numbers[k]))?;
+    }
+    Ok(kept)
+}
+
+// A node with its marked children and its postings.
+fn keep_node(
+    alloc: Global,
+    node: &Node,
+    marks: &[bool],
+    numbers: &[usize],
+) -> Result<Node, AllocError>
+    requires sorted { IsStrictlySorted node.now.children.items }
+    requires in_range { (c : ℕ) (k : ℕ) → child node.now.children.items c ≡ Some k → k < length marks.now }
+    requires numbers { AreNumbers marks.now numbers.now }
+    ensures children { IfOk result (λ kept. kept.children.items ≡ kept_children marks.now node.now.children.items) }
+    ensures entries { IfOk result (λ kept. (r : Bytes) → at r kept.postings.entries ≡ at r node.now.postings.entries) }
+{
+    let children = keep_children(alloc, &node.children, marks, numbers)?;
+    let postings = copy_postings(&node.postings)?;
+    Ok(Node { children, postings })
+}
+
+// The marked nodes, in order.
+fn keep_nodes(
+    alloc: Global,
+    nodes: &[Node],
+    marks: &[bool],
+    numbers: &[usize],
+) -> Result<Vec<Node>, AllocError>
+    requires trie { IsTrie [] nodes.now }
+    requires marks { length marks.now ≡ length nodes.now }
+    requires numbers { AreNumbers marks.now numbers.now }
+    ensures { IfOk result (λ kept. KeepsBelow marks.now nodes.now kept.items (length nodes.now)) }
+{
+    let mut kept = Vec::new(alloc);
+    for i in 0..nodes.len() {
+        if !marks[i] {
+            continue;
+        }
+        let node = keep_node(alloc, &nodes[i], marks, numbers)?;
+        kept.push(node)?;
+    }
+    Ok(kept)
+}

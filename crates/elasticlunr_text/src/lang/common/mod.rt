@@ -1,0 +1,15 @@
+//! Filters of stop words, and trimmers of classes.
+mod class;
+mod class_text;
+mod ranges;
+mod stop_words;
+mod trimmer;
+mod word_chars;
+
+pub(crate) use class::Class;
+pub(crate) use class_text::letters_of;
+pub use stop_words::StopWordFilter;
+pub use trimmer::RegexTrimmer;
+
+#[cfg(test)]
+mod tests;

@@ -1,0 +1,17 @@
+//! The English trimmer.
+ghost use Rattle.std.specs.Prelude.{◌≡◌, Some, IfOk, option_map};
+ghost use Rattle.elasticlunr_text.specs.Text.{text_of};
+ghost use Rattle.elasticlunr_text.specs.Trimmed.{trimmed, is_word_char};
+
+use crate::lang::common::Class;
+use std::alloc::{AllocError, Global};
+
+/// Cuts at both ends every character that is neither an ASCII letter, an ASCII digit nor `_`.
+///
+/// The answer is never `Ok(None)`: a token without such a character becomes the empty text.
+pub fn trimmer(alloc: Global, token: String) -> Result<Option<String>, AllocError>
+    ensures { IfOk result (λ left. option_map text_of left ≡ Some (trimmed is_word_char (text_of token))) }
+{
+    let kept = String::from_str(alloc, Class::Word.trim(token.as_str()))?;
+    Ok(Some(kept))
+}

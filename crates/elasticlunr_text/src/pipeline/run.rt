@@ -1,0 +1,56 @@
+//! Pipelines of stages.
+ghost use Rattle.std.specs.Prelude.{◌≡◌, IfOk, option_map};
+ghost use Rattle.elasticlunr_text.specs.Text.{text_of, texts_of, bytes_of};
+
+use super::stage::Stage;
+use std::alloc::{AllocError, Global};
+
+/// Stages that each token passes one after the other.
+#[derive(Drop)]
+pub struct Pipeline {
+    /// The stages, the first one first.
+    pub queue: Vec<Stage>,
+}
+
+impl Pipeline {
+    ghost use Rattle.elasticlunr_text.specs.Stages.{MayLeaveAll, IsRun, names_of};
+
+    /// The names of the stages, in order, as a printed index lists them.
+    pub fn names(&self, alloc: Global) -> Result<Vec<String>, AllocError>
+        ensures { IfOk result (λ names. bytes_of names.items ≡ names_of name_text self.now) }
+    {
+        let mut names = Vec::new(alloc);
+        for stage in &self.queue {
+            names.push(stage.name(alloc)?)?;
+        }
+        Ok(names)
+    }
+
+    /// What the stages leave of one token.
+    fn filter(&self, alloc: Global, token: String) -> Result<Option<String>, AllocError>
+        ensures { IfOk result (λ left. MayLeaveAll leaves self.now.queue.items (text_of token) (option_map text_of left)) }
+    {
+        let mut token = token;
+        for stage in &self.queue {
+            match stage.filter(alloc, token)? {
+                Some(left) => token = left,
+                None => return Ok(None),
+            }
+        }
+        Ok(Some(token))
+    }
+
+    /// What the stages leave of each token, in order. A token that a stage drops is gone; one that
+    /// a stage empties stays.
+    pub fn run(&self, alloc: Global, tokens: Vec<String>) -> Result<Vec<String>, AllocError>
+        ensures { IfOk result (λ left. IsRun leaves self.now (texts_of tokens.items) (texts_of left.items)) }
+    {
+        let mut kept = Vec::new(alloc);
+        for token in tokens {
+            if let Some(left) = self.filter(alloc, token)? {
+                kept.push(left)?;
+            }
+        }
+        Ok(kept)
+    }
+}

@@ -5,7 +5,7 @@ use Rattle.std.proofs.lemmas.Result.{err_from_is_err_and}
 use Rattle.elasticlunr_text.specs.Text.{Bytes}
 use Rattle.elasticlunr_lang.specs.Known.{all_languages, language_name}
 use Rattle.elasticlunr_lang.specs.declared.any.AnyLanguage.{AnyLanguage}
-use Rattle.elasticlunr_lang.specs.declared.any.AnyLanguage.TheVariants.{English, Danish}
+use Rattle.elasticlunr_lang.specs.declared.any.AnyLanguage.TheVariants.{English, Arabic, Danish, Dutch, Finnish, French, German, Italian, Korean, Norwegian, Portuguese, Romanian, Russian, Spanish, Swedish, Turkish}
 use Rattle.elasticlunr.specs.Fields.{all_differ}
 use Rattle.elasticlunr_index.specs.Answer.{FailsAt, NamesLanguage}
 use Rattle.elasticlunr_index.specs.Job.{Job}
@@ -66,4 +66,18 @@ pub no_language : (name : Bytes) → All (λ language. language_name language �
 no_language name none named = at named.0 named.1 where
   at : (language : AnyLanguage) → language_name language ≢ name
   at English e = none 0 English (omega arith) e
-  at Danish e = none 1 Danish (omega arith) e
+  at Arabic e = none 1 Arabic (omega arith) e
+  at Danish e = none 2 Danish (omega arith) e
+  at Dutch e = none 3 Dutch (omega arith) e
+  at Finnish e = none 4 Finnish (omega arith) e
+  at French e = none 5 French (omega arith) e
+  at German e = none 6 German (omega arith) e
+  at Italian e = none 7 Italian (omega arith) e
+  at Korean e = none 8 Korean (omega arith) e
+  at Norwegian e = none 9 Norwegian (omega arith) e
+  at Portuguese e = none 10 Portuguese (omega arith) e
+  at Romanian e = none 11 Romanian (omega arith) e
+  at Russian e = none 12 Russian (omega arith) e
+  at Spanish e = none 13 Spanish (omega arith) e
+  at Swedish e = none 14 Swedish (omega arith) e
+  at Turkish e = none 15 Turkish (omega arith) e

@@ -1,0 +1,11 @@
+pub mod Device
+pub mod Job
+pub mod JobTold
+pub mod Stop
+pub mod Keys
+pub mod Commands
+pub mod Answer
+pub mod IndexStop
+pub mod Filled
+pub mod Status
+pub mod Run

@@ -1,0 +1,134 @@
+//! What is written for an input.
+
+ghost use Rattle.std.specs.Prelude.{◌≡◌, Any, Some, None, map, string_bytes, IfOk, IfErr, OnOk, OnErr};
+ghost use Rattle.elasticlunr.specs.History.{Commands, remove};
+ghost use Rattle.elasticlunr.specs.Index.{fields_of, plan_of, IsDocument, IsFailed, SameSettings, StandsFor};
+ghost use Rattle.elasticlunr_lang.specs.Known.{language_name};
+ghost use Rattle.elasticlunr_text.specs.Text.{Bytes};
+ghost use Rattle.elasticlunr_index.specs.Answer.{FailsAt, Passes, HasTooMany, IsIndexLine, IsRefused, IsAnswer, line, reading, refusal_text};
+ghost use Rattle.elasticlunr_index.specs.Commands.{compacted, language_tokens};
+ghost use Rattle.elasticlunr_index.specs.Filled.{Fits, Follows, HasDone, HasTaken, IsBuiltFor, IsPrintOf};
+ghost use Rattle.elasticlunr_index.specs.JobTold.{document_told, job_told};
+ghost use Rattle.elasticlunr_index.specs.Stop.{StopsBy, StopsFor};
+ghost use Rattle.elasticlunr_index.specs.declared.outcome.Outcome.TheVariants.{Printed};
+ghost use Rattle.elasticlunr_index.specs.declared.outcome.Refusal.TheVariants.{TooManyValues, NotJson};
+ghost use Rattle.serde_json.specs.View.{view};
+
+use crate::job::{Document, Job, parse};
+use crate::outcome::{Outcome, Refusal, Stop};
+use elasticlunr::{AnyLanguage, Index, IndexBuilder, IndexError, from_name};
+use serde_json::Value;
+use std::alloc::{AllocError, Global};
+
+/// The text of an index.
+fn text_of(index: &Index<AnyLanguage>, pretty: bool) -> Result<String, IndexError>
+    ensures ok { IfOk result (λ text. (commands : Commands) → StandsFor language_name name_text index.now commands
+        → IsPrintOf (plan_of language_name name_text index.now) pretty commands (string_bytes text)) }
+    ensures err { IfErr result (λ e. ¬ IsFailed index.now → e ≡ IndexError.Memory) }
+{
+    if pretty {
+        index.to_json_pretty()
+    } else {
+        index.to_json()
+    }
+}
+
+/// The text of an index, and a line feed.
+fn line_of(index: &Index<AnyLanguage>, pretty: bool) -> Result<String, Stop>
+    ensures ok { IfOk result (λ line_text. (commands : Commands) → StandsFor language_name name_text index.now commands
+        → (text : Bytes) × IsPrintOf (plan_of language_name name_text index.now) pretty commands text × (string_bytes line_text ≡ line text)) }
+    ensures err { IfErr result (λ stop. ¬ IsFailed index.now → stop ≡ Stop.Memory) }
+{
+    let mut text = text_of(index, pretty)?;
+    text.push('\n')?;
+    Ok(text)
+}
+
+/// Does to a new index all that the job commands: its text then, and a line feed.
+fn carried_out(mut index: Index<AnyLanguage>, job: &Job<'_>) -> Result<String, Stop>
+    ensures fits { OnOk result (Fits (fields_of index) (job_told job.now).docs) }
+    ensures ok { IfOk result (λ text. (language : AnyLanguage)
+        → IsBuiltFor (job_told job.now) language (plan_of language_name name_text index) (IsDocument language_tokens leaves index) (StandsFor language_name name_text index)
+        → IsIndexLine (job_told job.now) language (string_bytes text)) }
+    ensures err { IfErr result (λ stop. ¬ IsFailed index
+        → StopsBy TooManyValues (Any (HasTooMany (fields_of index)) (job_told job.now).docs) stop) }
+{
+    for doc in &job.docs {
+        index.add_doc(doc.reference, &doc.values)?;
+    }
+    for reference in &job.remove {
+        index.remove_doc(*reference)?;
+    }
+    if job.compact {
+        index.compact()?;
+    }
+    let text = line_of(&index, job.pretty)?;
+    Ok(text)
+}
+
+/// The text of a job's index, and a line feed.
+fn printed(alloc: Global, job: &Job<'_>) -> Result<String, Stop>
+    ensures ok { IfOk result (λ text. (language : AnyLanguage) × Passes (job_told job.now) language
+        × IsIndexLine (job_told job.now) language (string_bytes text)) }
+    ensures err { IfErr result (StopsFor (FailsAt (job_told job.now))) }
+{
+    let Some(language) = from_name(job.language) else {
+        return Err(Stop::Refused(Refusal::UnknownLanguage));
+    };
+    let index = IndexBuilder::with_language(alloc, language)?
+        .save_docs(job.save)
+        .set_ref(job.reference_field)?
+        .add_fields(&job.fields)?
+        .build()?;
+    let text = carried_out(index, job)?;
+    Ok(text)
+}
+
+/// The JSON value that the bytes are.
+fn read_json(alloc: Global, bytes: &[u8]) -> Result<Value, Stop>
+    ensures ok { IfOk result (λ value. reading bytes.now ≡ Some (view value)) }
+    ensures err { IfErr result (StopsBy NotJson (reading bytes.now ≡ None)) }
+{
+    match Value::from_slice(alloc, bytes) {
+        Ok(value) => Ok(value),
+        Err(e) if e.is_memory() => Err(Stop::Memory),
+        Err(_) => Err(Stop::Refused(Refusal::NotJson)),
+    }
+}
+
+/// The text of the index that the input asks for, and a line feed.
+fn index_line(alloc: Global, bytes: &[u8]) -> Result<String, Stop>
+    ensures ok { IfOk result (λ text. IsAnswer bytes.now Printed (string_bytes text)) }
+    ensures err { IfErr result (StopsFor (IsRefused bytes.now)) }
+{
+    let value = read_json(alloc, bytes)?;
+    let job = parse(alloc, &value)?;
+    printed(alloc, &job)
+}
+
+/// The line of a refusal.
+fn refusal_line(refusal: Refusal) -> &'static str
+    ensures { result.now ≡ line (refusal_text refusal) }
+{
+    match refusal {
+        Refusal::NotJson => "refused: not JSON\n",
+        Refusal::NotAJob => "refused: not a job\n",
+        Refusal::UnknownLanguage => "refused: unknown language\n",
+        Refusal::DuplicateField => "refused: duplicate field\n",
+        Refusal::TooManyValues => "refused: too many values\n",
+    }
+}
+
+/// The outcome for an input, and what is written for it.
+pub fn answer(alloc: Global, bytes: &[u8]) -> Result<(Outcome, String), AllocError>
+    ensures { IfOk result (λ a. IsAnswer bytes.now a.0 (string_bytes a.1)) }
+{
+    match index_line(alloc, bytes) {
+        Ok(text) => Ok((Outcome::Printed, text)),
+        Err(Stop::Refused(refusal)) => {
+            let text = String::from_str(alloc, refusal_line(refusal))?;
+            Ok((Outcome::Refused(refusal), text))
+        }
+        Err(Stop::Memory) => Err(AllocError),
+    }
+}

@@ -25,6 +25,7 @@ ghost use Rattle.elasticlunr_store.specs.Nodes.{children_at, children_of, entrie
 mod compact;
 mod print;
 
+use crate::members::put_member;
 use elasticlunr_text::IndexError;
 use serde_json::{Map, Value};
 use std::alloc::{AllocError, Global};
@@ -462,15 +463,6 @@ fn remove_postings(nodes: &mut [Node], doc_ref: &str)
     for node in nodes.iter_mut() {
         node.postings.remove(doc_ref);
     }
-}
-
-// Sets a member of an object.
-fn put_member(members: &mut Map<String, Value>, key: String, value: Value) -> Result<(), AllocError>
-    ensures put { OnOk result (members_view members.new.entries ≡ put (string_bytes key) (view value) (members_view members.old.entries)) }
-    ensures ordered { IsOrdered string_cmp members.new }
-{
-    members.insert(key, value)?;
-    Ok(())
 }
 
 // The value of the postings of a text.

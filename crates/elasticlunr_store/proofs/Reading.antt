@@ -138,6 +138,15 @@ not_among (first ∷ done) e more h =
     nat_list_cmp_total.antisymm (string_bytes e.0) (string_bytes first.0) ∙ ap ordering_reverse (below_middle first done e more h.0) in
     rw above (not_among done e more h.1)
 
+-- and its value is found
+pub found_among : (done : List Entry) (e : Entry) (more : List Entry) → IsStrictlySortedBy string_cmp (keys_of (done ++ e ∷ more)) → get_member (string_bytes e.0) (members_view (done ++ e ∷ more)) ≡ Some (view e.1)
+unfolding IsStrictlySortedBy
+found_among [] e more h = ap (λ o. match_ordering o (get_member (string_bytes e.0) (members_view more)) (Some (view e.1)) (get_member (string_bytes e.0) (members_view more))) (tied_itself nat_list_cmp_total (string_bytes e.0))
+found_among (first ∷ done) e more h =
+    let above : slice_cmp nat_cmp (string_bytes e.0) (string_bytes first.0) ≡ Greater =
+    nat_list_cmp_total.antisymm (string_bytes e.0) (string_bytes first.0) ∙ ap ordering_reverse (below_middle first done e more h.0) in
+    rw above (found_among done e more h.1)
+
 pub is_there : (done : List Entry) (e : Entry) (more : List Entry) → IsSome (get_member (string_bytes e.0) (members_view (done ++ e ∷ more)))
 is_there [] e more = ap (λ o. is_some (match_ordering o (get_member (string_bytes e.0) (members_view more)) (Some (view e.1)) (get_member (string_bytes e.0) (members_view more)))) (tied_itself nat_list_cmp_total (string_bytes e.0))
 is_there (d ∷ done) e more = either (slice_cmp nat_cmp (string_bytes e.0) (string_bytes d.0)) (is_there done e more)

@@ -16,6 +16,7 @@ ghost use Rattle.elasticlunr_store.specs.Contents.{text_map, length_map, documen
 
 mod print;
 
+use crate::members::put_member;
 use elasticlunr_text::IndexError;
 use serde_json::{Map, Value};
 use std::alloc::{AllocError, Global};
@@ -364,14 +365,6 @@ fn find_length(
     ensures { result ≡ option_and_then (λ lengths. get lengths field.now) (get (document_lengths doc_info.now.entries) doc_ref.now) }
 {
     doc_info.get(doc_ref)?.get(field).copied()
-}
-
-// Sets a member of an object.
-fn put_member(members: &mut Map<String, Value>, key: String, value: Value) -> Result<(), AllocError>
-    ensures { OnOk result (members_view members.new.entries ≡ put (string_bytes key) (view value) (members_view members.old.entries)) }
-{
-    members.insert(key, value)?;
-    Ok(())
 }
 
 // The value of a map of texts.

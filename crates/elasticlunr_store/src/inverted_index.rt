@@ -25,6 +25,7 @@ ghost use Rattle.elasticlunr_store.specs.Nodes.{children_at, children_of, entrie
 mod compact;
 mod print;
 
+use crate::members::put_member;
 use elasticlunr_text::IndexError;
 use serde_json::{Map, Value};
 use std::alloc::{AllocError, Global};
@@ -464,15 +465,6 @@ fn remove_postings(nodes: &mut [Node], doc_ref: &str)
     }
 }
 
-// Sets a member of an object.
-fn put_member(members: &mut Map<String, Value>, key: String, value: Value) -> Result<(), AllocError>
-    ensures put { OnOk result (members_view members.new.entries ≡ put (string_bytes key) (view value) (members_view members.old.entries)) }
-    ensures ordered { IsOrdered string_cmp members.new }
-{
-    members.insert(key, value)?;
-    Ok(())
-}
-
 // The value of the postings of a text.
 fn docs_value(alloc: Global, postings: &BTreeMap<String, u64>) -> Result<Value, AllocError>
     ensures { IfOk result (λ v. view v ≡ object (frequencies (entries (postings_of postings.now.entries)))) }
@@ -792,7 +784,24 @@ fn same_postings(a: &BTreeMap<String, u64>, b: &BTreeMap<String, u64>) -> bool
     *a == *b
 }
 
-// Are the texts below two places the same, with the same postings?
+// Have these children the same character and the same postings?
+fn same_child(
+    nodes: &[Node],
+    child: (char, usize),
+    nodes2: &[Node],
+    child2: (char, usize),
+) -> bool
+    requires in_range { child.1 < length nodes.now }
+    requires in_range2 { child2.1 < length nodes2.now }
+    ensures { IsTrue result ↔ ((child.0 ≡ child2.0) × (postings_of (entries_of (slice_get nodes.now child.1)) ≡ postings_of (entries_of (slice_get nodes2.now child2.1)))) }
+{
+    if child.0 != child2.0 {
+        return false;
+    }
+    same_postings(postings_at(nodes, child.1), postings_at(nodes2, child2.1))
+}
+
+// Are the texts below two places the same, with the same postings? Goes on with the last of the children, and comes back to the others, so a path without branches needs no stack.
 fn same_below(
     root: &[(char, usize)],
     nodes: &[Node],
@@ -805,23 +814,32 @@ fn same_below(
     requires trie2 { IsTrie root2.now nodes2.now }
     ensures { IsTrue result ↔ IsSameBelow root.now nodes.now place root2.now nodes2.now place2 }
 {
-    let children = children_at(root, nodes, place);
-    let children2 = children_at(root2, nodes2, place2);
-    if children.len() != children2.len() {
-        return false;
+    let mut here = place;
+    let mut here2 = place2;
+    loop {
+        let children = children_at(root, nodes, here);
+        let children2 = children_at(root2, nodes2, here2);
+        if children.len() != children2.len() {
+            return false;
+        }
+        if children.is_empty() {
+            return true;
+        }
+        let last = children.len() - 1;
+        for i in 0..last {
+            if !same_child(nodes, children[i], nodes2, children2[i]) {
+                return false;
+            }
+            let below = Place::At(children[i].1);
+            let below2 = Place::At(children2[i].1);
+            if !same_below(root, nodes, below, root2, nodes2, below2) {
+                return false;
+            }
+        }
+        if !same_child(nodes, children[last], nodes2, children2[last]) {
+            return false;
+        }
+        here = Place::At(children[last].1);
+        here2 = Place::At(children2[last].1);
     }
-    for i in 0..children.len() {
-        let (c, k) = children[i];
-        let (d, j) = children2[i];
-        if c != d {
-            return false;
-        }
-        if !same_postings(postings_at(nodes, k), postings_at(nodes2, j)) {
-            return false;
-        }
-        if !same_below(root, nodes, Place::At(k), root2, nodes2, Place::At(j)) {
-            return false;
-        }
-    }
-    true
 }

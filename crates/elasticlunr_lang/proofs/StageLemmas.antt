@@ -1,18 +1,22 @@
 -- On what the stages of the kept languages leave.
-use Rattle.std.proofs.Common.{◌≡◌, ℕ, List, [], ◌∷◌, Option, Some, None, MatchOption, IsSomeAnd, IsTrue, ◌↔◌, if◌then◌else◌, refl, sym, ap, ◌∙◌, subst}
+use Rattle.std.proofs.Common.{◌≡◌, ℕ, Bool, List, [], ◌∷◌, Option, Some, None, MatchOption, IsSomeAnd, IsTrue, ◌↔◌, if◌then◌else◌, option_and_then, String, refl, sym, ap, ◌∙◌, subst}
+use Rattle.std.proofs.Math.Path.{fun_ext}
 use Rattle.std.specs.Str.{all_scalars}
 use Rattle.std.specs.declared.alloc.Global.{Global}
 use Rattle.std.specs.declared.dyn_box.DynBox.{DynBox}
 use Rattle.elasticlunr_text.specs.Text.{Text, is_listed}
 use Rattle.elasticlunr_text.specs.StopWords.{has_word, without}
-use Rattle.elasticlunr_text.specs.Trimmed.{trimmed, is_word_char}
+use Rattle.elasticlunr_text.specs.Trimmed.{trimmed, unless_empty, is_word_char}
+use Rattle.elasticlunr_text.specs.Trimmers.{keeps, cut_to_class}
 use Rattle.elasticlunr_text.specs.Stems.{Stem}
 use Rattle.elasticlunr_text.specs.Stages.{MayLeaveAll}
 use Rattle.elasticlunr_text.specs.declared.lang.common.stop_words.StopWordFilter.{StopWordFilter}
+use Rattle.elasticlunr_text.specs.declared.lang.common.trimmer.RegexTrimmer.{RegexTrimmer}
 use Rattle.elasticlunr_text.specs.declared.pipeline.stage.Stage.{Stage}
-use Rattle.elasticlunr_text.specs.declared.pipeline.stage.Stage.TheVariants.{EnglishTrimmer, StopWords, EnglishStemmer}
+use Rattle.elasticlunr_text.specs.declared.pipeline.stage.Stage.TheVariants.{EnglishTrimmer, StopWords, Class, EnglishStemmer, Keep}
 use Rattle.elasticlunr_text.proofs.ScalarLemmas.{scalars-trimmed}
-use Rattle.elasticlunr_lang.specs.Languages.{unless_listed, StemOf}
+use Rattle.elasticlunr_lang.specs.Classes.{unless_listed, class_leaves}
+use Rattle.elasticlunr_lang.specs.Languages.{StemOf}
 
 -- the filter has these words
 abbrev pub HasWords : StopWordFilter → List Text → Type 0
@@ -36,6 +40,38 @@ Stemmed-StemOf (Some t) left = (there, back left)
     back : (left : Option Text) → IsSomeAnd left (Stem t) → Stemmed (Some t) left
     back None is = absurd is
     back (Some u) is = (Some u, is, refl)
+
+-- stop words and stages behind them that keep every text
+module _ (Behind : Text → Option Text → Type 0) (keeps_all : (t : Text) (left : Option Text) → Behind t left ↔ (left ≡ Some t)) (filter : StopWordFilter) (words : List Text) (has : HasWords filter words) where
+  abbrev Listed : Text → Option Text → Type 0
+  Listed t left = (kept : Option Text) × (kept ≡ without filter t) × MatchOption kept (left ≡ None) (λ u. Behind u left)
+
+  behind : (kept left : Option Text) → MatchOption kept (left ≡ None) (λ u. Behind u left) ↔ (left ≡ kept)
+  behind None left = (λ e. e, λ e. e)
+  behind (Some u) left = keeps_all u left
+
+  Listed-same : (t : Text) (left : Option Text) → IsTrue (all_scalars t) → Listed t left ↔ (left ≡ unless_listed words t)
+  Listed-same t left scalar = (
+    λ listed.
+      (behind (unless_listed words t) left).0
+      (subst (λ kept. MatchOption kept (left ≡ None) (λ u. Behind u left)) (listed.1 ∙ without-words filter words t has scalar) listed.2),
+    λ e. (unless_listed words t, sym (without-words filter words t has scalar), (behind (unless_listed words t) left).1 e),
+  )
+
+  cut-Listed : (t : Text) (left : Option Text) → IsTrue (all_scalars t) → MatchOption (unless_empty t) (left ≡ None) (λ u. Listed u left) ↔ (left ≡ option_and_then (unless_listed words) (unless_empty t))
+  cut-Listed [] left scalar = (λ e. e, λ e. e)
+  cut-Listed (c ∷ cs) left scalar = Listed-same (c ∷ cs) left scalar
+
+  class-Listed : (trimmer : RegexTrimmer) (in_class : ℕ → Bool) (token : Text) (left : Option Text) → ((c : ℕ) → keeps trimmer c ≡ in_class c) → IsTrue (all_scalars token) → ((cut : Option Text) × (cut ≡ cut_to_class trimmer token) × MatchOption cut (left ≡ None) (λ u. Listed u left)) ↔ class_leaves in_class words token left
+  class-Listed trimmer in_class token left same scalar = (
+    λ all.
+      (cut-Listed (trimmed in_class token) left (scalars-trimmed in_class token scalar)).0
+      (subst (λ cut. MatchOption cut (left ≡ None) (λ u. Listed u left)) (all.1 ∙ cuts) all.2),
+    λ e. (unless_empty (trimmed in_class token), sym cuts, (cut-Listed (trimmed in_class token) left (scalars-trimmed in_class token scalar)).1 e),
+  )
+    where
+      cuts : cut_to_class trimmer token ≡ unless_empty (trimmed in_class token)
+      cuts = ap (λ test. unless_empty (trimmed test token)) (fun_ext same)
 
 module _ {f x p calls : _} (leaves : DynBox x Global p → Text → Option Text) where
   -- trimmer, stop words, stemmer
@@ -61,3 +97,16 @@ module _ {f x p calls : _} (leaves : DynBox x Global p → Text → Option Text)
       back stem =
           subst (λ (s : List (Stage f x p calls)). MayLeaveAll leaves s token left) (sym e)
           (Some cut, refl, (unless_listed words cut, sym kept, (Stemmed-StemOf (unless_listed words cut) left).1 stem))
+
+  -- a class and stop words
+  pub class-leaves : (stages : List (Stage f x p calls)) (trimmer : RegexTrimmer) (filter : StopWordFilter) (in_class : ℕ → Bool) (words : List Text) → stages ≡ Class trimmer ∷ StopWords filter ∷ [] → ((c : ℕ) → keeps trimmer c ≡ in_class c) → HasWords filter words → (token : Text) (left : Option Text) → IsTrue (all_scalars token) → MayLeaveAll leaves stages token left ↔ class_leaves in_class words token left
+  class-leaves stages trimmer filter in_class words e same has token left scalar =
+      rw e (class-Listed (λ t left. left ≡ Some t) (λ t left. (λ h. h, λ h. h)) filter words has trimmer in_class token left same scalar)
+
+  -- the same, and a stage that keeps every token
+  pub class_and_keep-leaves : (stages : List (Stage f x p calls)) (trimmer : RegexTrimmer) (filter : StopWordFilter) (name : String Global) (in_class : ℕ → Bool) (words : List Text) → stages ≡ Class trimmer ∷ StopWords filter ∷ Keep name ∷ [] → ((c : ℕ) → keeps trimmer c ≡ in_class c) → HasWords filter words → (token : Text) (left : Option Text) → IsTrue (all_scalars token) → MayLeaveAll leaves stages token left ↔ class_leaves in_class words token left
+  class_and_keep-leaves stages trimmer filter name in_class words e same has token left scalar =
+      rw e (class-Listed (λ t left. (kept : Option Text) × (kept ≡ Some t) × MatchOption kept (left ≡ None) (λ u. left ≡ Some u)) keep filter words has trimmer in_class token left same scalar)
+    where
+      keep : (t : Text) (left : Option Text) → ((kept : Option Text) × (kept ≡ Some t) × MatchOption kept (left ≡ None) (λ u. left ≡ Some u)) ↔ (left ≡ Some t)
+      keep t left = (λ all. subst (λ kept. MatchOption kept (left ≡ None) (λ u. left ≡ Some u)) all.1 all.2, λ h. (Some t, refl, h))

@@ -1,12 +1,14 @@
+pub mod BasicLemmas
 pub mod TextLemmas
 pub mod StageLemmas
 pub mod WordSetLemmas
 pub mod RangeLemmas
 pub mod JoinLemmas
-pub mod LawLemmas
+pub mod TrimmingLaws
+pub mod CutTextLemmas
 pub mod ScalarLemmas
 pub mod FirstLemmas
-pub mod ReadingLemmas
+pub mod ItemLemmas
 pub mod TrimLemmas
 pub mod ClassTextLemmas
 pub mod BlockLemmas

@@ -1,19 +1,24 @@
 -- Parts of texts of scalars.
-use Rattle.std.proofs.Common.{◌≡◌, ℕ, Bool, true, false, ◌&&◌, List, [], ◌∷◌, ◌++◌, refl}
+use Rattle.std.proofs.Common.{◌≡◌, ℕ, zero, suc, Bool, true, List, [], ◌∷◌, ◌++◌, take, drop, refl}
 use Rattle.std.specs.Str.{all_scalars}
 use Rattle.elasticlunr_text.specs.Trimmed.{trimmed}
-use Rattle.elasticlunr_text.proofs.LawLemmas.{IsTrimmed-trimmed}
+use Rattle.elasticlunr_text.proofs.BasicLemmas.{and_first, and_second, and_both}
+use Rattle.elasticlunr_text.proofs.TrimmingLaws.{IsTrimmed-trimmed}
 
-pub and_first : (a b : Bool) → a && b ≡ true → a ≡ true
-and_first true b f = refl
-and_first false b f = cc
+-- a text of two, and the parts of one by place
+pub scalars-append : (xs ys : List ℕ) → all_scalars xs ≡ true → all_scalars ys ≡ true → all_scalars (xs ++ ys) ≡ true
+scalars-append [] ys e f = f
+scalars-append (x ∷ xs) ys e f = and_both _ _ (and_first _ _ e) (scalars-append xs ys (and_second _ _ e) f)
 
-pub and_second : (a b : Bool) → a && b ≡ true → b ≡ true
-and_second true b f = f
-and_second false b f = cc
+pub scalars-take : (i : ℕ) (xs : List ℕ) → all_scalars xs ≡ true → all_scalars (take i xs) ≡ true
+scalars-take zero xs e = refl
+scalars-take (suc i) [] e = refl
+scalars-take (suc i) (x ∷ xs) e = and_both _ _ (and_first _ _ e) (scalars-take i xs (and_second _ _ e))
 
-pub and_both : (a b : Bool) → a ≡ true → b ≡ true → a && b ≡ true
-and_both a b e f = rw (e, f) refl
+pub scalars-drop : (i : ℕ) (xs : List ℕ) → all_scalars xs ≡ true → all_scalars (drop i xs) ≡ true
+scalars-drop zero xs e = e
+scalars-drop (suc i) [] e = refl
+scalars-drop (suc i) (x ∷ xs) e = scalars-drop i xs (and_second _ _ e)
 
 -- the two parts of a text
 pub scalars-front : (xs ys : List ℕ) → all_scalars (xs ++ ys) ≡ true → all_scalars xs ≡ true

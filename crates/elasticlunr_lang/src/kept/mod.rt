@@ -1,4 +1,34 @@
 //! The kept languages, one type each.
+mod arabic;
+mod danish;
+mod dutch;
 mod english;
+mod finnish;
+mod french;
+mod german;
+mod italian;
+mod korean;
+mod norwegian;
+mod portuguese;
+mod romanian;
+mod russian;
+mod spanish;
+mod swedish;
+mod turkish;
 
+pub use arabic::Arabic;
+pub use danish::Danish;
+pub use dutch::Dutch;
 pub use english::English;
+pub use finnish::Finnish;
+pub use french::French;
+pub use german::German;
+pub use italian::Italian;
+pub use korean::Korean;
+pub use norwegian::Norwegian;
+pub use portuguese::Portuguese;
+pub use romanian::Romanian;
+pub use russian::Russian;
+pub use spanish::Spanish;
+pub use swedish::Swedish;
+pub use turkish::Turkish;

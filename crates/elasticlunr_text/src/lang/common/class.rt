@@ -1,6 +1,7 @@
 //! Classes of characters.
 ghost use Rattle.std.specs.Prelude.{◌≡◌, ℕ, IfOk};
 ghost use Rattle.std.specs.Str.{chars};
+ghost use Rattle.elasticlunr_text.specs.Text.{text_of};
 ghost use Rattle.elasticlunr_text.specs.Trimmed.{from_first, trimmed};
 
 use super::ranges::Ranges;
@@ -11,7 +12,9 @@ use unicode::properties::Script;
 /// A class of characters.
 #[derive(Drop)]
 pub enum Class {
+    /// The characters of the ranges.
     Ranges(Ranges),
+    /// The characters of the scripts.
     Scripts(Vec<Script>),
     /// ASCII letters, ASCII digits and the underscore.
     Word,
@@ -20,6 +23,7 @@ pub enum Class {
 impl Class {
     ghost use Rattle.elasticlunr_text.specs.Classes.{in_class};
 
+    /// Whether the character is in the class.
     pub fn contains(&self, c: char) -> bool
         ensures { result ≡ in_class self.now c }
     {
@@ -45,6 +49,19 @@ impl Class {
             .trim_end_matches(|c| !self.contains(c))
     }
 
+    /// The token from its first to its last character in the class. A token of which nothing is cut
+    /// comes back itself, and no memory is requested.
+    pub fn cut(&self, alloc: Global, token: String) -> Result<String, AllocError>
+        ensures { IfOk result (λ left. text_of left ≡ trimmed (in_class self.now) (text_of token)) }
+    {
+        let kept = self.trim(token.as_str());
+        if kept.len() == token.len() {
+            return Ok(token);
+        }
+        String::from_str(alloc, kept)
+    }
+
+    /// A class with the same characters.
     pub fn clone(&self, alloc: Global) -> Result<Self, AllocError>
         ensures { IfOk result (λ copy. (c : ℕ) → in_class copy c ≡ in_class self.now c) }
     {

@@ -5,7 +5,7 @@ ghost use Rattle.elasticlunr_text.specs.Ranges.{AreApart};
 
 use std::alloc::{AllocError, Global};
 
-/// Ranges of characters, in order, with a gap between any two.
+/// Ranges of characters, in order, with a gap between any two. A character is looked up by halves.
 #[derive(Drop)]
 pub struct Ranges {
     ranges: Vec<(u32, u32)>,
@@ -53,6 +53,7 @@ impl Ranges {
         }
     }
 
+    /// The same ranges.
     pub fn clone(&self) -> Result<Self, AllocError>
         ensures { IfOk result (λ copy. copy.ranges.items ≡ self.now.ranges.items) }
     {

@@ -9,7 +9,7 @@ use crate::pipeline::PipelineFn;
 use std::alloc::{AllocError, Global};
 use std::collections::HashSet;
 
-/// Drops each token that is a stop word.
+/// Drops each token that equals a stop word, character by character: nothing is lower-cased.
 #[derive(Drop)]
 pub struct StopWordFilter {
     name: String,

@@ -13,7 +13,8 @@ use crate::pipeline::PipelineFn;
 use std::alloc::{AllocError, Global};
 use unicode::properties::Script;
 
-/// Cuts what is not of a class off both ends of a token.
+/// Cuts off both ends of a token what is not of a class of characters; drops a token of which nothing
+/// is left.
 #[derive(Drop)]
 pub struct RegexTrimmer {
     name: String,
@@ -22,6 +23,10 @@ pub struct RegexTrimmer {
 
 impl RegexTrimmer {
     /// The trimmer of the characters that a class text names.
+    ///
+    /// A class text is one or more items: a range `x-y`, a character that no `-` follows, or
+    /// `\p{Name}`, the set that the crate `unicode` finds by that name. The characters of `\[]^-&~` stand
+    /// for themselves nowhere. Every other text is `BadClass`.
     pub fn new(alloc: Global, name: &str, word_chars: &str) -> Result<Self, IndexError>
         ensures name { IfOk result (λ trimmer. trimmer_name trimmer ≡ name.now) }
         ensures class { IfOk result (λ trimmer. Names (chars word_chars.now) (keeps trimmer)) }
@@ -34,7 +39,8 @@ impl RegexTrimmer {
         Ok(RegexTrimmer { name, class })
     }
 
-    /// The trimmer of the characters of some scripts.
+    /// The trimmer of the characters of some scripts. No script gives the class without characters,
+    /// whose trimmer drops every token.
     pub fn of_scripts(alloc: Global, name: &str, scripts: &[Script]) -> Result<Self, IndexError>
         ensures name { IfOk result (λ trimmer. trimmer_name trimmer ≡ name.now) }
         ensures class { IfOk result (λ trimmer. (c : ℕ) → keeps trimmer c ≡ in_scripts scripts.now c) }
@@ -67,12 +73,12 @@ impl PipelineFn for RegexTrimmer {
         self.name.clone()
     }
 
+    /// The token from its first to its last character of the class, `None` where there is none.
     fn filter(&self, alloc: Global, token: String) -> Result<Option<String>, AllocError> {
-        let left = self.class.trim(token.as_str());
+        let left = self.class.cut(alloc, token)?;
         if left.is_empty() {
             return Ok(None);
         }
-        let copy = String::from_str(alloc, left)?;
-        Ok(Some(copy))
+        Ok(Some(left))
     }
 }

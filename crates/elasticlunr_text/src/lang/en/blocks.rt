@@ -5,28 +5,28 @@ ghost use Rattle.elasticlunr_text.specs.Blocks.{MAbove0, MAbove1, MIs1, HasVowel
 ghost use Rattle.elasticlunr_text.specs.Reading.{place_after, rank, reading_after, places, short_after};
 ghost use Rattle.elasticlunr_text.specs.declared.lang.en.blocks.Place.{Place};
 
-// Whether the letter is one of `aeiou`.
+/// Whether the letter is one of `aeiou`.
 pub fn is_vowel(c: char) -> bool
     ensures { result ≡ is_vowel c }
 {
     matches!(c, 'a' | 'e' | 'i' | 'o' | 'u')
 }
 
-// Whether the letter is one of `aeiouy`.
+/// Whether the letter is one of `aeiouy`.
 pub fn is_vowel_or_y(c: char) -> bool
     ensures { result ≡ is_vowel_or_y c }
 {
     matches!(c, 'a' | 'e' | 'i' | 'o' | 'u' | 'y')
 }
 
-// Whether the letter is one of `aeiouwxy`.
+/// Whether the letter is one of `aeiouwxy`.
 fn is_vowel_or_wxy(c: char) -> bool
     ensures { result ≡ is_vowel_or_wxy c }
 {
     matches!(c, 'a' | 'e' | 'i' | 'o' | 'u' | 'w' | 'x' | 'y')
 }
 
-// The block that a text, read as consonants, vowels, consonants and so on, ends in.
+/// The block that a text, read as consonants, vowels, consonants and so on, ends in.
 #[derive(Clone, Copy)]
 enum Place {
     Onset,
@@ -74,7 +74,7 @@ impl Place {
     }
 }
 
-// Both readings of a text, side by side: its first `y` as a vowel, and as a consonant.
+/// Both readings of a text, side by side: its first `y` as a vowel, and as a consonant.
 #[derive(Clone, Copy)]
 enum Reading {
     Start,
@@ -97,7 +97,7 @@ impl Reading {
         }
     }
 
-    // The places that the two readings end in.
+    /// The places that the two readings end in.
     fn places(self) -> (Place, Place)
         ensures { result ≡ places self }
     {
@@ -115,7 +115,11 @@ fn read(text: &str) -> Reading
         .fold(Reading::Start, |reading, c| reading.after(c))
 }
 
-// The text is `[C] V C rest`.
+/// Whether the text is `[C] V C rest`: a C block or nothing, a V block, a C block and any rest.
+///
+/// A C block has a first letter that is none of `aeiou`, and others that are none of `aeiouy`; a V
+/// block has a first letter that is one of `aeiouy`, and others that are each one of `aeiou`. A first
+/// `y` may open either: one split of the text is enough. One pass, no memory.
 pub fn m_above_0(text: &str) -> bool
     ensures { IsTrue result ↔ MAbove0 (chars text.now) }
 {
@@ -123,7 +127,7 @@ pub fn m_above_0(text: &str) -> bool
     vowel.is_m_above_0() || consonant.is_m_above_0()
 }
 
-// The text is `[C] V C V C rest`.
+/// Whether the text is `[C] V C V C rest`, with the blocks of `m_above_0`. One pass, no memory.
 pub fn m_above_1(text: &str) -> bool
     ensures { IsTrue result ↔ MAbove1 (chars text.now) }
 {
@@ -131,7 +135,7 @@ pub fn m_above_1(text: &str) -> bool
     vowel.is_m_above_1() || consonant.is_m_above_1()
 }
 
-// The text is `[C] V C` or `[C] V C V`.
+/// Whether the text is `[C] V C` or `[C] V C V`, with the blocks of `m_above_0`. One pass, no memory.
 pub fn m_is_1(text: &str) -> bool
     ensures { IsTrue result ↔ MIs1 (chars text.now) }
 {
@@ -139,7 +143,7 @@ pub fn m_is_1(text: &str) -> bool
     vowel.is_m_1() || consonant.is_m_1()
 }
 
-// The text is `[C]`, one of `aeiouy` and a rest.
+/// Whether the text is a C block or nothing, one of `aeiouy`, and any rest. One pass, no memory.
 pub fn has_vowel(text: &str) -> bool
     ensures { IsTrue result ↔ HasVowel (chars text.now) }
 {
@@ -147,7 +151,7 @@ pub fn has_vowel(text: &str) -> bool
     vowel.has_vowel() || consonant.has_vowel()
 }
 
-// How much a text has of a C block, one of `aeiouy` and one letter that is none of `aeiouwxy`.
+/// How much a text has of a C block, one of `aeiouy` and one letter that is none of `aeiouwxy`.
 #[derive(Clone, Copy)]
 enum Short {
     Begun,
@@ -177,7 +181,8 @@ fn read_short(text: &str) -> Short
     text.chars().fold(Short::Begun, |short, c| short.after(c))
 }
 
-// The text is a C block, one of `aeiouy` and one letter that is none of `aeiouwxy`.
+/// Whether the text is a C block, one of `aeiouy`, and one last character that is none of `aeiouwxy`.
+/// One pass, no memory.
 pub fn is_short(text: &str) -> bool
     ensures { IsTrue result ↔ IsShort (chars text.now) }
 {

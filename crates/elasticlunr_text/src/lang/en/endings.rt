@@ -4,7 +4,7 @@ ghost use Rattle.std.specs.List.{list_all};
 ghost use Rattle.elasticlunr_text.specs.Stems.{IsStem, EndsWith, EndsAfterStem, IsCut, HasNoCut, listed};
 ghost use Rattle.elasticlunr_text.specs.Ascii.{all_ascii};
 
-// Whether the text is a stem: not empty, and without a line feed.
+/// Whether the text is a stem: not empty, and without a line feed.
 fn is_stem(text: &str) -> bool
     ensures { IsTrue result ↔ IsStem (chars text.now) }
 {
@@ -17,7 +17,7 @@ fn has_no_line_feed(text: &str) -> bool
     text.chars().all(|c| c != '\n')
 }
 
-// What stands before the suffix, where that is a stem.
+/// What stands before the suffix, where that is a stem.
 pub fn stem_before<'a>(word: &'a str, suffix: &str) -> Option<&'a str>
     requires { IsTrue (all_ascii suffix.now) }
     ensures stem { IfSome result (λ s. IsStem (chars s.now)) }
@@ -30,7 +30,7 @@ pub fn stem_before<'a>(word: &'a str, suffix: &str) -> Option<&'a str>
     if is_stem(stem) { Some(stem) } else { None }
 }
 
-// The last letter, and what stands before it.
+/// The last letter, and what stands before it.
 pub fn split_last(text: &str) -> Option<(&str, char)>
     ensures split { IfSome result (λ p. chars text.now ≡ chars p.0.now ++ p.1 ∷ []) }
     ensures shorter { IfSome result (λ p. length p.0.now < length text.now) }
@@ -43,7 +43,7 @@ pub fn split_last(text: &str) -> Option<(&str, char)>
     Some((letters.as_str(), c))
 }
 
-// The stem and the letter that stand before the suffix.
+/// The stem and the letter that stand before the suffix.
 pub fn stem_and_letter_before<'a>(word: &'a str, suffix: &str) -> Option<(&'a str, char)>
     requires { IsTrue (all_ascii suffix.now) }
     ensures stem { IfSome result (λ p. IsStem (chars p.0.now)) }
@@ -59,7 +59,7 @@ pub fn stem_and_letter_before<'a>(word: &'a str, suffix: &str) -> Option<(&'a st
     if is_stem(stem) { Some((stem, c)) } else { None }
 }
 
-// What stands before the suffix.
+/// What stands before the suffix.
 pub fn before<'a>(word: &'a str, suffix: &str) -> Option<&'a str>
     requires { IsTrue (all_ascii suffix.now) }
     ensures split { IfSome result (λ s. chars word.now ≡ chars s.now ++ suffix.now) }
@@ -68,6 +68,7 @@ pub fn before<'a>(word: &'a str, suffix: &str) -> Option<&'a str>
     word.strip_suffix(suffix)
 }
 
+/// Whether the word ends with the suffix.
 pub fn ends_with(word: &str, suffix: &str) -> bool
     requires { IsTrue (all_ascii suffix.now) }
     ensures { IsTrue result ↔ EndsWith suffix.now (chars word.now) }
@@ -75,6 +76,7 @@ pub fn ends_with(word: &str, suffix: &str) -> bool
     before(word, suffix).is_some()
 }
 
+/// Whether the word is a stem and the suffix.
 pub fn ends_after_stem(word: &str, suffix: &str) -> bool
     requires { IsTrue (all_ascii suffix.now) }
     ensures { IsTrue result ↔ EndsAfterStem suffix.now (chars word.now) }
@@ -82,7 +84,7 @@ pub fn ends_after_stem(word: &str, suffix: &str) -> bool
     stem_before(word, suffix).is_some()
 }
 
-// The word loses the suffix.
+/// The word loses the suffix.
 pub fn drop_suffix(word: &mut String, suffix: &str)
     requires ascii { IsTrue (all_ascii suffix.now) }
     requires ends { EndsWith suffix.now (chars (string_bytes word.old)) }
@@ -93,7 +95,7 @@ pub fn drop_suffix(word: &mut String, suffix: &str)
     word.truncate(word.len() - suffix.len());
 }
 
-// The word loses its last letter.
+/// The word loses its last letter.
 pub fn drop_last(word: &mut String)
     requires { (front : List ℕ) × (c : ℕ) × (chars (string_bytes word.old) ≡ front ++ c ∷ []) }
     ensures { (front : List ℕ) (c : ℕ) → chars (string_bytes word.old) ≡ front ++ c ∷ [] → chars (string_bytes word.new) ≡ front }
@@ -101,7 +103,7 @@ pub fn drop_last(word: &mut String)
     let _ = word.pop();
 }
 
-// An `e` is appended, for which the word has room.
+/// An `e` is appended, for which the word has room.
 pub fn push_e(word: &mut String)
     requires { string_len word.old < string_capacity word.old }
     ensures { chars (string_bytes word.new) ≡ chars (string_bytes word.old) ++ codes "e" }
@@ -109,7 +111,7 @@ pub fn push_e(word: &mut String)
     word.push('e').unwrap();
 }
 
-// Puts the ending in the place of the suffix, which isn't shorter.
+/// Puts the ending in the place of the suffix, which isn't shorter.
 pub fn replace_suffix(word: &mut String, suffix: &str, ending: &str)
     requires ascii_suffix { IsTrue (all_ascii suffix.now) }
     requires ascii_ending { IsTrue (all_ascii ending.now) }
@@ -121,7 +123,7 @@ pub fn replace_suffix(word: &mut String, suffix: &str, ending: &str)
     word.push_str(ending).unwrap();
 }
 
-// A word cut into a stem and a listed suffix, with what stands in the suffix's place.
+/// A word cut into a stem and a listed suffix, with what stands in the suffix's place.
 #[derive(Clone, Copy)]
 pub struct Cut<'a> {
     pub stem: &'a str,
@@ -129,7 +131,7 @@ pub struct Cut<'a> {
     pub ending: &'static str,
 }
 
-// The cut with the shortest stem.
+/// The cut with the shortest stem.
 pub fn shortest_cut<'a>(word: &'a str, endings: &[(&'static str, &'static str)]) -> Option<Cut<'a>>
     requires { IsTrue (list_all (λ e. all_ascii e.0) (listed endings.now)) }
     ensures found { IfSome result (λ c. IsCut (listed endings.now) (chars word.now) (chars c.stem.now) c.suffix.now c.ending.now) }

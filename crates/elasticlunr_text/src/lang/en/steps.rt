@@ -67,7 +67,7 @@ const STEP_4: [(&str, &str); 18] = [
     ("ize", ""),
 ];
 
-// Writes the letter over the first one, which is ASCII too.
+/// Writes the letter over the first one, which is ASCII too.
 pub fn set_first(word: &mut String, letter: char)
     requires ascii { letter < 128 }
     requires first { (c : ℕ) × (rest : List ℕ) × (c < 128) × (chars (string_bytes word.old) ≡ c ∷ rest) }
@@ -77,6 +77,7 @@ pub fn set_first(word: &mut String, letter: char)
     word.insert(0, letter).unwrap();
 }
 
+/// All steps, in order.
 pub fn all(word: &mut String)
     ensures { Steps (chars (string_bytes word.old)) (chars (string_bytes word.new)) }
 {
@@ -140,7 +141,7 @@ fn treat_eed(word: &mut String) -> bool
     true
 }
 
-// A stem with a vowel, and the suffix, becomes the stem, mended.
+/// A stem with a vowel, and the suffix, becomes the stem, mended.
 fn lose_ending(word: &mut String, suffix: &str) -> bool
     requires ascii { IsTrue (all_ascii suffix.now) }
     requires room { 0 < length suffix.now }
@@ -210,7 +211,7 @@ fn is_double(word: &str) -> bool
     before == last && !stays_double(last)
 }
 
-// Whether the letter is one of `aeiouylsz`, which stay where they are doubled.
+/// Whether the letter is one of `aeiouylsz`, which stay where they are doubled.
 fn stays_double(c: char) -> bool
     ensures { result ≡ is_one_of (codes "aeiouylsz") c }
 {

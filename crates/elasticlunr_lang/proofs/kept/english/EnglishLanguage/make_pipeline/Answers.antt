@@ -1,4 +1,4 @@
-use Rattle.elasticlunr_lang.specs.Languages.{english_stop_words}
+use Rattle.elasticlunr_lang.specs.StopWords.{english_stop_words}
 use Rattle.elasticlunr_lang.proofs.StageLemmas.{english-leaves}
 use Rattle.elasticlunr_lang.proofs.kept.english.EnglishLanguage.make_pipeline.Goals as goal
 

@@ -1,0 +1,52 @@
+//! Turkish.
+ghost use Rattle.std.specs.Prelude.{codes};
+ghost use Rattle.elasticlunr_lang.specs.Words.{words};
+ghost use Rattle.elasticlunr_lang.specs.Classes.{class_stages, class_leaves, is_latin};
+ghost use Rattle.elasticlunr_lang.specs.StopWords.{turkish_stop_words};
+
+use crate::language::Language;
+use crate::stages::class_pipeline;
+use crate::stop_words::tr;
+use crate::words::tokenize_whitespace;
+use elasticlunr_text::pipeline::Pipeline;
+use std::alloc::{AllocError, Global};
+use unicode::properties::Script;
+
+/// Turkish: a trimmer of the characters of the Latin script, and stop words.
+#[derive(Clone, Copy)]
+pub struct Turkish {}
+
+impl Turkish {
+    /// The language. It has no settings.
+    pub fn new() -> Self {
+        Turkish {}
+    }
+}
+
+impl Language for Turkish {
+    ghost name_of = { λ _. codes "Turkish" };
+
+    ghost code_of = { λ _. codes "tr" };
+
+    ghost tokens_of = { λ _. words };
+
+    ghost stages_of = { λ _. class_stages (codes "tr") };
+
+    ghost leaves_of = { λ _. class_leaves is_latin turkish_stop_words };
+
+    fn name(&self, alloc: Global) -> Result<String, AllocError> {
+        String::from_str(alloc, "Turkish")
+    }
+
+    fn code(&self, alloc: Global) -> Result<String, AllocError> {
+        String::from_str(alloc, "tr")
+    }
+
+    fn tokenize(&self, alloc: Global, text: &str) -> Result<Vec<String>, AllocError> {
+        tokenize_whitespace(alloc, text)
+    }
+
+    fn make_pipeline(&self, alloc: Global, empty: Pipeline) -> Result<Pipeline, AllocError> {
+        class_pipeline(alloc, "tr", Script::Latin, &tr::STOP_WORDS, empty)
+    }
+}

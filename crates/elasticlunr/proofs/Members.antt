@@ -1,14 +1,12 @@
 -- Members of an object: what is found at a key, and their order.
-use Rattle.std.proofs.Common.{◌≡◌, ◌≢◌, ◌⊎◌, inl, inr, List, ℕ, Bool, true, false, true≢false, Option, Some, None, bytes_eq, refl, sym, ap, ◌∙◌, Less, Equal, Greater}
+use Rattle.std.proofs.Common.{◌≡◌, ◌≢◌, ◌⊎◌, inl, inr, true, false, true≢false, Some, None, bytes_eq, refl, sym, ap, ◌∙◌, Less, Equal, Greater}
 use Rattle.std.proofs.lemmas.Cmp.{nat_list_cmp_total, tied_itself}
 use Rattle.std.proofs.lemmas.Slice.Eq.{bytes_eq-Decides}
 use Rattle.std.proofs.lemmas.Map.Text.{is_eq-slice_cmp}
-use Rattle.std.specs.Ordering.{nat_cmp, match_ordering, ordering_reverse, is_eq}
-use Rattle.std.specs.Cmp.Lexicographic.{slice_cmp}
+use Rattle.std.specs.Ordering.{match_ordering, ordering_reverse, is_eq}
 use Rattle.elasticlunr_text.specs.Text.{Bytes, text_cmp}
 use Rattle.serde_json.specs.Data.{Data, Members, no_members, member, put}
 use Rattle.serde_json.specs.Find.{get_member}
-use Rattle.serde_json.proofs.Views.{get_member-put, get_member-put_other}
 use Rattle.elasticlunr_store.specs.Tree.{IsBelow, HasKeysInOrder}
 
 -- texts that tie are equal

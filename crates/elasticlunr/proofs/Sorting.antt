@@ -1,5 +1,5 @@
 -- The members of the tries, in the order of their names, are those that are put in one after the other.
-use Rattle.std.proofs.Common.{◌≡◌, ◌≢◌, inl, inr, ℕ, List, [], ◌∷◌, ◌++◌, length, arith, Bool, true, false, cond, not, ◌&&◌, ◌||◌, true≢false, Option, Some, None, option_map, map, String, Global, string_bytes, bytes_eq, refl, sym, ap, subst, ◌∙◌, append_assoc, Less, Equal, Greater, Ordering}
+use Rattle.std.proofs.Common.{◌≡◌, inl, inr, List, [], ◌∷◌, length, arith, Bool, true, false, cond, not, ◌&&◌, ◌||◌, true≢false, Option, Some, None, option_map, map, String, Global, string_bytes, bytes_eq, refl, sym, ap, subst, ◌∙◌, Less, Equal, Greater, Ordering}
 use Rattle.std.proofs.lemmas.Slice.Eq.{bytes_eq-Decides}
 use Rattle.std.specs.Borrow.{Bor}
 use Rattle.std.specs.List.{zip, AllByRecursion}
@@ -83,7 +83,7 @@ module _ (ms : Members) where
       let parts = both_true (has_name name names) (all_differ names) differ in
       let itself : bytes_eq name name ≡ true = (bytes_eq-Decides name name).1 refl in
       let here : Finds (Some table) (get_member name ms) = subst (λ o. Finds o (get_member name ms)) (ap (λ b. last_under name (cond b (Some table) None) (zip names tables)) itself ∙ last_skips name (Some table) names tables parts.0)
-          (found name (ap (λ b. b || has_name name names) itself)) in
+      (found name (ap (λ b. b || has_name name names) itself)) in
       let rest = values_at names tables (omega arith) parts.1 (λ q there. elim (bytes_eq name q) as (λ b. bytes_eq name q ≡ b → Finds (last_under q None (zip names tables)) (get_member q ms)) [
         | true ↦ λ e. absurd (true≢false (sym there ∙ ap (λ x. has_name x names) (sym ((bytes_eq-Decides name q).0 e)) ∙ parts.0))
         | false ↦ λ e. subst (λ b. Finds (last_under q (cond b (Some table) None) (zip names tables)) (get_member q ms)) e (found q (either (bytes_eq name q) (has_name q names) there))

@@ -1,5 +1,5 @@
 -- A value tells what it was printed of.
-use Rattle.std.proofs.Common.{◌≡◌, ℕ, zero, suc, List, [], ◌∷◌, length, arith, Bool, true, false, not, ◌&&◌, ◌||◌, true≢false, Some, bytes_eq, refl, sym, ap, subst, ◌∙◌}
+use Rattle.std.proofs.Common.{◌≡◌, suc, List, [], ◌∷◌, length, arith, Bool, true, false, not, ◌&&◌, ◌||◌, true≢false, Some, bytes_eq, refl, sym, ap, subst, ◌∙◌}
 use Rattle.std.proofs.lemmas.Slice.Eq.{bytes_eq-Decides}
 use Rattle.std.specs.Prelude.{All}
 use Rattle.std.specs.List.{zip}
@@ -12,7 +12,7 @@ use Rattle.serde_json.specs.Find.{get_member}
 use Rattle.serde_json.proofs.Views.{get_member-put, get_member-put_other}
 use Rattle.elasticlunr.specs.Fields.{has_name, all_differ}
 use Rattle.elasticlunr.specs.Standing.{Plan}
-use Rattle.elasticlunr.specs.Printed.{texts, members_after, index_object, AreTrieValues, no_tries, trie, IsValueOf, PrintAlike}
+use Rattle.elasticlunr.specs.Printed.{texts, members_after, index_object, AreTrieValues, trie, IsValueOf, PrintAlike}
 use Rattle.elasticlunr.proofs.Sorting.{as_many}
 
 same_texts : (xs ys : List Bytes) → texts xs ≡ texts ys → xs ≡ ys
@@ -57,8 +57,8 @@ told (name ∷ names) (x ∷ xs) [] before after differ first second same = absu
 told (name ∷ names) (x ∷ xs) (y ∷ ys) before after differ first second same =
     let parts = both_true (has_name name names) (all_differ names) differ in
     let both : Some x ≡ Some y = sym (get_member-put name x before) ∙ sym (untouched name names xs (put name x before) parts.0)
-        ∙ same name (ap (λ b. b || has_name name names) ((bytes_eq-Decides name name).1 refl))
-        ∙ untouched name names ys (put name y after) parts.0 ∙ get_member-put name y after in
+    ∙ same name (ap (λ b. b || has_name name names) ((bytes_eq-Decides name name).1 refl))
+    ∙ untouched name names ys (put name y after) parts.0 ∙ get_member-put name y after in
     let here : x ≡ y = cc (both) in
     let more = told names xs ys (put name x before) (put name y after) parts.1 (omega arith) (omega arith) (λ q there. same q (either (bytes_eq name q) (has_name q names) there)) in
     λ i. here i ∷ more i
@@ -124,7 +124,7 @@ told_by_value one_table one_contents plan other tables others contents kept v di
     let fields = same_texts plan.fields other.fields names in
     let together = index ∙ ap (λ ns. members_after no_members (zip ns two.tries)) (sym fields) in
     let tries = told plan.fields one.tries two.tries no_members no_members differ (as_many tables one.tries one.each_trie ∙ many)
-        (as_many others two.tries two.each_trie ∙ many_others ∙ ap length (sym fields)) (λ q there. ap (get_member q) together) in (
+    (as_many others two.tries two.each_trie ∙ many_others ∙ ap length (sym fields)) (λ q there. ap (get_member q) together) in (
       record { same_fields = fields; same_reference_field = reference; same_language = language; same_stages = same_texts plan.stages other.stages stages },
       same_tables one_table tables others two.tries are are_others (subst (AreTrieValues tables) tries one.each_trie) two.each_trie,
       one_contents contents kept two.documents (sym documents ∙ one.store) two.store,

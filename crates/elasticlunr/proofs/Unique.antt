@@ -1,19 +1,18 @@
 -- What settings and commands leave is one.
-use Rattle.std.proofs.Common.{◌≡◌, ◌≢◌, ◌↔◌, ◌≤◌, ◌*◌, ℕ, zero, suc, List, [], ◌∷◌, length, arith, Bool, true, false, true≢false, is_some, IsTrue, Option, Some, None, IfSome, unwrap_or, option_and_then, refl, sym, ap, subst, ◌∙◌}
+use Rattle.std.proofs.Common.{◌≡◌, ◌≤◌, ℕ, zero, suc, List, [], ◌∷◌, length, arith, true≢false, is_some, Option, Some, None, IfSome, unwrap_or, option_and_then, refl, sym, ap, subst, ◌∙◌}
 use Rattle.std.proofs.lemmas.Cmp.{nat_list_cmp_total}
-use Rattle.std.specs.Prelude.{IsSomeAnd}
 use Rattle.std.specs.FinMap.{slice_cmp-IsAntisymmetric, nat_cmp-IsAntisymmetric}
 use Rattle.std.specs.List.{slice_get}
 use Rattle.std.specs.FinMap as map
 use Rattle.elasticlunr_text.specs.Text.{Text, Bytes, text_cmp}
-use Rattle.elasticlunr_store.specs.Table.{Table, Postings, knows, postings, posting}
+use Rattle.elasticlunr_store.specs.Table.{Table, Postings, posting}
 use Rattle.elasticlunr_store.specs.Tree.{IsTrieValue}
 use Rattle.elasticlunr_store.specs.Contents.{Contents, LengthMap, IsContents, length_at}
 use Rattle.serde_json.specs.Data.{Data}
 use Rattle.elasticlunr.specs.Root.{IsRoot}
 use Rattle.elasticlunr.specs.History.{Commands, Agree}
-use Rattle.elasticlunr.specs.Standing.{Plan, IsPosting, occurrences, IsTableOf, IsContentsOf, Holds}
-use Rattle.elasticlunr.specs.Printed.{index_object, AreTrieValues, no_tries, trie, IsValueOf, IsValue}
+use Rattle.elasticlunr.specs.Standing.{Plan, IsPosting, occurrences, IsTableOf, IsContentsOf}
+use Rattle.elasticlunr.specs.Printed.{index_object, AreTrieValues, trie, IsValueOf, IsValue}
 use Rattle.elasticlunr.proofs.Agreeing.{holds_agreed}
 
 -- maps with texts as keys that find the same are one
@@ -74,7 +73,7 @@ one_store plan commands c d one two =
     let save : c.save ≡ d.save = one.save ∙ sym two.save in
     let texts : c.texts ≡ d.texts = same_finds c.texts d.texts (λ r. one.texts r ∙ sym (two.texts r)) in
     let lengths : c.lengths ≡ d.lengths = same_finds c.lengths d.lengths (λ r.
-        lengths_at c d one.are_contents two.are_contents (λ q field. one.lengths q field ∙ sym (two.lengths q field)) r (map.get c.lengths r) (map.get d.lengths r) refl refl) in
+    lengths_at c d one.are_contents two.are_contents (λ q field. one.lengths q field ∙ sym (two.lengths q field)) r (map.get c.lengths r) (map.get d.lengths r) refl refl) in
     λ i. record { save = save i; texts = texts i; lengths = lengths i }
 
 -- what the store promises of a table: it has one trie value at most

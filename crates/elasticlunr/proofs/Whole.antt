@@ -5,14 +5,14 @@ use Rattle.std.specs.List.{zip}
 use Rattle.std.specs.FinMap as map
 use Rattle.elasticlunr_text.specs.Text.{Text, Bytes, text_cmp}
 use Rattle.elasticlunr_store.specs.Table.{Table, postings}
-use Rattle.elasticlunr_store.specs.Tree.{IsTree, AreParts, IsTrieValue, frequencies, HasKeysInOrder}
+use Rattle.elasticlunr_store.specs.Tree.{IsTree, AreParts, IsTrieValue, frequencies}
 use Rattle.elasticlunr_store.specs.Contents.{Contents, store_value}
 use Rattle.elasticlunr_store.specs.Maps.{members, keyed}
-use Rattle.serde_json.specs.Data.{Data, null, boolean, number, string, array, object, unsigned, Items, Members, no_members, member, put}
+use Rattle.serde_json.specs.Data.{Data, null, boolean, number, string, array, object, unsigned, Members, no_members, member, put}
 use Rattle.serde_json.specs.Find.{get_member}
 use Rattle.serde_json.specs.Written.{has_float, items_have_float, members_have_float}
 use Rattle.elasticlunr.specs.Standing.{Plan}
-use Rattle.elasticlunr.specs.Printed.{texts, members_after, object_of, index_object, AreTrieValues, no_tries, trie, IsValueOf}
+use Rattle.elasticlunr.specs.Printed.{texts, members_after, AreTrieValues, trie, IsValueOf}
 use Rattle.elasticlunr.proofs.Members.{AreFound, all_found}
 
 neither : (a b : Bool) → a ≡ false → b ≡ false → (a || b) ≡ false
@@ -108,6 +108,6 @@ pub value_whole : (plan : Plan) (tables : List Table) (contents : Contents) (val
 value_whole plan tables contents value is =
     ap has_float is.whole
     ∙ neither _ _ (ap has_float is.store ∙ store_whole contents)
-      (neither _ _ (texts_whole plan.fields)
-      (neither _ _ (tries_whole plan.fields tables is.tries no_members is.each_trie refl)
-      (neither _ _ (texts_whole plan.stages) refl)))
+    (neither _ _ (texts_whole plan.fields)
+    (neither _ _ (tries_whole plan.fields tables is.tries no_members is.each_trie refl)
+    (neither _ _ (texts_whole plan.stages) refl)))

@@ -1,10 +1,9 @@
 -- Tokens that are written one after the other.
-use Rattle.std.proofs.Common.{◌≡◌, List, [], ◌∷◌, ◌++◌, codes, refl, ap, ◌∙◌, append_assoc}
+use Rattle.std.proofs.Common.{◌≡◌, List, [], ◌∷◌, ◌++◌, codes, ap, ◌∙◌, append_assoc}
 use Rattle.json.specs.Token.{Token}
 use Rattle.json.specs.Tree.{json_tokens}
-use Rattle.serde_json.specs.Data.{Data, string, array}
+use Rattle.serde_json.specs.Data.{Data, array}
 use Rattle.serde_json.specs.Written.{outline}
-use Rattle.serde_json.specs.Data.{object}
 use Rattle.std.specs.List.{zip}
 use Rattle.elasticlunr.specs.Standing.{Plan}
 use Rattle.elasticlunr.specs.Printed.{texts, object_of, index_object}

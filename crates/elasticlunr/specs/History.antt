@@ -67,3 +67,15 @@ pub record AgreeCompacted (left right : Commands) : Type 0 where
 -- the two are printed alike
 abbrev pub Agree : Commands → Commands → Type 0
 Agree left right = (left ≡ right) ⊎ (AgreeOnEach left right ⊎ AgreeCompacted left right)
+
+-- documents are added and nothing else is done, and each reference is added once
+abbrev pub AddsEachOnce : Commands → Type 0
+AddsEachOnce none = Unit {0}
+AddsEachOnce (commands ▸ add d) = (now commands d.reference ≡ None) × AddsEachOnce commands
+AddsEachOnce (commands ▸ remove r) = ⊥
+AddsEachOnce (commands ▸ compact) = ⊥
+
+-- what is done to a new index to have the current documents in it, each added once, in some order
+pub record IsFresh (commands fresh : Commands) : Type 0 where
+  pub once : AddsEachOnce fresh
+  pub same : (r : Bytes) → now fresh r ≡ now commands r

@@ -8,7 +8,7 @@ ghost use Rattle.serde_json.specs.Data.{Data, array, put};
 ghost use Rattle.serde_json.specs.View.{view, members_view};
 ghost use Rattle.serde_json.specs.Written.{has_float};
 
-use super::Parts;
+use super::{ELASTICLUNR_VERSION, Parts};
 use elasticlunr_store::InvertedIndex;
 use elasticlunr_text::IndexError;
 use serde_json::{Map, Value};
@@ -21,15 +21,20 @@ pub fn index_value(alloc: Global, parts: Parts<'_>) -> Result<Value, IndexError>
     ensures memory { IsOkUnless result Memory }
 {
     let documents = parts.store.to_value()?;
+    let fields = names_value(alloc, parts.fields)?;
     let tries = tries_value(alloc, parts.fields, parts.tries)?;
+    let language = Value::try_from_str(alloc, parts.language)?;
+    let stages = names_value(alloc, parts.stages)?;
+    let reference = Value::try_from_str(alloc, parts.ref_field)?;
+    let version = Value::try_from_str(alloc, ELASTICLUNR_VERSION)?;
     let mut members = Map::new(alloc);
     put_member(alloc, &mut members, "documentStore", documents)?;
-    put_member(alloc, &mut members, "fields", names_value(alloc, parts.fields)?)?;
+    put_member(alloc, &mut members, "fields", fields)?;
     put_member(alloc, &mut members, "index", tries)?;
-    put_member(alloc, &mut members, "lang", Value::try_from_str(alloc, parts.language)?)?;
-    put_member(alloc, &mut members, "pipeline", names_value(alloc, parts.stages)?)?;
-    put_member(alloc, &mut members, "ref", Value::try_from_str(alloc, parts.ref_field)?)?;
-    put_member(alloc, &mut members, "version", Value::try_from_str(alloc, "0.9.5")?)?;
+    put_member(alloc, &mut members, "lang", language)?;
+    put_member(alloc, &mut members, "pipeline", stages)?;
+    put_member(alloc, &mut members, "ref", reference)?;
+    put_member(alloc, &mut members, "version", version)?;
     Ok(Value::Object(members))
 }
 

@@ -7,7 +7,7 @@ ghost use Rattle.elasticlunr.specs.Printed.{texts};
 ghost use Rattle.elasticlunr.specs.Parts.{IsPrinted};
 ghost use Rattle.elasticlunr.specs.Sorted.{IsByName, WritesTries};
 
-use super::Parts;
+use super::{ELASTICLUNR_VERSION, Parts};
 use elasticlunr_store::{InvertedIndex, Tokens};
 use json::Token;
 use std::alloc::{AllocError, Global};
@@ -37,7 +37,7 @@ pub fn write_index<W: Tokens>(
     out.token(Token::Key("ref"))?;
     out.token(Token::String(parts.ref_field))?;
     out.token(Token::Key("version"))?;
-    out.token(Token::String("0.9.5"))?;
+    out.token(Token::String(ELASTICLUNR_VERSION))?;
     out.token(Token::EndObject)?;
     Ok(())
 }

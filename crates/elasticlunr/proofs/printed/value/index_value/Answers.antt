@@ -1,5 +1,4 @@
-use Rattle.std.proofs.Common.{◌≡◌, ap, ◌∙◌, refl, codes}
-use Rattle.serde_json.specs.Data.{string}
+use Rattle.std.proofs.Common.{ap, ◌∙◌}
 use Rattle.serde_json.specs.View.{view, members_view}
 use Rattle.serde_json.specs.declared.value.Value.{Object}
 use Rattle.serde_json.proofs.Views.{view-Object}
@@ -18,7 +17,7 @@ returns-clause-value c =
       store = c.in_ok-documents.ensures.value;
       whole = view-Object c.put_member-7.new.members
           ∙ seven_members (plan_of c.args.parts) tries.0 (view c.in_ok-documents.documents) _ _ _ _ _ _ _ _ _ _ _ _ _ _
-          c.in_ok-names_value.ensures tries.2 c.in_ok-try_from_str.ensures c.in_ok-names_value-2.ensures c.in_ok-try_from_str-2.ensures c.in_ok-try_from_str-3.ensures
+          c.in_ok-fields.ensures tries.2 c.in_ok-language.ensures c.in_ok-stages.ensures c.in_ok-reference.ensures c.in_ok-version.ensures
           (ap (λ es. members_view es) c.new-members.ensures.empty) c.in_ok-put_member.ensures c.in_ok-put_member-2.ensures c.in_ok-put_member-3.ensures c.in_ok-put_member-4.ensures c.in_ok-put_member-5.ensures c.in_ok-put_member-6.ensures c.in_ok-put_member-7.ensures;
     }
 

@@ -1,4 +1,4 @@
-use Rattle.std.proofs.Common.{◌≡◌, None, List, map, length, string_bytes, option_map}
+use Rattle.std.proofs.Common.{◌≡◌, None, map, length, string_bytes, option_map}
 use Rattle.std.specs.List.{zip}
 use Rattle.std.specs.BTreeMap.{get_by}
 use Rattle.elasticlunr_text.specs.Text.{Bytes, text_cmp}

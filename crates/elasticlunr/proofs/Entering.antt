@@ -14,9 +14,9 @@ use Rattle.elasticlunr_store.specs.Contents.{Contents, TextMap, IsContents, leng
 use Rattle.elasticlunr.specs.Fields.{has_name, all_differ}
 use Rattle.elasticlunr.specs.History.{Given, Document, add, Commands, ◌▸◌}
 use Rattle.elasticlunr.specs.Standing.{Plan, tokens_at, stored, length_in, Holds}
-use Rattle.elasticlunr.specs.Entered.{IsMadeOf, TakesOut, ReplacesPostings, HasOnlyStored, MakesRoom, AddsTokens, Enters}
+use Rattle.elasticlunr.specs.Entered.{IsMadeOf, TakesOut, ReplacesPostings, HasOnlyStored, MakesRoom, AddsTokens}
 use Rattle.elasticlunr.specs.Texts.{reference_alone, with_texts, with_tokens, with_all_tokens}
-use Rattle.elasticlunr.proofs.Adding.{same, apart, either, both_some, holds_entered}
+use Rattle.elasticlunr.proofs.Adding.{Enters, same, apart, either, both_some, holds_entered}
 use Rattle.elasticlunr.proofs.Counting.{mapped_back}
 use Rattle.elasticlunr.proofs.Pairing.{FoundIn, early, late, found, within_list}
 use Rattle.std.proofs.lemmas.List.{length_push}

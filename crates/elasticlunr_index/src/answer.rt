@@ -16,7 +16,8 @@ ghost use Rattle.serde_json.specs.View.{view};
 
 use crate::job::{Document, Job, parse};
 use crate::outcome::{Outcome, Refusal, Stop};
-use elasticlunr::{AnyLanguage, Index, IndexBuilder, IndexError, from_name};
+use elasticlunr::lang::{AnyLanguage, from_name};
+use elasticlunr::{Index, IndexBuilder, IndexError};
 use serde_json::Value;
 use std::alloc::{AllocError, Global};
 

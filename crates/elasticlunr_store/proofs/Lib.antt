@@ -32,3 +32,4 @@ pub mod ReadingMaps
 pub mod SameMaps
 pub mod Marks
 pub mod Compact
+pub mod Changes

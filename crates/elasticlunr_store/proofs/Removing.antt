@@ -3,7 +3,7 @@ use Rattle.std.proofs.Common.{◌≡◌, ◌≢◌, ◌⊎◌, ◌^◌, inl, inr
 use Rattle.std.proofs.lemmas.Bool.{cases_eq}
 use Rattle.std.specs.List.{slice_get}
 use Rattle.elasticlunr_text.specs.Text.{Text, Bytes}
-use Rattle.elasticlunr_store.specs.Table.{knows, posting}
+use Rattle.elasticlunr_store.specs.Table.{knows, posting, RemovesToken}
 use Rattle.elasticlunr_store.specs.Children.{Children}
 use Rattle.elasticlunr_store.specs.Nodes.{at, children_of, entries_of, children_at, entries_at, step_of, walk, table_of, IsTrie, AreSmall, ClearsPosting, RemovesPosting}
 use Rattle.elasticlunr_store.specs.declared.inverted_index.Node.{Node}
@@ -97,3 +97,6 @@ module _ (root : Children) (nodes : List Node) (trie : IsTrie root nodes) (nodes
       by : (o : Option Place) → walk (step_of root nodes) Root s ≡ o → posting (table_of root nodes2) s q ≡ posting (table_of root nodes) s q
       by None e = posting_none root nodes2 removed_trie s q (steps s ∙ e) ∙ sym (posting_none root nodes trie s q e)
       by (Some p) e = posting_walk root nodes2 removed_trie s p q (steps s ∙ e) ∙ same p e ∙ sym (posting_walk root nodes trie s p q e)
+
+  pub removed : RemovesToken (table_of root nodes) (table_of root nodes2) t r
+  removed = record { known = removed_known; gone = removed_gone; others = removed_others }

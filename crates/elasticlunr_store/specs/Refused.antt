@@ -1,4 +1,5 @@
 -- Why reading a value was refused.
+use Rattle.std.specs.Prelude.{◌≡◌, Result, IfOk, IsOkUnless}
 use Rattle.elasticlunr_text.specs.declared.error.IndexError.{IndexError}
 use Rattle.elasticlunr_text.specs.declared.error.IndexError.TheVariants.{DuplicateField, TooManyValues, BadClass, ForeignValue, Failed, Memory}
 
@@ -10,3 +11,7 @@ IsRefused P BadClass = ⊥
 IsRefused P ForeignValue = P
 IsRefused P Failed = ⊥
 IsRefused P Memory = Unit {0}
+
+-- an answer to a value is this one, or memory was refused
+abbrev pub IsAnswer : {A : Type 0} → A → Result A IndexError → Type 0
+IsAnswer x answer = IfOk answer (λ y. y ≡ x) × IsOkUnless answer Memory

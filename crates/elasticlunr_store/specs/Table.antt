@@ -1,5 +1,5 @@
 -- What an inverted index stands for: a table of texts and postings.
-use Rattle.std.specs.Prelude.{◌≡◌, ◌↔◌, ◌⊎◌, ℕ, ◌^◌, ◌<◌, Bool, true, List, [], ◌++◌, Option, Some, None, IsTrue, unwrap_or, nat_eq, String}
+use Rattle.std.specs.Prelude.{◌≡◌, ◌≢◌, ◌↔◌, ◌⊎◌, ℕ, ◌^◌, ◌<◌, Bool, true, List, [], ◌∷◌, ◌++◌, Option, Some, None, IsTrue, unwrap_or, nat_eq, String}
 use Rattle.std.specs.declared.alloc.Global.{Global}
 use Rattle.std.specs.Str.{all_scalars, IsUtf8}
 use Rattle.std.specs.FinMap.{FinMap, get, contains_key, empty, insert}
@@ -51,6 +51,31 @@ pub record AddsToken (old new : Table) (t : Text) (r : Bytes) (n : ℕ) : Type 0
   pub known : (s : Text) → IsTrue (knows new s) ↔ (IsTrue (knows old s) ⊎ IsPrefix s t)
   pub set : posting new t r ≡ Some n
   pub others : (s : Text) (q : Bytes) → ¬ ((s ≡ t) × (q ≡ r)) → posting new s q ≡ posting old s q
+
+-- new is old without the posting of the reference r at t, and knows the same texts
+pub record RemovesToken (old new : Table) (t : Text) (r : Bytes) : Type 0 where
+  pub known : (s : Text) → knows new s ≡ knows old s
+  pub gone : posting new t r ≡ None
+  pub others : (s : Text) (q : Bytes) → ¬ ((s ≡ t) × (q ≡ r)) → posting new s q ≡ posting old s q
+
+-- a posting that is set, or one that is taken away
+pub data Change : Type 0 where
+  add : Text → Bytes → ℕ → Change
+  remove : Text → Bytes → Change
+
+-- the change leads from old to new; a posting of the empty text is not set
+abbrev pub IsChanged : Change → Table → Table → Type 0
+IsChanged (add t r n) old new = (t ≢ [] → AddsToken old new t r n) × (t ≡ [] → new ≡ old)
+IsChanged (remove t r) old new = RemovesToken old new t r
+
+-- the changes lead from old to new, one after the other
+abbrev pub AreChanged : List Change → Table → Table → Type 0
+AreChanged [] old new = new ≡ old
+AreChanged (change ∷ changes) old new = (between : Table) × IsChanged change old between × AreChanged changes between new
+
+-- one of the changes sets a posting of t
+abbrev pub IsAdded : Text → List Change → Type 0
+IsAdded t changes = (before : List Change) × (after : List Change) × (r : Bytes) × (n : ℕ) × (changes ≡ before ++ add t r n ∷ after)
 
 -- The empty text is known and has no postings. Each beginning of a known text is known. Known texts are lists of characters, references are texts, and frequencies have 64 bits.
 pub record IsTable (T : Table) : Type 0 where

@@ -2,7 +2,7 @@ ghost use Rattle.std.specs.FinMap.{get as get_postings};
 ghost use Rattle.std.specs.Prelude.{option_map, codes, ◌⊎◌, Some, true, encode_utf8, ◌∷◌, IfSome, ◌≡◌, ℕ, ◌<◌, ◌+◌, ◌^◌, ◌↔◌, [], List, length, None, IsTrue, IfOk, IfErr, IsOk, OnOk, OnErr, IsOkUnless, false, string_bytes, string_cmp, unwrap_or, slice_set, ◌≢◌, ◌++◌, slice_get};
 ghost use Rattle.std.specs.Str.{chars, IsUtf8};
 ghost use Rattle.elasticlunr_text.specs.Text.{Text, Bytes};
-ghost use Rattle.elasticlunr_store.specs.Table.{Table, new_table, knows, posting, postings, IsTable, AddsToken};
+ghost use Rattle.elasticlunr_store.specs.Table.{Table, new_table, knows, posting, postings, IsTable, AddsToken, RemovesToken};
 ghost use Rattle.std.specs.BTreeMap.{IsOrdered};
 ghost use Rattle.std.specs.Option.{option_map_or};
 ghost use Rattle.std.specs.FinMap.{entries, len};
@@ -114,9 +114,7 @@ impl InvertedIndex {
 
     /// Takes a posting away if it is there. The known texts stay.
     pub fn remove_token(&mut self, doc_ref: &str, token: &str)
-        ensures known { (t : Text) → knows self.new t ≡ knows self.old t }
-        ensures gone { posting self.new (chars token.now) doc_ref.now ≡ None }
-        ensures others { (t : Text) (r : Bytes) → ¬ ((t ≡ chars token.now) × (r ≡ doc_ref.now)) → posting self.new t r ≡ posting self.old t r }
+        ensures { RemovesToken self.old self.new (chars token.now) doc_ref.now }
     {
         remove_posting(&self.root, &mut self.nodes, doc_ref, token);
     }

@@ -1,11 +1,14 @@
 //! Laws of the values that this crate speaks of.
-ghost use Rattle.std.specs.Prelude.{◌≡◌};
+ghost use Rattle.std.specs.Prelude.{◌≡◌, ◌⊎◌, ◌↔◌, [], List, Result, IfOk, IfErr, IsTrue, unwrap_or, option_map};
 ghost use Rattle.std.specs.Bool.{Decides};
+ghost use Rattle.std.specs.FinMap.{get, len};
 ghost use Rattle.serde_json.specs.Data.{Data};
-ghost use Rattle.elasticlunr_store.specs.Table.{Table, IsTable};
+ghost use Rattle.elasticlunr_text.specs.Text.{Text};
+ghost use Rattle.elasticlunr_text.specs.declared.error.IndexError.{IndexError};
+ghost use Rattle.elasticlunr_store.specs.Table.{Table, new_table, knows, postings, same_tables, IsPrefix, IsTable, Change, AreChanged, IsAdded};
 ghost use Rattle.elasticlunr_store.specs.Tree.{IsTrieValue};
-ghost use Rattle.elasticlunr_store.specs.Table.{same_tables};
-ghost use Rattle.elasticlunr_store.specs.Contents.{Contents, IsStoreValue, same_contents};
+ghost use Rattle.elasticlunr_store.specs.Contents.{Contents, IsContents, IsStoreValue, same_contents};
+ghost use Rattle.elasticlunr_store.specs.Refused.{IsRefused, IsAnswer};
 
 /// A value is the trie value of one table at most.
 pub fn one_table_a_value()
@@ -17,9 +20,34 @@ pub fn one_value_a_table()
     ensures { (T : Table) (v : Data) (w : Data) → IsTrieValue T v → IsTrieValue T w → v ≡ w }
 {}
 
+/// An answer that keeps the contract of `InvertedIndex::from_value` on the trie value of a table is that table, or want of memory.
+pub fn trie_values_are_read_back()
+    ensures { (T : Table) (v : Data) (answer : Result Table IndexError) → IsTable T → IsTrieValue T v → IfOk answer (λ U. IsTable U × IsTrieValue U v) → IfErr answer (IsRefused ((U : Table) → IsTable U → ¬ (IsTrieValue U v))) → IsAnswer T answer }
+{}
+
+/// Whatever was added and removed, known are the empty text and the beginnings of the tokens that were added.
+pub fn known_after_changes()
+    ensures { (changes : List Change) (T : Table) → AreChanged changes new_table T → (s : Text) → IsTrue (knows T s) ↔ ((s ≡ []) ⊎ ((t : Text) × IsAdded t changes × IsPrefix s t)) }
+{}
+
+/// The document frequency of a token is the number of its postings, and 0 where it is unknown.
+pub fn frequency_counts_postings()
+    ensures { (T : Table) (t : Text) → len (postings T t) ≡ unwrap_or (option_map len (get T t)) 0 }
+{}
+
 /// A value is the one of one store's contents at most.
 pub fn one_contents_a_value()
     ensures { (c : Contents) (d : Contents) (v : Data) → IsStoreValue c v → IsStoreValue d v → c ≡ d }
+{}
+
+/// Contents have one value at most.
+pub fn one_value_a_store()
+    ensures { (c : Contents) (v : Data) (w : Data) → IsStoreValue c v → IsStoreValue c w → v ≡ w }
+{}
+
+/// An answer that keeps the contract of `DocumentStore::from_value` on the value of contents is those contents, or want of memory.
+pub fn store_values_are_read_back()
+    ensures { (c : Contents) (v : Data) (answer : Result Contents IndexError) → IsContents c → IsStoreValue c v → IfOk answer (λ d. IsStoreValue d v) → IfErr answer (IsRefused ((d : Contents) → IsContents d → ¬ (IsStoreValue d v))) → IsAnswer c answer }
 {}
 
 /// Two tries are `==` exactly if their tables are equal.

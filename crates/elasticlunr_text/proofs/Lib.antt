@@ -5,6 +5,7 @@ pub mod WordSetLemmas
 pub mod RangeLemmas
 pub mod JoinLemmas
 pub mod TrimmingLaws
+pub mod CutTextLemmas
 pub mod ScalarLemmas
 pub mod FirstLemmas
 pub mod ItemLemmas

@@ -14,3 +14,6 @@ pub mod ro;
 pub mod ru;
 pub mod sv;
 pub mod tr;
+
+#[cfg(test)]
+mod tests;

@@ -1,6 +1,7 @@
 //! Classes of characters.
 ghost use Rattle.std.specs.Prelude.{◌≡◌, ℕ, IfOk};
 ghost use Rattle.std.specs.Str.{chars};
+ghost use Rattle.elasticlunr_text.specs.Text.{text_of};
 ghost use Rattle.elasticlunr_text.specs.Trimmed.{from_first, trimmed};
 
 use super::ranges::Ranges;
@@ -46,6 +47,18 @@ impl Class {
     {
         self.from_first(text)
             .trim_end_matches(|c| !self.contains(c))
+    }
+
+    /// The token from its first to its last character in the class. A token of which nothing is cut
+    /// comes back itself, and no memory is requested.
+    pub fn cut(&self, alloc: Global, token: String) -> Result<String, AllocError>
+        ensures { IfOk result (λ left. text_of left ≡ trimmed (in_class self.now) (text_of token)) }
+    {
+        let kept = self.trim(token.as_str());
+        if kept.len() == token.len() {
+            return Ok(token);
+        }
+        String::from_str(alloc, kept)
     }
 
     /// A class with the same characters.

@@ -75,11 +75,10 @@ impl PipelineFn for RegexTrimmer {
 
     /// The token from its first to its last character of the class, `None` where there is none.
     fn filter(&self, alloc: Global, token: String) -> Result<Option<String>, AllocError> {
-        let left = self.class.trim(token.as_str());
+        let left = self.class.cut(alloc, token)?;
         if left.is_empty() {
             return Ok(None);
         }
-        let copy = String::from_str(alloc, left)?;
-        Ok(Some(copy))
+        Ok(Some(left))
     }
 }

@@ -12,6 +12,6 @@ use std::alloc::{AllocError, Global};
 pub fn trimmer(alloc: Global, token: String) -> Result<Option<String>, AllocError>
     ensures { IfOk result (λ left. option_map text_of left ≡ Some (trimmed is_word_char (text_of token))) }
 {
-    let kept = String::from_str(alloc, Class::Word.trim(token.as_str()))?;
+    let kept = Class::Word.cut(alloc, token)?;
     Ok(Some(kept))
 }

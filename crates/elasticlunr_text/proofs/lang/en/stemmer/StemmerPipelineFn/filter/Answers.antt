@@ -1,7 +1,5 @@
-use Rattle.std.proofs.Common.{Some, ap, sym, List, ℕ}
-use Rattle.std.proofs.Math.Logic.{∥∥₁_elim}
+use Rattle.std.proofs.Common.{Some, ap}
 use Rattle.elasticlunr_text.specs.Text.{text_of}
-use Rattle.elasticlunr_text.proofs.SomeStem.{some-Stem}
 use Rattle.elasticlunr_text.proofs.lang.en.stemmer.StemmerPipelineFn.filter.Goals as goal
 
 pub returns-clause-leaves : goal.returns-clause-leaves

@@ -1,0 +1,44 @@
+-- What is read by the language alone.
+use Rattle.std.proofs.Common.{◌≡◌, ◌≢◌, ℕ, List, [], ◌∷◌, Option, None, Some, IsTrue, String, Global, string_bytes, refl, ap, subst, sym, filter_map}
+use Rattle.std.specs.List.{slice_get, AllZip, AllByRecursion}
+use Rattle.std.specs.Str.{chars, all_scalars}
+use Rattle.std.proofs.lemmas.Str.{scalars-chars, IsUtf8-string_bytes}
+use Rattle.elasticlunr_text.specs.Text.{Text, Bytes, texts_of}
+use Rattle.elasticlunr.specs.Choices.{Choices, IsMadeAt, Reads}
+use Rattle.elasticlunr.specs.Reading.{LanguageReads}
+
+-- the texts of strings are lists of characters
+pub texts_are_texts : (strings : List (String Global)) → AllByRecursion (λ token. IsTrue (all_scalars token)) (texts_of strings)
+texts_are_texts [] = tt
+texts_are_texts (s ∷ strings) = (scalars-chars (string_bytes s) (IsUtf8-string_bytes s), texts_are_texts strings)
+
+-- what one relation leaves of texts, another does that holds wherever the one does
+leaves_as : (M R : Text → Option Text → Type 0) → ((token : Text) (left : Option Text) → IsTrue (all_scalars token) → M token left → R token left)
+    → (tokens : List Text) (lefts : List (Option Text)) → AllByRecursion (λ token. IsTrue (all_scalars token)) tokens → AllZip M tokens lefts → AllZip R tokens lefts
+leaves_as M R as_R [] [] are all = tt
+leaves_as M R as_R [] (left ∷ lefts) are all = absurd all
+leaves_as M R as_R (token ∷ tokens) [] are all = absurd all
+leaves_as M R as_R (token ∷ tokens) (left ∷ lefts) are all = (as_R token left are.0 all.0, leaves_as M R as_R tokens lefts are.1 all.1)
+
+module _ {L P T : Type 0} (tokens_of : L → Text → List Text) (answers : T → Bytes → List Text → Type 0) (c : Choices L P T) where
+  -- what is made by a language, or by a tokenizer that is not there, is made by the language
+  made_by_language : (place : Option (Option T)) → ((tokenizer : T) → place ≢ Some (Some tokenizer)) → (value : Bytes) (made : List Text)
+      → IsMadeAt tokens_of answers c.language place value made → made ≡ tokens_of c.language (chars value)
+  made_by_language None none value made is = absurd is
+  made_by_language (Some None) none value made is = is
+  made_by_language (Some (Some tokenizer)) none value made is = absurd (none tokenizer refl)
+
+  -- without tokenizers, and with a pipeline that leaves what the language's may, what is read is what the language reads
+  pub read_by_language : (runs : P → List Text → List Text → Type 0) (leaves_of : Text → Option Text → Type 0)
+      → ((i : ℕ) (tokenizer : T) → slice_get c.tokenizers i ≢ Some (Some tokenizer))
+      → (M : Text → Option Text → Type 0) → ((made tokens : List Text) → runs c.pipeline made tokens → (lefts : List (Option Text)) × AllZip M made lefts × (tokens ≡ filter_map (λ left. left) lefts))
+      → ((token : Text) (left : Option Text) → IsTrue (all_scalars token) → M token left → leaves_of token left)
+      → (i : ℕ) (value : Bytes) (tokens : List Text) → Reads tokens_of answers runs c i value tokens → LanguageReads (tokens_of c.language) leaves_of i value tokens
+  read_by_language runs leaves_of none M run as_language i value tokens read =
+      let ran = run read.made tokens read.left in
+      let made : read.made ≡ tokens_of c.language (chars value) = made_by_language (slice_get c.tokenizers i) (none i) value read.made read.tokenized in
+      record {
+        lefts = ran.0;
+        each = subst (λ these. AllZip leaves_of these ran.0) made (leaves_as M leaves_of as_language read.made ran.0 read.are_texts ran.1);
+        are = ran.2;
+      }

@@ -1,0 +1,5 @@
+use Rattle.elasticlunr.proofs.Telling.{told_by_value}
+use Rattle.elasticlunr.proofs.laws.values.values_tell_what_they_print.Goals as goal
+
+pub returns : goal.returns
+returns c = told_by_value c.one_table_a_value.ensures c.one_contents_a_value.ensures

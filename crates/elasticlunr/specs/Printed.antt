@@ -1,0 +1,70 @@
+-- The JSON value of an index.
+use Rattle.std.specs.Prelude.{◌≡◌, ℕ, List, [], ◌∷◌, codes}
+use Rattle.std.specs.List.{zip}
+use Rattle.elasticlunr_text.specs.Text.{Bytes}
+use Rattle.elasticlunr_store.specs.Table.{Table}
+use Rattle.elasticlunr_store.specs.Tree.{IsTrieValue}
+use Rattle.elasticlunr_store.specs.Contents.{Contents, IsStoreValue}
+use Rattle.serde_json.specs.Data.{Data, string, array, object, Items, no_items, item, Members, no_members, put}
+use Rattle.json.specs.Layout.{pretty}
+use Rattle.json.specs.Tree.{json_tokens}
+use Rattle.serde_json.specs.Written.{outline}
+use Rattle.elasticlunr.specs.History.{Commands}
+use Rattle.elasticlunr.specs.Standing.{Plan, Holds}
+
+-- the members with these pairs of key and value, put in one after the other
+abbrev pub members_after : Members → List (Bytes × Data) → Members
+members_after ms [] = ms
+members_after ms (pair ∷ pairs) = members_after (put pair.0 pair.1 ms) pairs
+
+-- the object with these pairs
+abbrev pub object_of : List (Bytes × Data) → Data
+object_of pairs = object (members_after no_members pairs)
+
+-- the array of these texts
+abbrev pub texts : List Bytes → Items
+texts [] = no_items
+texts (text ∷ more) = item (string text) (texts more)
+
+-- each value is that of the table at its place
+pub data AreTrieValues : List Table → List Data → Type 0 where
+  no_tries : AreTrieValues [] []
+  trie : {table : Table} {value : Data} {tables : List Table} {values : List Data} → IsTrieValue table value → AreTrieValues tables values → AreTrieValues (table ∷ tables) (value ∷ values)
+
+-- the object of these parts
+abbrev pub index_object : Plan → List Data → Data → Data
+index_object plan tries documents = object_of (
+    (codes "documentStore", documents)
+    ∷ (codes "fields", array (texts plan.fields))
+    ∷ (codes "index", object_of (zip plan.fields tries))
+    ∷ (codes "lang", string plan.language)
+    ∷ (codes "pipeline", array (texts plan.stages))
+    ∷ (codes "ref", string plan.reference_field)
+    ∷ (codes "version", string (codes "0.9.5"))
+    ∷ [])
+
+-- the value of these tables and these contents
+pub record IsValueOf (plan : Plan) (tables : List Table) (contents : Contents) (value : Data) : Type 0 where
+  pub tries : List Data
+  pub documents : Data
+  pub each_trie : AreTrieValues tables tries
+  pub store : IsStoreValue contents documents
+  pub whole : value ≡ index_object plan tries documents
+
+-- the value of an index of this plan after these commands
+pub record IsValue (plan : Plan) (commands : Commands) (value : Data) : Type 0 where
+  pub tables : List Table
+  pub contents : Contents
+  pub holds : Holds plan commands tables contents
+  pub printed : IsValueOf plan tables contents value
+
+-- the same is printed of both: they may differ in whether texts are kept, which stands in the contents
+pub record PrintAlike (plan other : Plan) : Type 0 where
+  pub same_fields : plan.fields ≡ other.fields
+  pub same_reference_field : plan.reference_field ≡ other.reference_field
+  pub same_language : plan.language ≡ other.language
+  pub same_stages : plan.stages ≡ other.stages
+
+-- the text of a value without floats, with a line for each item and member
+abbrev pub pretty_text : Data → List ℕ
+pretty_text value = pretty (json_tokens (outline value))

@@ -1,0 +1,42 @@
+//! How often each token of a field stands there, and the postings that this makes.
+ghost use Rattle.std.specs.Prelude.{IfOk, OnOk, IsOkUnless, string_cmp};
+ghost use Rattle.std.specs.BTreeMap.{IsOrdered};
+ghost use Rattle.elasticlunr_text.specs.declared.error.IndexError.TheVariants.{Memory};
+ghost use Rattle.elasticlunr.specs.Counted.{AreCounts, counted_texts, Posts};
+
+use crate::rooted::root;
+use elasticlunr_store::InvertedIndex;
+use elasticlunr_text::IndexError;
+use std::alloc::Global;
+use std::collections::BTreeMap;
+
+/// How often each text stands among the tokens.
+pub fn count_tokens(
+    alloc: Global,
+    tokens: Vec<String>,
+) -> Result<BTreeMap<String, u64>, IndexError>
+    ensures memory { IsOkUnless result Memory }
+    ensures counted { IfOk result (AreCounts tokens.items) }
+{
+    let mut counts = BTreeMap::new(alloc);
+    for token in tokens {
+        *counts.entry(token)?.or_insert(0) += 1;
+    }
+    Ok(counts)
+}
+
+/// Gives the reference a posting at each counted token: the root of its count. The empty text gets none.
+pub fn add_postings(
+    trie: &mut InvertedIndex,
+    doc_ref: &str,
+    counts: &BTreeMap<String, u64>,
+) -> Result<(), IndexError>
+    ensures memory { IsOkUnless result Memory }
+    ensures ordered { IsOrdered string_cmp counts.now }
+    ensures posted { OnOk result (Posts trie.old trie.new doc_ref.now (counted_texts counts.now.entries)) }
+{
+    for (token, count) in counts.iter() {
+        trie.add_token(doc_ref, token.as_str(), root(*count))?;
+    }
+    Ok(())
+}

@@ -1,0 +1,3 @@
+//! Laws of the words that this crate's contracts speak of.
+pub mod removal;
+pub mod values;

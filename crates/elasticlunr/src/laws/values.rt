@@ -1,0 +1,44 @@
+//! Laws of the values of indexes.
+ghost use Rattle.std.specs.Prelude.{◌≡◌, List, false, length, All, IsTrue};
+ghost use Rattle.elasticlunr_store.specs.Table.{Table, IsTable};
+ghost use Rattle.elasticlunr_store.specs.Contents.{Contents};
+ghost use Rattle.elasticlunr.specs.Fields.{all_differ};
+ghost use Rattle.elasticlunr.specs.History.{Commands, Agree};
+ghost use Rattle.elasticlunr.specs.Standing.{Plan};
+ghost use Rattle.elasticlunr.specs.Printed.{IsValueOf, IsValue, PrintAlike};
+ghost use Rattle.serde_json.specs.Data.{Data};
+ghost use Rattle.serde_json.specs.Written.{has_float};
+
+use elasticlunr_store::laws::{one_contents_a_value, one_table_a_value, one_value_a_table};
+
+/// The value of settings and commands is one.
+pub fn settings_and_commands_have_one_value()
+    ensures { (plan : Plan) (commands : Commands) (v : Data) (w : Data) → IsValue plan commands v → IsValue plan commands w → v ≡ w }
+{
+    one_value_a_table();
+}
+
+/// Commands that agree have equal values.
+pub fn agreeing_commands_have_equal_values()
+    ensures { (plan : Plan) (left : Commands) (right : Commands) (v : Data) (w : Data) → Agree left right → IsValue plan left v → IsValue plan right w → v ≡ w }
+{
+    settings_and_commands_have_one_value();
+}
+
+/// A value has no float, so that its text is that of the whole value.
+pub fn values_have_no_float()
+    ensures { (plan : Plan) (tables : List Table) (contents : Contents) (v : Data) → IsValueOf plan tables contents v → has_float v ≡ false }
+{}
+
+/// A value comes from one list of tables and one contents, and from plans that print alike.
+pub fn values_tell_what_they_print()
+    ensures { (plan : Plan) (other : Plan) (tables : List Table) (others : List Table) (contents : Contents) (kept : Contents) (v : Data)
+        → IsTrue (all_differ plan.fields)
+        → length tables ≡ length plan.fields → All IsTable tables
+        → length others ≡ length other.fields → All IsTable others
+        → IsValueOf plan tables contents v → IsValueOf other others kept v
+        → PrintAlike plan other × (tables ≡ others) × (contents ≡ kept) }
+{
+    one_table_a_value();
+    one_contents_a_value();
+}

@@ -1,0 +1,184 @@
+//! Words of texts, pipelines of languages, and look-ups.
+use crate::{
+    AnyLanguage, Arabic, English, Korean, Language, from_code, from_name, languages, lower_char,
+    tokenize_whitespace,
+};
+use elasticlunr_text::pipeline::Pipeline;
+use std::alloc::{AllocError, Global};
+use std::process::Abort;
+use std::test::Fail;
+
+fn joined(alloc: Global, texts: &[String]) -> Result<String, AllocError> {
+    let mut all = String::new(alloc);
+    for text in texts {
+        all.push_str(text.as_str())?;
+        all.push(';')?;
+    }
+    Ok(all)
+}
+
+fn texts(alloc: Global, texts: &[&str]) -> Result<Vec<String>, AllocError> {
+    let mut made = Vec::new(alloc);
+    for text in texts {
+        made.push(String::from_str(alloc, text)?)?;
+    }
+    Ok(made)
+}
+
+#[test]
+fn words_of_texts(rt: HostRuntime) -> Result<(), Fail> {
+    let alloc = rt.alloc();
+    for (text, words) in [
+        (
+            "take the New York-San Francisco flight",
+            "take;the;new;york;san;francisco;flight;",
+        ),
+        ("  foo    bar  ", "foo;bar;"),
+        ("Solve for A - B", "solve;for;a;b;"),
+        ("", ""),
+        ("İZMİR-ÇAĞ", "i\u{307}zmi\u{307}r;çağ;"),
+        (
+            "a\u{A0}b\u{2028}c\u{3000}d-\u{2010}e",
+            "a;b;c;d;\u{2010}e;",
+        ),
+        ("ŸÁ×ÞŽ\u{1E9E}\u{391}", "ÿá×þž\u{1E9E}\u{391};"),
+    ] {
+        let tokens = tokenize_whitespace(alloc, text)?;
+        assert_eq!(rt; joined(alloc, tokens.as_slice())?.as_str(), words);
+    }
+    Ok(())
+}
+
+#[test]
+fn lower_case_of_each_row(rt: HostRuntime) {
+    for (upper, lower) in [
+        ('A', 'a'),
+        ('Z', 'z'),
+        ('À', 'à'),
+        ('Þ', 'þ'),
+        ('\u{100}', '\u{101}'),
+        ('\u{12E}', '\u{12F}'),
+        ('\u{132}', '\u{133}'),
+        ('\u{136}', '\u{137}'),
+        ('\u{139}', '\u{13A}'),
+        ('\u{147}', '\u{148}'),
+        ('\u{14A}', '\u{14B}'),
+        ('\u{176}', '\u{177}'),
+        ('\u{178}', '\u{FF}'),
+        ('\u{179}', '\u{17A}'),
+        ('\u{17D}', '\u{17E}'),
+        ('\u{218}', '\u{219}'),
+        ('\u{21A}', '\u{21B}'),
+        ('\u{400}', '\u{450}'),
+        ('\u{40F}', '\u{45F}'),
+        ('\u{410}', '\u{430}'),
+        ('\u{42F}', '\u{44F}'),
+        ('a', 'a'),
+        ('×', '×'),
+        ('\u{138}', '\u{138}'),
+        ('\u{149}', '\u{149}'),
+        ('\u{17F}', '\u{17F}'),
+        ('\u{391}', '\u{391}'),
+        ('\u{531}', '\u{531}'),
+    ] {
+        assert!(rt; lower_char(upper) == (lower, None), "{upper}");
+    }
+    assert!(rt; lower_char('\u{130}') == ('i', Some('\u{307}')));
+}
+
+fn leaves<L: Language>(
+    rt: &impl Abort,
+    alloc: Global,
+    language: &L,
+    tokens: &[&str],
+    left: &str,
+) -> Result<(), Fail> {
+    let empty = Pipeline {
+        queue: Vec::new(alloc),
+    };
+    let pipeline = language.make_pipeline(alloc, empty)?;
+    let texts = pipeline.run(alloc, texts(alloc, tokens)?)?;
+    assert_eq!(rt; joined(alloc, texts.as_slice())?.as_str(), left);
+    Ok(())
+}
+
+#[test]
+fn pipelines_of_languages(rt: HostRuntime) -> Result<(), Fail> {
+    let alloc = rt.alloc();
+    leaves(&rt, alloc, &Korean::new(), &[" 한글 ", " 사랑!"], "한글;사랑;")?;
+    leaves(&rt, alloc, &Korean::new(), &["어떤", "사람"], "사람;")?;
+    leaves(&rt, alloc, &English::new(), &["[the]", "!!", "Eggs"], "Egg;")?;
+    leaves(&rt, alloc, &Arabic::new(), &["\u{640}", "\u{623}\u{623}"], "\u{627}\u{623};")?;
+    leaves(&rt, alloc, &AnyLanguage::Danish, &["på", "øen!"], "øen;")?;
+    leaves(&rt, alloc, &AnyLanguage::Russian, &["я", "и", "ёж"], "ёж;")
+}
+
+fn is_made_as(
+    rt: &impl Abort,
+    alloc: Global,
+    language: AnyLanguage,
+    name: &str,
+    code: &str,
+    stages: &str,
+) -> Result<(), Fail> {
+    assert_eq!(rt; language.name(alloc)?.as_str(), name);
+    assert_eq!(rt; language.code(alloc)?.as_str(), code);
+    let empty = Pipeline {
+        queue: Vec::new(alloc),
+    };
+    let names = language.make_pipeline(alloc, empty)?.names(alloc)?;
+    assert_eq!(rt; joined(alloc, names.as_slice())?.as_str(), stages);
+    let tokens = language.tokenize(alloc, "New-York")?;
+    assert_eq!(rt; joined(alloc, tokens.as_slice())?.as_str(), "new;york;");
+    Ok(())
+}
+
+#[test]
+fn languages_in_order(rt: HostRuntime) -> Result<(), Fail> {
+    let rows = [
+        ("English", "en", "trimmer;stopWordFilter;stemmer;"),
+        ("Arabic", "ar", "stemmer-ar;"),
+        ("Danish", "da", "trimmer-da;stopWordFilter-da;"),
+        ("Dutch", "du", "trimmer-du;stopWordFilter-du;"),
+        ("Finnish", "fi", "trimmer-fi;stopWordFilter-fi;"),
+        ("French", "fr", "trimmer-fr;stopWordFilter-fr;"),
+        ("German", "de", "trimmer-de;stopWordFilter-de;"),
+        ("Italian", "it", "trimmer-it;stopWordFilter-it;"),
+        ("Korean", "ko", "trimmer-ko;stopWordFilter-ko;stemmer-ko;"),
+        ("Norwegian", "no", "trimmer-no;stopWordFilter-no;"),
+        ("Portuguese", "pt", "trimmer-pt;stopWordFilter-pt;"),
+        ("Romanian", "ro", "trimmer-ro;stopWordFilter-ro;"),
+        ("Russian", "ru", "trimmer-ru;stopWordFilter-ru;"),
+        ("Spanish", "es", "trimmer-es;stopWordFilter-es;"),
+        ("Swedish", "sv", "trimmer-sv;stopWordFilter-sv;"),
+        ("Turkish", "tr", "trimmer-tr;stopWordFilter-tr;"),
+    ];
+    for (language, (name, code, stages)) in languages().into_iter().zip(rows) {
+        is_made_as(&rt, rt.alloc(), language, name, code, stages)?;
+    }
+    Ok(())
+}
+
+fn has_code(
+    rt: &impl Abort,
+    alloc: Global,
+    found: Option<AnyLanguage>,
+    code: &str,
+) -> Result<(), Fail> {
+    match found {
+        Some(language) => assert_eq!(rt; language.code(alloc)?.as_str(), code),
+        None => assert!(rt; false),
+    }
+    Ok(())
+}
+
+#[test]
+fn languages_by_code_and_by_name(rt: HostRuntime) -> Result<(), Fail> {
+    has_code(&rt, rt.alloc(), from_code("DU"), "du")?;
+    has_code(&rt, rt.alloc(), from_name("German"), "de")?;
+    assert!(rt; from_code("nl").is_none());
+    assert!(rt; from_code("hu").is_none());
+    assert!(rt; from_name("german").is_none());
+    assert!(rt; from_name("").is_none());
+    Ok(())
+}

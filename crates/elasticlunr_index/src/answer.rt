@@ -16,7 +16,8 @@ ghost use Rattle.serde_json.specs.View.{view};
 
 use crate::job::{Document, Job, parse};
 use crate::outcome::{Outcome, Refusal, Stop};
-use elasticlunr::{AnyLanguage, Index, IndexBuilder, IndexError, from_name};
+use elasticlunr::lang::{AnyLanguage, from_name};
+use elasticlunr::{Index, IndexBuilder, IndexError};
 use serde_json::Value;
 use std::alloc::{AllocError, Global};
 
@@ -97,11 +98,12 @@ fn read_json(alloc: Global, bytes: &[u8]) -> Result<Value, Stop>
 }
 
 /// The text of the index that the input asks for, and a line feed.
-fn index_line(alloc: Global, bytes: &[u8]) -> Result<String, Stop>
-    ensures ok { IfOk result (λ text. IsAnswer bytes.now Printed (string_bytes text)) }
-    ensures err { IfErr result (StopsFor (IsRefused bytes.now)) }
+fn index_line(alloc: Global, bytes: Vec<u8>) -> Result<String, Stop>
+    ensures ok { IfOk result (λ text. IsAnswer bytes.items Printed (string_bytes text)) }
+    ensures err { IfErr result (StopsFor (IsRefused bytes.items)) }
 {
-    let value = read_json(alloc, bytes)?;
+    let value = read_json(alloc, &bytes)?;
+    drop(bytes);
     let job = parse(alloc, &value)?;
     printed(alloc, &job)
 }
@@ -119,9 +121,11 @@ fn refusal_line(refusal: Refusal) -> &'static str
     }
 }
 
-/// The outcome for an input, and what is written for it.
-pub fn answer(alloc: Global, bytes: &[u8]) -> Result<(Outcome, String), AllocError>
-    ensures { IfOk result (λ a. IsAnswer bytes.now a.0 (string_bytes a.1)) }
+/// The outcome for an input, and what is written for it: the text of the index or the reason of the
+/// refusal, and a line feed. The input is let go once it is read; its texts are not copied, but into
+/// the index. The error is want of memory.
+pub fn answer(alloc: Global, bytes: Vec<u8>) -> Result<(Outcome, String), AllocError>
+    ensures { IfOk result (λ a. IsAnswer bytes.items a.0 (string_bytes a.1)) }
 {
     match index_line(alloc, bytes) {
         Ok(text) => Ok((Outcome::Printed, text)),

@@ -97,7 +97,7 @@ fn a_fault_may_come_after_an_answer(rt: HostRuntime) -> Result<(), Fail> {
     let mut taken = Vec::new(rt.alloc());
     let ended = written_in_room(rt.alloc(), NO_JOB, 19, true, &mut taken);
     assert_eq!(rt; ended, Ok(Outcome::Refused(Refusal::NotAJob)));
-    assert!(rt; taken.as_slice() == b"refused: not a job\n");
+    assert!(rt; taken.as_slice() == b"refused: not a job\n".as_slice());
     Ok(())
 }
 

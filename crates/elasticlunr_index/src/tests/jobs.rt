@@ -110,7 +110,7 @@ fn refuses_what_is_no_text_or_too_deep(rt: HostRuntime) -> Result<(), Fail> {
         let mut taken = Vec::new(rt.alloc());
         let ended = ran(rt.alloc(), input, &mut taken);
         assert_eq!(rt; ended, Ok(Outcome::Refused(Refusal::NotJson)));
-        assert!(rt; taken.as_slice() == b"refused: not JSON\n");
+        assert!(rt; taken.as_slice() == b"refused: not JSON\n".as_slice());
     }
     Ok(())
 }

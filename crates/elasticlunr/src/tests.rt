@@ -1,4 +1,5 @@
 //! Indexes made, used and printed.
 mod documents;
 mod failing;
+mod language;
 mod own;

@@ -161,13 +161,13 @@ fn a_field_may_hold_the_reference(rt: HostRuntime) -> Result<(), Fail> {
 #[test]
 fn frequencies_are_roots(rt: HostRuntime) -> Result<(), Fail> {
     let mut index = Index::new(rt.alloc(), &["body"])?;
-    index.add_doc("1", &["one two two six six six ten ten ten ten"])?;
+    index.add_doc("1", &["fox dog dog cat cat cat hen hen hen hen"])?;
     let body = index.inverted_index("body")?.ok_or("body")?;
     for (n, token, frequency) in [
-        (1, "one", 1_000_000),
-        (2, "two", 1_414_213),
-        (3, "six", 1_732_050),
-        (4, "ten", 2_000_000),
+        (1, "fox", 1_000_000),
+        (2, "dog", 1_414_213),
+        (3, "cat", 1_732_050),
+        (4, "hen", 2_000_000),
     ] {
         assert_eq!(rt; root(n), frequency);
         assert_eq!(rt; body.get_term_frequency("1", token), frequency, "{token}");

@@ -14,7 +14,7 @@ use std::process::Abort;
 use std::test::Fail;
 
 /// What is left of a token: none of `x`, and else the token followed by `!`.
-fn mark(_alloc: Global, mut token: String) -> Result<Option<String>, AllocError>
+fn without_x(_alloc: Global, mut token: String) -> Result<Option<String>, AllocError>
     ensures { IfOk result (λ left. option_map string_bytes left
         ≡ (if bytes_eq (string_bytes token) (codes "x") then None else Some (string_bytes token ++ codes "!"))) }
 {
@@ -43,7 +43,7 @@ impl PipelineFn for Mark {
     }
 
     fn filter(&self, alloc: Global, token: String) -> Result<Option<String>, AllocError> {
-        mark(alloc, token)
+        without_x(alloc, token)
     }
 }
 
@@ -64,7 +64,7 @@ fn a_function_is_a_stage(rt: HostRuntime) -> Result<(), Fail> {
     let alloc = rt.alloc();
     let wrapper = FnWrapper {
         name: String::from_str(alloc, "dropx")?,
-        function: mark,
+        function: without_x,
     };
     let queue = vec![in alloc; Stage::EnglishTrimmer, Stage::Function(wrapper)]?;
     assert_eq!(rt; printed_with(alloc, Pipeline { queue })?.as_str(), MARKED);

@@ -1,12 +1,13 @@
 -- What a builder was given, field by field.
-use Rattle.std.proofs.Common.{◌≡◌, ◌≢◌, ℕ, zero, suc, List, [], ◌∷◌, ◌++◌, ◌+◌, ◌<◌, length, take, get_or, arith, map, Bool, true, false, true≢false, not, ◌&&◌, ◌||◌, Option, None, Some, IfOk, Result, Ok, Err, bytes_eq, refl, sym, ap, ◌∙◌, append_assoc}
+use Rattle.std.proofs.Common.{◌≡◌, ◌≢◌, ℕ, zero, suc, List, [], ◌∷◌, ◌++◌, ◌+◌, ◌<◌, length, take, get_or, arith, map, Bool, true, false, true≢false, not, ◌&&◌, ◌||◌, Option, None, Some, IfOk, Result, Ok, Err, bytes_eq, refl, sym, ap, subst, ◌∙◌, append_assoc}
 use Rattle.std.proofs.lemmas.Slice.Eq.{bytes_eq-Decides}
 use Rattle.std.proofs.lemmas.List.{take_more}
 use Rattle.std.specs.Borrow.{Bor}
 use Rattle.std.specs.List.{slice_get}
-use Rattle.elasticlunr_text.specs.Text.{Bytes}
+use Rattle.elasticlunr_text.specs.Text.{Text, Bytes}
 use Rattle.elasticlunr.specs.Choices.{Choices, beginning, with_field, with_fields, UsesLanguage}
 use Rattle.elasticlunr.specs.Fields.{has_name, all_differ}
+use Rattle.elasticlunr.specs.Reading.{LanguageReads, ReadsOnly}
 
 module _ {A : Type 0} where
   end_empty : (xs : List A) → xs ++ [] ≡ xs
@@ -81,3 +82,29 @@ module _ {L P T : Type 0} where
       → has_name (get_or names i d).now so_far.fields ≡ true → all_differ (start.fields ++ map (λ name. name.now) names) ≡ false
   refused_at start so_far names i d were inside there =
       repeated_at start.fields names i d inside (sym (ap (λ (c : Choices L P T). has_name (get_or names i d).now c.fields) were) ∙ there)
+
+module _ {T : Type 0} where
+  without_own : (tokenizers : List (Option T)) (names : List Bytes) → ((i : ℕ) (tokenizer : T) → slice_get tokenizers i ≢ Some (Some tokenizer))
+      → (i : ℕ) (tokenizer : T) → slice_get (tokenizers ++ map (λ (name : Bytes). None) names) i ≢ Some (Some tokenizer)
+  without_own [] [] none i tokenizer is = cc (is)
+  without_own [] (name ∷ names) none zero tokenizer is = cc (is)
+  without_own [] (name ∷ names) none (suc i) tokenizer is = without_own [] names (λ j t e. cc (e)) i tokenizer is
+  without_own (own ∷ tokenizers) names none zero tokenizer is = none zero tokenizer is
+  without_own (own ∷ tokenizers) names none (suc i) tokenizer is = without_own tokenizers names (λ j t e. none (suc j) t e) i tokenizer is
+
+module _ {L P T : Type 0} where
+  -- a new builder uses the language alone
+  pub uses_language-beginning : (language : L) → UsesLanguage {L = L} {P = P} {T = T} (beginning language)
+  uses_language-beginning language = record { no_pipeline = refl; no_tokenizer = λ i tokenizer is. cc (is) }
+
+  -- it does so with more fields, too
+  pub uses_language-with_fields : (names : List Bytes) (c : Choices L (Option P) T) → UsesLanguage c → UsesLanguage (with_fields names c)
+  uses_language-with_fields names c uses = record { no_pipeline = uses.no_pipeline; no_tokenizer = without_own c.tokenizers names uses.no_tokenizer }
+
+  -- so an index of these fields reads by the language alone
+  pub reads_by_language : (given : Choices L (Option P) T) (names : List Bytes) (language : L) (tokens_of : L → Text → List Text) (leaves_of : L → Text → Option Text → Type 0) (reads : ℕ → Bytes → List Text → Type 0)
+      → given ≡ with_fields names (beginning language) → (UsesLanguage given → ReadsOnly reads (LanguageReads (tokens_of given.language) (leaves_of given.language)))
+      → ReadsOnly reads (LanguageReads (tokens_of language) (leaves_of language))
+  reads_by_language given names language tokens_of leaves_of reads is so =
+      subst (λ (c : Choices L (Option P) T). UsesLanguage c → ReadsOnly reads (LanguageReads (tokens_of c.language) (leaves_of c.language))) is so
+      (uses_language-with_fields names (beginning language) (uses_language-beginning language))

@@ -1,0 +1,4 @@
+//! Indexes made, used and printed.
+mod documents;
+mod failing;
+mod own;

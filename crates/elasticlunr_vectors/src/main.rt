@@ -13,7 +13,10 @@ fn main(rt: HostRuntime) -> io::Result<()> {
 
     let tests = fs::read_to_string(&rt, "five-tests.tsv")?;
     let counts = tables::five_tests(rt.alloc(), tests.as_str())?;
-    println!(rt; "five tests: {} right, {} wrong", counts.right, counts.wrong)?;
+    println!(rt;
+        "five tests: {} right, {} wrong",
+        counts.right, counts.wrong
+    )?;
 
     let roots = fs::read_to_string(&rt, "roots.tsv")?;
     let counts = tables::roots(roots.as_str());

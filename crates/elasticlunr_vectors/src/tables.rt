@@ -5,6 +5,7 @@ use elasticlunr::root;
 use std::alloc::{AllocError, Global};
 
 /// How many lines of a table the library answers as the table says, and how many it does not.
+#[derive(Clone, Copy)]
 pub struct Counts {
     pub right: u64,
     pub wrong: u64,
@@ -67,11 +68,13 @@ fn has_answers(alloc: Global, line: &str) -> Result<bool, AllocError> {
         en::has_vowel(text),
         en::is_short(text),
     ];
-    Ok(answers.len() == 5
-        && answers
-            .chars()
-            .zip(found)
-            .all(|(digit, holds)| (digit == '1') == holds))
+    Ok(
+        answers.len() == 5
+            && answers
+                .chars()
+                .zip(found)
+                .all(|(digit, holds)| (digit == '1') == holds),
+    )
 }
 
 /// A count and its root in each line.

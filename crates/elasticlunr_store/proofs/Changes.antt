@@ -1,10 +1,10 @@
 -- Tables after changes.
-use Rattle.std.proofs.Common.{◌≡◌, ◌≢◌, ℕ, Option, Some, None, option_map, unwrap_or, ◌⊎◌, ◌↔◌, inl, inr, IsTrue, is_some, Bool, true, false, List, [], ◌∷◌, ◌++◌, refl, sym, ap, subst, ◌∙◌, cond}
+use Rattle.std.proofs.Common.{◌≡◌, ℕ, Option, Some, None, option_map, unwrap_or, ◌⊎◌, ◌↔◌, inl, inr, IsTrue, is_some, List, [], ◌∷◌, ◌++◌, refl, sym, ap, subst, ◌∙◌}
 use mathlib.Core.Bool.{false≢true}
-use Rattle.std.specs.Ordering.{nat_cmp, eq_by_cmp}
+use Rattle.std.specs.Ordering.{nat_cmp}
 use Rattle.std.specs.Cmp.Lexicographic.{slice_cmp}
 use Rattle.std.proofs.lemmas.Cmp.{nat_list_cmp_total}
-use Rattle.std.specs.FinMap.{get, empty, insert, len, len-empty, get-insert, get-empty}
+use Rattle.std.specs.FinMap.{get, empty, len, len-empty, get-insert, get-empty}
 use Rattle.elasticlunr_text.specs.Text.{Text, Bytes}
 use Rattle.elasticlunr_store.specs.Table.{Table, Postings, postings, new_table, knows, IsPrefix, Change, add, remove, IsChanged, AreChanged, IsAdded}
 use Rattle.elasticlunr_store.proofs.Forest.{same_or_not}

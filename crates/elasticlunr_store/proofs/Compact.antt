@@ -1,11 +1,11 @@
 -- The nodes that are kept stand for the postings of all, with no path that leads to none.
-use Rattle.std.proofs.Common.{◌≡◌, ◌⊎◌, ◌↔◌, inl, inr, ℕ, zero, suc, ◌+◌, ◌<◌, ◌≤◌, Bool, true, false, IsTrue, IsSome, is_some, List, [], ◌∷◌, ◌++◌, length, set, unwrap_or, string_bytes, length-append, Option, Some, None, option_and_then, refl, sym, ap, subst, ◌∙◌, arith}
+use Rattle.std.proofs.Common.{◌≡◌, ◌⊎◌, ◌↔◌, inl, inr, ℕ, suc, ◌+◌, ◌<◌, ◌≤◌, Bool, false, IsTrue, IsSome, is_some, List, [], ◌∷◌, ◌++◌, length, set, unwrap_or, string_bytes, length-append, Option, Some, None, option_and_then, refl, sym, ap, subst, ◌∙◌, arith}
 use Rattle.std.proofs.lemmas.Bool.{cases_lt, cases_eq}
 use Rattle.std.specs.List.{slice_get}
 use Rattle.elasticlunr_text.specs.Text.{Text, Bytes}
 use Rattle.elasticlunr_store.specs.Table.{Entries, knows, posting, IsPrefix}
 use Rattle.elasticlunr_store.specs.Children.{Children, child, IsStrictlySorted}
-use Rattle.elasticlunr_store.specs.Nodes.{at, rank, children_of, entries_of, children_at, entries_at, step_of, walk, table_of, IsForest, IsTrie, AreCharacters, AreSmall}
+use Rattle.elasticlunr_store.specs.Nodes.{at, rank, children_of, entries_of, children_at, entries_at, step_of, walk, table_of, IsForest, IsTrie, AreSmall}
 use Rattle.elasticlunr_store.specs.Compact.{Bears, is_marked, number_of, kept_children, KeepsBelow}
 use Rattle.elasticlunr_store.specs.declared.inverted_index.nodes.Node.{Node}
 use Rattle.elasticlunr_store.specs.declared.inverted_index.nodes.Place.{Place}

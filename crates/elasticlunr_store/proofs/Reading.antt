@@ -11,8 +11,8 @@ use Rattle.std.specs.List.{AllByRecursion, insert, slice_get}
 use Rattle.std.specs.List.Sorted.{IsStrictlySortedBy}
 use Rattle.std.specs.Map.{keys_of}
 use Rattle.std.specs.BTreeMap.{insert_entry}
-use Rattle.serde_json.specs.Data.{Data, null, boolean, number, unsigned, negative, float, string, array, object, Members, no_members, member, put}
-use Rattle.serde_json.specs.Find.{get, get_member, as_object, as_number, as_u64}
+use Rattle.serde_json.specs.Data.{Data, object, Members, no_members, member, put}
+use Rattle.serde_json.specs.Find.{get, get_member, as_object}
 use Rattle.serde_json.specs.Events.{members_len}
 use Rattle.serde_json.specs.View.{view, members_view}
 use Rattle.serde_json.proofs.Views.{Entry, get_member-put, get_member-put_other}
@@ -20,7 +20,6 @@ use Rattle.serde_json.specs.declared.value.Value.{Value}
 use Rattle.elasticlunr_store.specs.Children.{Children, child, IsGapFor, IsStrictlySorted}
 use Rattle.elasticlunr_store.specs.Table.{Entries}
 use Rattle.elasticlunr_store.specs.Tree.{frequency, frequencies}
-use Rattle.elasticlunr_text.specs.Text.{Bytes}
 use Rattle.elasticlunr_store.specs.Finished.{value_at}
 use Rattle.elasticlunr_store.specs.Reading.{seen, HasNewValues, ReadsChildren}
 use Rattle.std.specs.Borrow.{Bor}

@@ -1,17 +1,14 @@
 -- Reading search options.
-use Rattle.std.proofs.Common.{◌≡◌, ◌≢◌, inl, inr, ℕ, ◌<◌, ◌^◌, Bool, List, [], ◌∷◌, ◌++◌, Option, Some, None, IfSome, IsSome, codes, refl, sym, ap, subst, ◌∙◌, string_bytes, string_cmp, cond, Greater}
-use mathlib.Core.Bool.{false≢true}
-use Rattle.std.specs.Ordering.{ordering_reverse}
-use Rattle.std.specs.List.{AllByRecursion}
+use Rattle.std.proofs.Common.{◌≡◌, ◌≢◌, inl, inr, List, [], ◌∷◌, ◌++◌, Option, Some, None, refl, sym, ap, subst, ◌∙◌, string_bytes, string_cmp, cond}
 use Rattle.std.specs.List.Sorted.{IsStrictlySortedBy}
 use Rattle.std.specs.Map.{keys_of}
 use Rattle.std.specs.FinMap as map
-use Rattle.std.proofs.lemmas.Cmp.{nat_list_cmp_total, tied_itself}
-use Rattle.serde_json.specs.Data.{Data, null, object, Members, put}
-use Rattle.serde_json.specs.Find.{get_member, get}
+use Rattle.std.proofs.lemmas.Cmp.{nat_list_cmp_total}
+use Rattle.serde_json.specs.Data.{Data, null, object, put}
+use Rattle.serde_json.specs.Find.{get_member}
 use Rattle.serde_json.specs.View.{view, members_view}
 use Rattle.serde_json.proofs.Views.{Entry, put_last, get_member-put, get_member-put_other}
-use Rattle.elasticlunr_text.specs.Text.{Bytes, text_cmp}
+use Rattle.elasticlunr_text.specs.Text.{Bytes}
 use Rattle.elasticlunr_store.specs.Options.{FieldMap, IsPart, ReadsAt, ReadsField, ReadsFields}
 use Rattle.elasticlunr_store.specs.declared.config.SearchOptionsField.{SearchOptionsField}
 use Rattle.elasticlunr_store.proofs.Forest.{same_or_not}

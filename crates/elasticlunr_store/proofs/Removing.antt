@@ -1,5 +1,5 @@
 -- One posting is taken away.
-use Rattle.std.proofs.Common.{◌≡◌, ◌≢◌, ◌⊎◌, ◌^◌, inl, inr, ℕ, ◌<◌, List, length, set, get_or, Option, Some, None, is_some, refl, sym, ap, subst, ◌∙◌, length-set}
+use Rattle.std.proofs.Common.{◌≡◌, ◌≢◌, ◌⊎◌, inl, inr, ℕ, ◌<◌, List, length, set, get_or, Option, Some, None, is_some, refl, sym, ap, subst, ◌∙◌, length-set}
 use Rattle.std.proofs.lemmas.Bool.{cases_eq}
 use Rattle.std.specs.List.{slice_get}
 use Rattle.elasticlunr_text.specs.Text.{Text, Bytes}

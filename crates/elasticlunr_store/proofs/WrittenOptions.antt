@@ -1,13 +1,13 @@
 -- What is written for options gives them.
-use Rattle.std.proofs.Common.{◌≡◌, inl, inr, ℕ, ◌<◌, ◌^◌, Bool, false, ◌||◌, List, [], ◌∷◌, Option, option_map, Some, None, IfSome, Less, Equal, Greater, refl, sym, ap, subst, ◌∙◌, cond, codes}
+use Rattle.std.proofs.Common.{◌≡◌, inl, ℕ, ◌<◌, ◌^◌, Bool, false, ◌||◌, List, [], ◌∷◌, Option, option_map, Some, None, IfSome, Less, Equal, Greater, refl, sym, ap, subst, ◌∙◌, cond}
 use Rattle.std.specs.Ordering.{nat_cmp, match_ordering, is_eq}
 use Rattle.std.specs.Cmp.Lexicographic.{slice_cmp}
 use Rattle.std.specs.FinMap as map
-use Rattle.serde_json.specs.Data.{Data, boolean, Members}
+use Rattle.serde_json.specs.Data.{Data}
 use Rattle.serde_json.specs.Find.{get_member}
 use Rattle.serde_json.specs.Written.{has_float}
 use Rattle.elasticlunr_text.specs.Text.{Bytes, text_cmp}
-use Rattle.elasticlunr_store.specs.Maps.{members, keyed, count}
+use Rattle.elasticlunr_store.specs.Maps.{members, keyed}
 use Rattle.elasticlunr_store.specs.Options.{Options, HasSmallBoosts, bool_value, field_value, options_value, ReadsAt, ReadsField, ReadsOptions}
 use Rattle.elasticlunr_store.specs.declared.config.SearchBool.{SearchBool}
 use Rattle.elasticlunr_store.specs.declared.config.SearchBool.TheVariants.{Or, And}

@@ -1,14 +1,13 @@
 -- What the tests of equality of options decide.
-use Rattle.std.proofs.Common.{◌≡◌, ℕ, Bool, true, false, ◌&&◌, Option, Some, None, refl, sym, ap, ◌∙◌, nat_eq}
+use Rattle.std.proofs.Common.{◌≡◌, Bool, true, false, ◌&&◌, Option, Some, None, refl, sym, ap, nat_eq}
 use mathlib.Core.Bool.{beq, false≢true}
 use Rattle.std.specs.Bool.{Decides}
 use Rattle.std.specs.Cmp.{IsEquivalence, decided}
 use Rattle.elasticlunr_store.specs.Options.{Options, options_of, same_bool, same_part, same_field, same_options}
-use Rattle.elasticlunr_store.specs.Equal.{both_true, map_Decides, nat_Decides, bool_one}
+use Rattle.elasticlunr_store.specs.Equal.{both_true, map_Decides, nat_Decides}
 use Rattle.elasticlunr_store.specs.declared.config.SearchBool.{SearchBool}
 use Rattle.elasticlunr_store.specs.declared.config.SearchBool.TheVariants.{Or, And}
 use Rattle.elasticlunr_store.specs.declared.config.SearchOptionsField.{SearchOptionsField}
-use Rattle.elasticlunr_store.specs.declared.config.SearchOptions.{SearchOptions}
 
 pub bool_Decides : (a b : SearchBool) → Decides (same_bool a b) (a ≡ b)
 bool_Decides Or Or = (λ e. refl, λ e. refl)

@@ -1,15 +1,9 @@
 //! The JSON value of search options.
-ghost use Rattle.std.specs.Prelude.{◌≡◌, ◌≢◌, ◌⊎◌, ◌<◌, ◌^◌, ℕ, Bool, Option, None, Some, false, IfOk, IfErr, IfSome, OnOk, IsOkUnless, option_map, codes, string_bytes};
-ghost use Rattle.std.specs.FinMap.{get as get_field};
-ghost use Rattle.serde_json.specs.Data.{Data, null, boolean, object, put};
-ghost use Rattle.serde_json.specs.Find.{get};
+ghost use Rattle.std.specs.Prelude.{◌≡◌, IfOk, OnOk, option_map};
+ghost use Rattle.serde_json.specs.Data.{boolean};
 ghost use Rattle.serde_json.specs.View.{view, members_view};
-ghost use Rattle.serde_json.specs.Written.{has_float};
-ghost use Rattle.elasticlunr_text.specs.Text.{Bytes};
-ghost use Rattle.elasticlunr_text.specs.declared.error.IndexError.TheVariants.{Memory};
-ghost use Rattle.elasticlunr_store.specs.Maps.{keyed, count, same_map};
-ghost use Rattle.elasticlunr_store.specs.Refused.{IsRefused};
-ghost use Rattle.elasticlunr_store.specs.Options.{Options, FieldMap, field_map, options_of, new_options, bool_value, field_value, options_value, options_object, put_part, IsPart, ReadsField, ReadsFields, ReadsOptions, same_bool, same_field, same_options};
+ghost use Rattle.elasticlunr_store.specs.Maps.{keyed, count};
+ghost use Rattle.elasticlunr_store.specs.Options.{field_map, bool_value, field_value, options_object, put_part};
 
 use super::{SearchBool, SearchOptionsField};
 use crate::members::put_member;

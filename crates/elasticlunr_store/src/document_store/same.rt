@@ -1,17 +1,7 @@
 //! Comparing two stores.
-ghost use Rattle.std.specs.Prelude.{◌≡◌, ◌==◌, nat_eq, false, string_bytes, if◌then◌else◌, OnOk, OnErr, IfOk, IfErr, IfSome, IfNone, IsSomeAnd, Some, ◌≢◌, IsOkUnless, unwrap_or};
-ghost use Rattle.std.specs.Option.{option_map, option_and_then};
+ghost use Rattle.std.specs.Prelude.{◌≡◌, nat_eq};
 ghost use Rattle.std.specs.Str.{bytes_eq};
-ghost use Rattle.std.specs.Bool.{OnTrue, OnFalse};
-ghost use Rattle.std.specs.FinMap.{FinMap, get, contains_key, len, insert, remove, empty};
-ghost use Rattle.elasticlunr_text.specs.declared.error.IndexError.TheVariants.{Memory};
-ghost use Rattle.elasticlunr_text.specs.Text.{Bytes, text_cmp};
-ghost use Rattle.elasticlunr_store.specs.Refused.{IsRefused};
-ghost use Rattle.elasticlunr_store.specs.Contents.{Contents, TextMap, LengthMap, IsContents, new_contents, with_document, with_length, without_document, without, length_at, IsStoreValue, store_object, store_members, store_value};
-ghost use Rattle.elasticlunr_store.specs.Maps.{keyed, count, same_map};
-ghost use Rattle.serde_json.specs.Data.{Data, Members, no_members, member, boolean, string, put};
-ghost use Rattle.serde_json.specs.View.{view, members_view};
-ghost use Rattle.serde_json.specs.Written.{has_float};
+ghost use Rattle.elasticlunr_store.specs.Maps.{same_map};
 ghost use Rattle.elasticlunr_store.specs.Contents.{text_map, length_map, document_texts, document_lengths};
 
 use std::collections::BTreeMap;

@@ -1,27 +1,13 @@
 //! The JSON value of a trie, made from the last node to the first.
-ghost use Rattle.std.specs.FinMap.{get as get_postings};
-ghost use Rattle.std.specs.Prelude.{option_map, codes, ◌⊎◌, Some, true, encode_utf8, ◌∷◌, IfSome, ◌≡◌, ℕ, ◌<◌, ◌+◌, ◌^◌, ◌↔◌, [], List, length, None, IsTrue, IfOk, IfErr, IsOk, OnOk, OnErr, IsOkUnless, false, string_bytes, string_cmp, unwrap_or, slice_set, ◌≢◌, ◌++◌, slice_get};
-ghost use Rattle.std.specs.Str.{chars, IsUtf8};
-ghost use Rattle.elasticlunr_text.specs.Text.{Text, Bytes};
-ghost use Rattle.elasticlunr_store.specs.Table.{Table, new_table, knows, posting, postings, IsTable, AddsToken, RemovesToken};
-ghost use Rattle.std.specs.BTreeMap.{IsOrdered};
-ghost use Rattle.std.specs.Option.{option_map_or};
-ghost use Rattle.std.specs.FinMap.{entries, len};
-ghost use Rattle.serde_json.specs.Data.{Data, Members, object, number, unsigned, put, member, no_members};
-ghost use Rattle.serde_json.specs.Find.{get};
+ghost use Rattle.std.specs.Prelude.{Some, ◌≡◌, ℕ, ◌<◌, [], length, IfOk, OnOk, slice_set, ◌≢◌, slice_get};
+ghost use Rattle.elasticlunr_store.specs.Table.{postings, postings_of};
+ghost use Rattle.std.specs.FinMap.{entries};
+ghost use Rattle.serde_json.specs.Data.{Members, object, put};
 ghost use Rattle.serde_json.specs.View.{view, members_view};
-ghost use Rattle.elasticlunr_store.specs.Refused.{IsRefused};
-ghost use Rattle.elasticlunr_text.specs.declared.error.IndexError.TheVariants.{Memory};
-ghost use Rattle.serde_json.specs.Written.{has_float};
-ghost use Rattle.elasticlunr_store.specs.Tree.{frequency, frequencies, HasKeysInOrder, IsTree, IsTrieValue};
+ghost use Rattle.elasticlunr_store.specs.Tree.{frequencies, IsTree};
 ghost use Rattle.elasticlunr_store.specs.Finished.{HasChildren, KeepsOtherValues, IsNode};
-ghost use Rattle.elasticlunr_store.specs.Table.{same_tables};
-ghost use Rattle.elasticlunr_store.specs.Same.{IsSameBelow};
-ghost use Rattle.elasticlunr_store.specs.Reading.{seen, ReadsChildren, ReadsNode, HasForeignKey};
-ghost use Rattle.std.specs.Str.{all_scalars};
-ghost use Rattle.elasticlunr_store.specs.Children.{child, IsStrictlySorted, IsAt, IsGapFor};
-ghost use Rattle.elasticlunr_store.specs.Table.{postings_of};
-ghost use Rattle.elasticlunr_store.specs.Nodes.{children_at, children_of, entries_of, step_of, walk, IsTrie, AreSmall, SameNodes, IsBranch, HasBranch, GainsChild, IsLocated, SetsPosting, SameTrie, Grows, IsPlace, table_of, LosesReference, ClearsPosting, RemovesPosting, look};
+ghost use Rattle.elasticlunr_store.specs.Children.{child, IsStrictlySorted};
+ghost use Rattle.elasticlunr_store.specs.Nodes.{IsTrie, table_of};
 
 use super::nodes::Node;
 use crate::members::put_member;

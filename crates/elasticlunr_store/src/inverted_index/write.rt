@@ -1,14 +1,12 @@
 //! The JSON text of an inverted index, with no JSON value built.
-ghost use Rattle.std.specs.Prelude.{slice_get, ◌≡◌, ℕ, List, [], ◌∷◌, ◌++◌, IfOk, OnOk, encode_utf8, decimal, codes, string_bytes};
+ghost use Rattle.std.specs.Prelude.{◌≡◌, [], ◌∷◌, ◌++◌, OnOk, encode_utf8, decimal, codes};
 ghost use Rattle.json.specs.Token.{key, number, begin_object, end_object};
 ghost use Rattle.json.specs.Tree.{json_tokens};
-ghost use Rattle.json.specs.Layout.{pretty};
-ghost use Rattle.serde_json.specs.Data.{Data, object, member, no_members};
-ghost use Rattle.serde_json.specs.Written.{outline, compact_text};
-ghost use Rattle.elasticlunr_store.specs.Table.{Table, IsTable};
+ghost use Rattle.serde_json.specs.Data.{Data};
+ghost use Rattle.serde_json.specs.Written.{outline};
+ghost use Rattle.elasticlunr_store.specs.Table.{IsTable, postings_of};
 ghost use Rattle.elasticlunr_store.specs.Tree.{IsTrieValue};
-ghost use Rattle.elasticlunr_store.specs.Table.{postings_of};
-ghost use Rattle.elasticlunr_store.specs.Nodes.{IsTrie, table_of, children_of, entries_of, entries_at};
+ghost use Rattle.elasticlunr_store.specs.Nodes.{IsTrie, table_of, entries_at};
 ghost use Rattle.elasticlunr_store.specs.Printed.{place_members, part, tokens_of, postings_tokens, left_members, node_members, stack_tokens, Advances, HasTrees};
 
 use super::InvertedIndex;

@@ -1,4 +1,3 @@
-use Rattle.std.proofs.Common.{sym, Ok, Err}
 use Rattle.elasticlunr_store.proofs.Refusals.{read_back}
 use Rattle.elasticlunr_store.specs.Table.{IsTable}
 use Rattle.elasticlunr_store.specs.Tree.{IsTrieValue}

@@ -1,10 +1,9 @@
-use Rattle.std.proofs.Common.{[], ◌++◌, ◌∷◌, refl, sym, ap, subst, ◌∙◌, append_assoc, append-nil, string_cmp, string_bytes, ◌≡◌, None}
+use Rattle.std.proofs.Common.{[], ◌++◌, ◌∷◌, refl, sym, ap, subst, ◌∙◌, append_assoc, string_cmp, string_bytes, None}
 use Rattle.std.specs.FinMap.{get, insert, get-empty}
 use Rattle.std.specs.List.Sorted.{IsStrictlySortedBy}
 use Rattle.std.specs.Map.{keys_of}
 use Rattle.std.proofs.lemmas.Map.Text.{btree_map_updates_text}
-use Rattle.serde_json.specs.Find.{get_member}
-use Rattle.serde_json.specs.View.{members_view, view}
+use Rattle.serde_json.specs.View.{view}
 use Rattle.elasticlunr_text.specs.Text.{text_cmp}
 use Rattle.elasticlunr_store.specs.Options.{ReadsAt, field_map}
 use Rattle.elasticlunr_store.proofs.Seen.{seen_inserted}

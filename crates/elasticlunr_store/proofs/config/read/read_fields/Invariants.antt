@@ -1,6 +1,4 @@
-use Rattle.std.proofs.Common.{◌≡◌, List, ◌++◌, string_cmp}
-use Rattle.std.specs.List.Sorted.{IsStrictlySortedBy}
-use Rattle.std.specs.Map.{keys_of}
+use Rattle.std.proofs.Common.{◌≡◌, List, ◌++◌}
 use Rattle.std.specs.FinMap.{get}
 use Rattle.serde_json.specs.Find.{get_member}
 use Rattle.serde_json.specs.View.{members_view}

@@ -2,7 +2,7 @@ use Rattle.std.proofs.Common.{[], ◌++◌, ◌∷◌, sym, ap, subst, ◌∙◌
 use Rattle.std.specs.List.Sorted.{IsStrictlySortedBy}
 use Rattle.std.specs.Map.{keys_of}
 use Rattle.serde_json.specs.Data.{object, put}
-use Rattle.serde_json.specs.View.{members_view, view}
+use Rattle.serde_json.specs.View.{members_view}
 use Rattle.serde_json.proofs.Views.{view-Object}
 use Rattle.elasticlunr_store.specs.Maps.{members}
 use Rattle.elasticlunr_store.specs.Options.{field_value}

@@ -1,7 +1,5 @@
 use Rattle.std.proofs.Common.{◌≡◌, ◌++◌}
-use Rattle.serde_json.specs.Data.{string}
-use Rattle.elasticlunr_store.specs.Maps.{members, keyed, count}
-use Rattle.elasticlunr_store.specs.Contents.{text_map, length_map}
+use Rattle.elasticlunr_store.specs.Maps.{members, count}
 use Rattle.elasticlunr_store.specs.Printed.{tokens_of}
 use Rattle.elasticlunr_store.proofs.Sorted.{shown}
 use Rattle.elasticlunr_store.proofs.document_store.write.write_lengths.Given as goal

@@ -1,8 +1,7 @@
 use Rattle.std.proofs.Common.{◌∷◌, ◌++◌, sym, ap, ◌∙◌, append_assoc, string_bytes}
 use Rattle.json.specs.Token.{Token}
 use Rattle.serde_json.specs.Data.{string}
-use Rattle.elasticlunr_store.specs.Maps.{members, keyed, count}
-use Rattle.elasticlunr_store.specs.Contents.{text_map, length_map}
+use Rattle.elasticlunr_store.specs.Maps.{members}
 use Rattle.elasticlunr_store.specs.Printed.{tokens_of}
 use Rattle.elasticlunr_store.proofs.Sorted.{shown, entries_seen}
 use Rattle.elasticlunr_store.proofs.document_store.write.write_texts.Goals as goal

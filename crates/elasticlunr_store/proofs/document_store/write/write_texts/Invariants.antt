@@ -1,7 +1,6 @@
 use Rattle.std.proofs.Common.{◌≡◌, ◌++◌, string_bytes}
 use Rattle.serde_json.specs.Data.{string}
-use Rattle.elasticlunr_store.specs.Maps.{members, keyed, count}
-use Rattle.elasticlunr_store.specs.Contents.{text_map, length_map}
+use Rattle.elasticlunr_store.specs.Maps.{members}
 use Rattle.elasticlunr_store.specs.Printed.{tokens_of}
 use Rattle.elasticlunr_store.proofs.Sorted.{shown}
 use Rattle.elasticlunr_store.proofs.document_store.write.write_texts.Given as goal

@@ -1,5 +1,4 @@
-use Rattle.std.proofs.Common.{[], subst}
-use Rattle.elasticlunr_store.specs.Table.{IsTable}
+use Rattle.std.proofs.Common.{[]}
 use Rattle.elasticlunr_store.proofs.Tables.{empty_trie}
 use Rattle.elasticlunr_store.proofs.Settled.{blank_table}
 use Rattle.elasticlunr_store.proofs.Bounds.{nodes_table}

@@ -1,4 +1,4 @@
-use Rattle.std.proofs.Common.{sym, ap, ◌∙◌, arith, subst, length}
+use Rattle.std.proofs.Common.{ap, ◌∙◌, arith, subst, length}
 use Rattle.elasticlunr_store.specs.Compact.{KeepsBelow, kept_children}
 use Rattle.elasticlunr_store.specs.declared.inverted_index.nodes.Place.TheVariants.{Root}
 use Rattle.elasticlunr_store.proofs.Compact.{below_trie, compact_trie, compact_known, compact_postings}

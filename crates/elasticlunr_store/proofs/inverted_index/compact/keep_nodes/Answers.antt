@@ -1,11 +1,11 @@
-use Rattle.std.proofs.Common.{◌+◌, sym, ap, ◌∙◌, arith, subst, Some, length}
+use Rattle.std.proofs.Common.{◌+◌, sym, ap, ◌∙◌, arith, subst, Some}
 use Rattle.elasticlunr_store.specs.Children.{child, IsStrictlySorted}
 use Rattle.elasticlunr_store.specs.Nodes.{at, children_of, entries_of}
 use Rattle.elasticlunr_store.specs.Compact.{KeepsBelow, kept_children}
 use Rattle.elasticlunr_store.specs.declared.inverted_index.nodes.Place.TheVariants.{At}
 use Rattle.elasticlunr_store.proofs.Places.{get_there}
 use Rattle.elasticlunr_store.proofs.Marks.{is_marked_or}
-use Rattle.elasticlunr_store.proofs.Compact.{none_kept, left_out, put_behind}
+use Rattle.elasticlunr_store.proofs.Compact.{left_out, put_behind}
 use Rattle.elasticlunr_store.proofs.inverted_index.compact.keep_nodes.Goals as goal
 
 pub keep_node-requires-clause-sorted : goal.keep_node-requires-clause-sorted

@@ -1,4 +1,3 @@
-use Rattle.std.proofs.Common.{◌≤◌, length}
 use Rattle.elasticlunr_store.specs.Compact.{KeepsBelow}
 use Rattle.elasticlunr_store.proofs.inverted_index.compact.keep_nodes.Given as goal
 

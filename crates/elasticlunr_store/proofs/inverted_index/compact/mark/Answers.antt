@@ -1,4 +1,4 @@
-use Rattle.std.proofs.Common.{◌≡◌, ◌-◌, ◌↔◌, ◌⊎◌, ℕ, ◌<◌, refl, sym, ap, ◌∙◌, arith, get_or, subst, Some, length, length-set, IsTrue}
+use Rattle.std.proofs.Common.{◌≡◌, ◌-◌, ◌↔◌, ◌⊎◌, ℕ, sym, ap, ◌∙◌, arith, subst, Some, length-set, IsTrue}
 use Rattle.elasticlunr_text.specs.Text.{Bytes}
 use Rattle.elasticlunr_store.specs.Children.{child, IsStrictlySorted}
 use Rattle.elasticlunr_store.specs.Nodes.{at, children_of, entries_of}

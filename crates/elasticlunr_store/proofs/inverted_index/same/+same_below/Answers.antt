@@ -1,7 +1,7 @@
-use Rattle.std.proofs.Common.{◌≡◌, ◌-◌, ℕ, inl, inr, true≢false, arith, get_or, length, refl, sym, ap, ◌∙◌, subst, ◌<◌}
+use Rattle.std.proofs.Common.{◌≡◌, ◌-◌, ℕ, inl, inr, true≢false, arith, get_or, length, refl, sym, ◌∙◌, subst, ◌<◌}
 use mathlib.Core.Bool.{false≢true}
 use Rattle.std.proofs.lemmas.Bool.{cases_eq, eqb-true, eq-eqb}
-use Rattle.elasticlunr_store.specs.Same.{look_from, IsSameBelow}
+use Rattle.elasticlunr_store.specs.Same.{look_from}
 use Rattle.elasticlunr_store.specs.declared.inverted_index.nodes.Place.TheVariants.{At}
 use Rattle.elasticlunr_store.proofs.Alike.{AreAlike, right_count, right_key, right_postings, right_below, all_right, in_nodes, in_nodes2, same_from}
 use Rattle.elasticlunr_store.proofs.inverted_index.same.+same_below.Goals as goal

@@ -12,9 +12,9 @@ use Rattle.std.specs.FinMap.{get}
 use Rattle.elasticlunr_store.proofs.Tables.{get_table}
 use Rattle.elasticlunr_store.proofs.Settled.{same_table}
 use Rattle.elasticlunr_store.specs.Same.{look_from, IsSameBelow}
-use Rattle.elasticlunr_store.specs.declared.inverted_index.Node.{Node}
-use Rattle.elasticlunr_store.specs.declared.inverted_index.Place.{Place}
-use Rattle.elasticlunr_store.specs.declared.inverted_index.Place.TheVariants.{Root, At}
+use Rattle.elasticlunr_store.specs.declared.inverted_index.nodes.Node.{Node}
+use Rattle.elasticlunr_store.specs.declared.inverted_index.nodes.Place.{Place}
+use Rattle.elasticlunr_store.specs.declared.inverted_index.nodes.Place.TheVariants.{Root, At}
 use Rattle.elasticlunr_store.proofs.Children.{child_absent, first_key_le}
 use Rattle.elasticlunr_store.proofs.Gap.{child_at_place}
 

@@ -9,9 +9,9 @@ use Rattle.elasticlunr_text.specs.Text.{Text, Bytes}
 use Rattle.elasticlunr_store.specs.Table.{Entries, IsTable, posting}
 use Rattle.elasticlunr_store.specs.Children.{Children}
 use Rattle.elasticlunr_store.specs.Nodes.{at, entries_at, step_of, walk, table_of, IsTrie}
-use Rattle.elasticlunr_store.specs.declared.inverted_index.Node.{Node}
-use Rattle.elasticlunr_store.specs.declared.inverted_index.Place.{Place}
-use Rattle.elasticlunr_store.specs.declared.inverted_index.Place.TheVariants.{Root}
+use Rattle.elasticlunr_store.specs.declared.inverted_index.nodes.Node.{Node}
+use Rattle.elasticlunr_store.specs.declared.inverted_index.nodes.Place.{Place}
+use Rattle.elasticlunr_store.specs.declared.inverted_index.nodes.Place.TheVariants.{Root}
 use Rattle.elasticlunr_store.proofs.Forest.{walk_cons}
 use Rattle.elasticlunr_store.proofs.Tables.{text_tie}
 use Rattle.elasticlunr_store.proofs.Adding.{known_to, posting_walk, posting_none}

@@ -10,7 +10,7 @@ use Rattle.elasticlunr_store.specs.Children.{IsGapFor}
 use Rattle.elasticlunr_store.specs.Nodes.{children_of, entries_of, IsInner, HasBranch, GainsChild, SetsPosting, LosesBelow, LosesReference, at}
 use Rattle.std.specs.BTreeMap.{insert_entry}
 use Rattle.elasticlunr_store.proofs.Places.{get_before, get_behind, get_set, get_set_other, get_past, get_there}
-use Rattle.elasticlunr_store.specs.declared.inverted_index.Node.{Node}
+use Rattle.elasticlunr_store.specs.declared.inverted_index.nodes.Node.{Node}
 
 pub no_nodes : (n : ℕ) → IsInner n [] []
 no_nodes n = record { count = refl; children = λ j lt. absurd (omega arith); no_entries = λ j. refl }

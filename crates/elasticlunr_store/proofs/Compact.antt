@@ -7,9 +7,9 @@ use Rattle.elasticlunr_store.specs.Table.{Entries, knows, posting, IsPrefix}
 use Rattle.elasticlunr_store.specs.Children.{Children, child, IsStrictlySorted}
 use Rattle.elasticlunr_store.specs.Nodes.{at, rank, children_of, entries_of, children_at, entries_at, step_of, walk, table_of, IsForest, IsTrie, AreCharacters, AreSmall}
 use Rattle.elasticlunr_store.specs.Compact.{Bears, is_marked, number_of, kept_children, KeepsBelow}
-use Rattle.elasticlunr_store.specs.declared.inverted_index.Node.{Node}
-use Rattle.elasticlunr_store.specs.declared.inverted_index.Place.{Place}
-use Rattle.elasticlunr_store.specs.declared.inverted_index.Place.TheVariants.{Root, At}
+use Rattle.elasticlunr_store.specs.declared.inverted_index.nodes.Node.{Node}
+use Rattle.elasticlunr_store.specs.declared.inverted_index.nodes.Place.{Place}
+use Rattle.elasticlunr_store.specs.declared.inverted_index.nodes.Place.TheVariants.{Root, At}
 use Rattle.elasticlunr_store.proofs.Places.{get_past, get_set, get_set_other, get_behind, get_before}
 use Rattle.elasticlunr_store.proofs.Forest.{walk_cons, walk_on, walk_after, walk_front, rises, within, one_path}
 use Rattle.elasticlunr_store.proofs.Adding.{known_from, known_to, posting_walk, posting_none}

@@ -26,13 +26,14 @@ use Rattle.elasticlunr_store.specs.Children.{Children, child, IsStrictlySorted}
 use Rattle.elasticlunr_store.specs.Tree.{IsTree, AreParts, IsBelow, HasKeysInOrder, frequencies}
 use Rattle.elasticlunr_store.specs.Finished.{value_at, HasChildren, IsNode}
 use Rattle.elasticlunr_store.specs.Nodes.{rank, children_at, entries_at, step_of, walk, table_of, IsTrie}
-use Rattle.elasticlunr_store.proofs.Docs.{sorted_entries, bytes_of}
+use Rattle.elasticlunr_store.proofs.Sorted.{len_seen}
+use Rattle.elasticlunr_store.proofs.Docs.{sorted_entries}
 use Rattle.elasticlunr_store.proofs.Places.{get_set, get_set_other, get_within}
 use Rattle.elasticlunr_store.proofs.Forest.{same_or_not, walk_push, walk_to, last_step}
 use Rattle.elasticlunr_store.proofs.Tables.{knows_walk, postings_walk}
-use Rattle.elasticlunr_store.specs.declared.inverted_index.Node.{Node}
-use Rattle.elasticlunr_store.specs.declared.inverted_index.Place.{Place}
-use Rattle.elasticlunr_store.specs.declared.inverted_index.Place.TheVariants.{Root, At}
+use Rattle.elasticlunr_store.specs.declared.inverted_index.nodes.Node.{Node}
+use Rattle.elasticlunr_store.specs.declared.inverted_index.nodes.Place.{Place}
+use Rattle.elasticlunr_store.specs.declared.inverted_index.nodes.Place.TheVariants.{Root, At}
 
 pub some_of : {A : Type 0} (o : Option A) → IsSome o → (x : A) × (o ≡ Some x)
 some_of None h = absurd (false≢true h)
@@ -240,13 +241,9 @@ made_node children vs docs df ms has order =
 pub no_nodes_yet : (root : Children) (nodes : List Node) (vs : List Value) → IsTrie root nodes → IsFinishedFrom root nodes vs (length nodes)
 no_nodes_yet root nodes vs trie t p c k v leads low step up value = absurd (omega (arith, trie.forest.is_node p c k step))
 
-as_many : (es : Entries) → length (bytes_of es) ≡ length es
-as_many [] = refl
-as_many (e ∷ es) = ap suc (as_many es)
-
 -- how many postings there are
 pub len_postings : (es : Entries) → IsStrictlySortedBy string_cmp (keys_of es) → map.len (postings_of es) ≡ length es
-len_postings es sorted = map.len-entries (postings_of es) ∙ ap length (sorted_entries es sorted) ∙ as_many es
+len_postings es sorted = len_seen (λ n. n) es sorted
 
 pub none_sorted : IsStrictlySortedBy string_cmp (keys_of {K = String Global} {X = ℕ} [])
 unfolding IsStrictlySortedBy

@@ -17,9 +17,9 @@ use Rattle.elasticlunr_store.proofs.Forest.{same_place, Grown, Chains, AttachesA
 use Rattle.elasticlunr_store.proofs.Adding.{Entered, token_added, posting_none}
 use Rattle.elasticlunr_store.proofs.Postings.{no_tie, no_entries_small, small_inserted}
 use Rattle.elasticlunr_store.proofs.Tables.{text_tied}
-use Rattle.elasticlunr_store.specs.declared.inverted_index.Node.{Node}
-use Rattle.elasticlunr_store.specs.declared.inverted_index.Place.{Place}
-use Rattle.elasticlunr_store.specs.declared.inverted_index.Place.TheVariants.{Root, At}
+use Rattle.elasticlunr_store.specs.declared.inverted_index.nodes.Node.{Node}
+use Rattle.elasticlunr_store.specs.declared.inverted_index.nodes.Place.{Place}
+use Rattle.elasticlunr_store.specs.declared.inverted_index.nodes.Place.TheVariants.{Root, At}
 
 -- a node that is not made yet has no child
 pub blank_steps : (root : Children) (nodes : List Node) → IsBlankFrom (step_of root nodes) (length nodes)

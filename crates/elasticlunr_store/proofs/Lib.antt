@@ -33,3 +33,5 @@ pub mod SameMaps
 pub mod Marks
 pub mod Compact
 pub mod Changes
+pub mod ReadingOptions
+pub mod WrittenOptions

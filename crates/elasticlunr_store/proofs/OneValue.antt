@@ -10,11 +10,12 @@ use Rattle.serde_json.specs.Data.{Data, null, boolean, number, unsigned, string,
 use Rattle.serde_json.specs.Find.{get_member}
 use Rattle.elasticlunr_text.specs.Text.{Text, Bytes}
 use Rattle.elasticlunr_store.specs.Table.{Table, postings}
-use Rattle.elasticlunr_store.specs.Tree.{frequencies, IsTree, AreParts, IsBelow, HasKeysInOrder, IsTrieValue}
+use Rattle.elasticlunr_store.specs.Tree.{frequency, frequencies, IsTree, AreParts, IsBelow, HasKeysInOrder, IsTrieValue}
 use Rattle.elasticlunr_store.proofs.Forest.{same_or_not}
 use Rattle.elasticlunr_store.proofs.Tables.{text_tie}
 use Rattle.elasticlunr_store.proofs.Finishing.{some_of}
 use Rattle.elasticlunr_store.proofs.Printed.{get_here, get_other}
+use Rattle.elasticlunr_store.proofs.Values.{bare_keyed}
 use Rattle.elasticlunr_store.proofs.Unique.{part_at}
 
 below_none : (k : List ℕ) (ms : Members) → IsBelow k ms → get_member k ms ≡ None
@@ -70,10 +71,6 @@ no_float_members (member k d ms) order none =
       | inl same ↦ let bad : None ≡ Some x = sym (below_none k ms order.0) ∙ ap (λ y. get_member y ms) (sym same) ∙ e in absurd (cc)
       | inr apart ↦ none q x (get_other q k d ms apart ∙ e)
     ]) i
-
-no_float_frequencies : (es : List (Bytes × ℕ)) → members_have_float (frequencies es) ≡ false
-no_float_frequencies [] = refl
-no_float_frequencies ((r, n) ∷ es) = no_float_frequencies es
 
 module _ (T : Table) where
   -- what a key of a tree is
@@ -152,7 +149,7 @@ module _ (T : Table) where
     | inl docs ↦
         let both : Some x ≡ Some (object (frequencies (entries (postings T p)))) = sym e ∙ ap (λ q. get_member q ms) docs ∙ tree.1 in
         let is : x ≡ object (frequencies (entries (postings T p))) = cc in
-        ap has_float is ∙ no_float_frequencies (entries (postings T p))
+        ap has_float is ∙ bare_keyed frequency (λ n. refl) (postings T p)
     | inr (inl df) ↦
         let both : Some x ≡ Some (number (unsigned (len (postings T p)))) = sym e ∙ ap (λ q. get_member q ms) df ∙ tree.2 in
         let is : x ≡ number (unsigned (len (postings T p))) = cc in

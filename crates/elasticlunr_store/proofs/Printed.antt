@@ -18,9 +18,9 @@ use Rattle.elasticlunr_store.proofs.Forest.{walk_push, walk_to, last_step}
 use Rattle.elasticlunr_store.proofs.Tables.{In, knows_walk, postings_walk, text_tie}
 use Rattle.elasticlunr_store.proofs.Finishing.{not_letter, letters_same}
 use Rattle.elasticlunr_store.proofs.Rising.{encode_rising, up_to_d_below, above_d_above}
-use Rattle.elasticlunr_store.specs.declared.inverted_index.Node.{Node}
-use Rattle.elasticlunr_store.specs.declared.inverted_index.Place.{Place}
-use Rattle.elasticlunr_store.specs.declared.inverted_index.Place.TheVariants.{Root, At}
+use Rattle.elasticlunr_store.specs.declared.inverted_index.nodes.Node.{Node}
+use Rattle.elasticlunr_store.specs.declared.inverted_index.nodes.Place.{Place}
+use Rattle.elasticlunr_store.specs.declared.inverted_index.nodes.Place.TheVariants.{Root, At}
 
 -- ---- children in the order of their characters
 

@@ -9,8 +9,8 @@ use Rattle.elasticlunr_store.specs.Children.{Children}
 use Rattle.elasticlunr_store.specs.Printed.{children_members, place_members, postings_before, postings_tokens, tokens_of, part, node_members, left_members, stack_tokens, HasTrees}
 use Rattle.elasticlunr_store.proofs.Finishing.{no_df, none_sorted}
 use Rattle.elasticlunr_store.proofs.Docs.{sorted_entries}
-use Rattle.elasticlunr_store.specs.declared.inverted_index.Node.{Node}
-use Rattle.elasticlunr_store.specs.declared.inverted_index.print.Left.{Left}
+use Rattle.elasticlunr_store.specs.declared.inverted_index.nodes.Node.{Node}
+use Rattle.elasticlunr_store.specs.declared.inverted_index.write.Left.{Left}
 
 -- tokens in a row
 pub four : (s a b c d : List Token) (t u v w : Token) → a ≡ s ++ t ∷ [] → b ≡ a ++ u ∷ [] → c ≡ b ++ v ∷ [] → d ≡ c ++ w ∷ [] → d ≡ s ++ t ∷ u ∷ v ∷ w ∷ []

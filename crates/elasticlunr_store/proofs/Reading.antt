@@ -25,6 +25,7 @@ use Rattle.elasticlunr_store.specs.Finished.{value_at}
 use Rattle.elasticlunr_store.specs.Reading.{seen, HasNewValues, ReadsChildren}
 use Rattle.std.specs.Borrow.{Bor}
 use Rattle.elasticlunr_store.proofs.Docs.{bytes_of}
+use Rattle.elasticlunr_store.proofs.ReadingMaps.{object_of}
 use Rattle.elasticlunr_store.proofs.Gap.{sets_only_insert, sorted_insert}
 use Rattle.elasticlunr_store.proofs.Forest.{same_or_not}
 use Rattle.elasticlunr_store.proofs.Finishing.{not_letter, letters_same}
@@ -32,14 +33,6 @@ use Rattle.elasticlunr_store.proofs.Places.{get_before, get_behind, get_within}
 use Rattle.elasticlunr_store.proofs.Tables.{text_tie}
 
 -- ---- objects
-
-pub object_of : (d : Data) (ms : Members) → Some ms ≡ as_object d → d ≡ object ms
-object_of null ms e = absurd (cc)
-object_of (boolean b) ms e = absurd (cc)
-object_of (number n) ms e = absurd (cc)
-object_of (string s) ms e = absurd (cc)
-object_of (array ds) ms e = absurd (cc)
-object_of (object ns) ms e = let same : ms ≡ ns = cc in ap object (sym same)
 
 one_found : (ms : Members) (k : List ℕ) (x : Data) → members_len ms ≡ 1 → get_member k ms ≡ Some x → ms ≡ member k x no_members
 one_found no_members k x one found = absurd (cc)
@@ -72,16 +65,6 @@ more_members d ms k x is more alone =
     let m : ms ≡ member k x no_members = cc in
     more (ap members_len m)
 
-pub natural_of : (d : Data) (n : ℕ) → Some n ≡ option_and_then as_u64 (as_number d) → d ≡ number (unsigned n)
-natural_of null n e = absurd (cc)
-natural_of (boolean b) n e = absurd (cc)
-natural_of (string s) n e = absurd (cc)
-natural_of (array ds) n e = absurd (cc)
-natural_of (object ms) n e = absurd (cc)
-natural_of (number (unsigned m)) n e = let same : n ≡ m = cc in ap (λ x. number (unsigned x)) (sym same)
-natural_of (number (negative z)) n e = absurd (cc)
-natural_of (number (float x)) n e = absurd (cc)
-
 -- ---- postings
 
 frequencies-match_ordering : (o : _) (a b c : Entries) → frequencies (bytes_of (match_ordering o a b c)) ≡ match_ordering o (frequencies (bytes_of a)) (frequencies (bytes_of b)) (frequencies (bytes_of c))
@@ -97,13 +80,6 @@ frequencies-insert_entry (e ∷ es) k n = frequencies-match_ordering (string_cmp
 pub one_more_posting : (done : List Entry) (e : Entry) (more : List Entry) (es : Entries) (k : String Global) (n : ℕ) → put (string_bytes e.0) (view e.1) (members_view done) ≡ members_view (done ++ e ∷ [])
     → members_view done ≡ frequencies (bytes_of es) → string_bytes k ≡ string_bytes e.0 → view e.1 ≡ frequency n → members_view (done ++ e ∷ []) ≡ frequencies (bytes_of (insert_entry string_cmp es k n))
 one_more_posting done e more es k n last before key value = sym last ∙ (λ i. put (sym key i) (value i) (before i)) ∙ sym (frequencies-insert_entry es k n)
-
--- each member of the postings' object is a frequency
-pub frequency_among : (done : List Entry) (e : Entry) (more : List Entry) (es : List (Bytes × ℕ)) → members_view (done ++ e ∷ more) ≡ frequencies es → (n : ℕ) × (view e.1 ≡ frequency n)
-frequency_among [] e more [] is = absurd (cc)
-frequency_among [] e more ((r, n) ∷ es) is = (n, (cc))
-frequency_among (d ∷ done) e more [] is = absurd (cc)
-frequency_among (d ∷ done) e more ((r, n) ∷ es) is = frequency_among done e more es (cc)
 
 -- ---- characters
 
@@ -137,6 +113,15 @@ not_among (first ∷ done) e more h =
     let above : slice_cmp nat_cmp (string_bytes e.0) (string_bytes first.0) ≡ Greater =
     nat_list_cmp_total.antisymm (string_bytes e.0) (string_bytes first.0) ∙ ap ordering_reverse (below_middle first done e more h.0) in
     rw above (not_among done e more h.1)
+
+-- and its value is found
+pub found_among : (done : List Entry) (e : Entry) (more : List Entry) → IsStrictlySortedBy string_cmp (keys_of (done ++ e ∷ more)) → get_member (string_bytes e.0) (members_view (done ++ e ∷ more)) ≡ Some (view e.1)
+unfolding IsStrictlySortedBy
+found_among [] e more h = ap (λ o. match_ordering o (get_member (string_bytes e.0) (members_view more)) (Some (view e.1)) (get_member (string_bytes e.0) (members_view more))) (tied_itself nat_list_cmp_total (string_bytes e.0))
+found_among (first ∷ done) e more h =
+    let above : slice_cmp nat_cmp (string_bytes e.0) (string_bytes first.0) ≡ Greater =
+    nat_list_cmp_total.antisymm (string_bytes e.0) (string_bytes first.0) ∙ ap ordering_reverse (below_middle first done e more h.0) in
+    rw above (found_among done e more h.1)
 
 pub is_there : (done : List Entry) (e : Entry) (more : List Entry) → IsSome (get_member (string_bytes e.0) (members_view (done ++ e ∷ more)))
 is_there [] e more = ap (λ o. is_some (match_ordering o (get_member (string_bytes e.0) (members_view more)) (Some (view e.1)) (get_member (string_bytes e.0) (members_view more)))) (tied_itself nat_list_cmp_total (string_bytes e.0))

@@ -37,7 +37,7 @@ module _ {Y : Type 0} (value : Y → Data) where
   pub no_members_yet : (m : finite.FinMap text_cmp Y) → m ≡ finite.empty → no_members ≡ members value (finite.entries m)
   no_members_yet m is = sym (ap (members value) (nil_from_length _ (sym (finite.len-entries m) ∙ ap finite.len is ∙ finite.len-empty text_cmp Y)))
 
-  value_there : (done : List Entry) (e : Entry) (more : List Entry) (es : List (Bytes × Y)) → members_view (done ++ e ∷ more) ≡ members value es → (y : Y) × (view e.1 ≡ value y)
+  pub value_there : (done : List Entry) (e : Entry) (more : List Entry) (es : List (Bytes × Y)) → members_view (done ++ e ∷ more) ≡ members value es → (y : Y) × (view e.1 ≡ value y)
   value_there [] e more [] h = absurd (cc)
   value_there [] e more (x ∷ es) h = let same : view e.1 ≡ value x.1 = cc in (x.1, same)
   value_there (d ∷ done) e more [] h = absurd (cc)

@@ -6,9 +6,9 @@ use Rattle.elasticlunr_text.specs.Text.{Text, Bytes}
 use Rattle.elasticlunr_store.specs.Table.{knows, posting, RemovesToken}
 use Rattle.elasticlunr_store.specs.Children.{Children}
 use Rattle.elasticlunr_store.specs.Nodes.{at, children_of, entries_of, children_at, entries_at, step_of, walk, table_of, IsTrie, AreSmall, ClearsPosting, RemovesPosting}
-use Rattle.elasticlunr_store.specs.declared.inverted_index.Node.{Node}
-use Rattle.elasticlunr_store.specs.declared.inverted_index.Place.{Place}
-use Rattle.elasticlunr_store.specs.declared.inverted_index.Place.TheVariants.{Root, At}
+use Rattle.elasticlunr_store.specs.declared.inverted_index.nodes.Node.{Node}
+use Rattle.elasticlunr_store.specs.declared.inverted_index.nodes.Place.{Place}
+use Rattle.elasticlunr_store.specs.declared.inverted_index.nodes.Place.TheVariants.{Root, At}
 use Rattle.elasticlunr_store.proofs.Places.{get_set, get_set_other, get_there}
 use Rattle.elasticlunr_store.proofs.Forest.{one_path, same_or_not}
 use Rattle.elasticlunr_store.proofs.Tables.{knows_walk}

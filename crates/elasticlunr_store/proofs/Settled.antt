@@ -18,9 +18,9 @@ use Rattle.elasticlunr_store.proofs.Tables.{empty_trie, get_table, knows_walk}
 use Rattle.elasticlunr_store.proofs.Adding.{Entered, token_added, posting_walk, posting_none}
 use Rattle.elasticlunr_store.proofs.Growth.{blank_steps}
 use Rattle.elasticlunr_store.proofs.Postings.{small_inserted, at_inserted, at_other}
-use Rattle.elasticlunr_store.specs.declared.inverted_index.Node.{Node}
-use Rattle.elasticlunr_store.specs.declared.inverted_index.Place.{Place}
-use Rattle.elasticlunr_store.specs.declared.inverted_index.Place.TheVariants.{Root, At}
+use Rattle.elasticlunr_store.specs.declared.inverted_index.nodes.Node.{Node}
+use Rattle.elasticlunr_store.specs.declared.inverted_index.nodes.Place.{Place}
+use Rattle.elasticlunr_store.specs.declared.inverted_index.nodes.Place.TheVariants.{Root, At}
 
 -- two tables that answer alike are one
 pub same_table : (T U : Table) → ((t : Text) → get T t ≡ get U t) → T ≡ U

@@ -13,9 +13,9 @@ use Rattle.elasticlunr_store.specs.Table.{Postings, knows, postings, posting, po
 use Rattle.elasticlunr_store.specs.Children.{Children, child, IsStrictlySorted}
 use Rattle.elasticlunr_store.specs.Nodes.{pairs, given, branches, children_at, entries_at, step_of, walk, look, paths, table_of, IsTrie, AreSmall}
 use Rattle.elasticlunr_store.proofs.Forest.{walk_cons, rises, within}
-use Rattle.elasticlunr_store.specs.declared.inverted_index.Node.{Node}
-use Rattle.elasticlunr_store.specs.declared.inverted_index.Place.{Place}
-use Rattle.elasticlunr_store.specs.declared.inverted_index.Place.TheVariants.{Root, At}
+use Rattle.elasticlunr_store.specs.declared.inverted_index.nodes.Node.{Node}
+use Rattle.elasticlunr_store.specs.declared.inverted_index.nodes.Place.{Place}
+use Rattle.elasticlunr_store.specs.declared.inverted_index.nodes.Place.TheVariants.{Root, At}
 
 -- x is one of the list
 abbrev pub In : {A : Type 0} → A → List A → Type 0

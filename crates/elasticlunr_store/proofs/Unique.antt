@@ -8,14 +8,15 @@ use Rattle.serde_json.specs.Data.{Data, null, boolean, string, array, object, nu
 use Rattle.serde_json.specs.Find.{get_member}
 use Rattle.elasticlunr_text.specs.Text.{Text, Bytes}
 use Rattle.elasticlunr_store.specs.Table.{Table, Postings, knows, postings, IsPrefix, IsTable}
-use Rattle.elasticlunr_store.specs.Tree.{IsTree, AreParts, IsTrieValue, frequencies}
+use Rattle.elasticlunr_store.specs.Tree.{IsTree, AreParts, IsTrieValue, frequency, frequencies}
 use Rattle.elasticlunr_store.specs.Children.{Children}
 use Rattle.elasticlunr_store.specs.Nodes.{IsTrie, table_of, step_of, walk}
-use Rattle.elasticlunr_store.specs.declared.inverted_index.Node.{Node}
-use Rattle.elasticlunr_store.specs.declared.inverted_index.Place.TheVariants.{Root}
+use Rattle.elasticlunr_store.specs.declared.inverted_index.nodes.Node.{Node}
+use Rattle.elasticlunr_store.specs.declared.inverted_index.nodes.Place.TheVariants.{Root}
 use Rattle.elasticlunr_store.proofs.Forest.{walk_front}
 use Rattle.elasticlunr_store.proofs.Adding.{known_from, known_to}
 use Rattle.elasticlunr_store.proofs.Settled.{same_table}
+use Rattle.elasticlunr_store.proofs.Values.{same_keyed}
 use Rattle.elasticlunr_store.proofs.Tables.{text_tie}
 use Rattle.elasticlunr_store.proofs.Finishing.{not_letter, letters_same, some_of}
 
@@ -28,20 +29,11 @@ pub closed : (T : Table) → IsTable T → IsClosed T
 closed T table = record { empty_known = table.empty_known; beginnings = table.beginnings }
 
 -- the value of postings tells them
-same_frequencies : (xs ys : List (Bytes × ℕ)) → frequencies xs ≡ frequencies ys → xs ≡ ys
-same_frequencies [] [] e = refl
-same_frequencies [] (y ∷ ys) e = absurd (cc)
-same_frequencies (x ∷ xs) [] e = absurd (cc)
-same_frequencies ((r, n) ∷ xs) ((q, m) ∷ ys) e =
-    let rest : frequencies xs ≡ frequencies ys = cc in
-    let keys : r ≡ q = cc in
-    let values : n ≡ m = cc in
-    λ i. (keys i, values i) ∷ same_frequencies xs ys rest i
+same_frequency : (x y : ℕ) → frequency x ≡ frequency y → x ≡ y
+same_frequency x y e = cc
 
 pub same_docs : (P Q : Postings) → object (frequencies (map.entries P)) ≡ object (frequencies (map.entries Q)) → P ≡ Q
-same_docs P Q e =
-    let inner : frequencies (map.entries P) ≡ frequencies (map.entries Q) = cc in
-    map.same_entries_map P Q (same_frequencies (map.entries P) (map.entries Q) inner)
+same_docs P Q e = same_keyed frequency same_frequency P Q e
 
 -- under a character stands the tree of the longer text
 pub part_at : (T : Table) (p : Text) (ms : Members) (c : ℕ) (d : Data) → AreParts T p ms → get_member (encode_utf8 c) ms ≡ Some d → IsTree T (p ++ c ∷ []) d

@@ -15,9 +15,9 @@ use Rattle.elasticlunr_store.specs.Children.{Children, child, IsStrictlySorted}
 use Rattle.elasticlunr_store.specs.Nodes.{rank, walk, IsForest, at, children_of, entries_of, children_at, entries_at, step_of, table_of, IsTrie, AreCharacters, AreSmall}
 use Rattle.elasticlunr_store.specs.Finished.{value_at, IsNode}
 use Rattle.elasticlunr_store.specs.Reading.{ReadsNode}
-use Rattle.elasticlunr_store.specs.declared.inverted_index.Node.{Node}
-use Rattle.elasticlunr_store.specs.declared.inverted_index.Place.{Place}
-use Rattle.elasticlunr_store.specs.declared.inverted_index.Place.TheVariants.{Root, At}
+use Rattle.elasticlunr_store.specs.declared.inverted_index.nodes.Node.{Node}
+use Rattle.elasticlunr_store.specs.declared.inverted_index.nodes.Place.{Place}
+use Rattle.elasticlunr_store.specs.declared.inverted_index.nodes.Place.TheVariants.{Root, At}
 use Rattle.elasticlunr_store.proofs.Places.{get_before, get_behind, get_past}
 use Rattle.elasticlunr_store.proofs.Forest.{same_place, walk_to}
 use Rattle.elasticlunr_store.proofs.Finishing.{node_tree}

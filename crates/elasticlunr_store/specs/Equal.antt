@@ -36,7 +36,7 @@ module _ {X : Type 0} (same : X → X → Bool) (one : (x y : X) → Decides (sa
 pub nat_Decides : (x y : ℕ) → Decides (nat_eq x y) (x ≡ y)
 nat_Decides x y = (eqb-true x y, eq-eqb x y)
 
-bool_one : (a b : Bool) → beq a b ≡ true → a ≡ b
+pub bool_one : (a b : Bool) → beq a b ≡ true → a ≡ b
 bool_one true true e = refl
 bool_one false false e = refl
 bool_one true false e = absurd (false≢true e)

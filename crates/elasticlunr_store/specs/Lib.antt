@@ -11,3 +11,5 @@ pub mod Reading
 pub mod Same
 pub mod Printed
 pub mod Compact
+pub mod Options
+pub mod EqualOptions

@@ -11,9 +11,9 @@ use Rattle.elasticlunr_store.specs.Table.{Entries, postings_of}
 use Rattle.elasticlunr_store.specs.Children.{Children, child, IsStrictlySorted, IsGapFor}
 use Rattle.std.specs.List.{insert}
 use Rattle.std.specs.BTreeMap.{insert_entry}
-use Rattle.elasticlunr_store.specs.declared.inverted_index.Node.{Node}
-use Rattle.elasticlunr_store.specs.declared.inverted_index.Place.{Place}
-use Rattle.elasticlunr_store.specs.declared.inverted_index.Place.TheVariants.{Root, At}
+use Rattle.elasticlunr_store.specs.declared.inverted_index.nodes.Node.{Node}
+use Rattle.elasticlunr_store.specs.declared.inverted_index.nodes.Place.{Place}
+use Rattle.elasticlunr_store.specs.declared.inverted_index.nodes.Place.TheVariants.{Root, At}
 
 -- the frequency of the reference r among entries
 abbrev pub at : Bytes → Entries → Option ℕ

@@ -10,9 +10,9 @@ use Rattle.elasticlunr_store.specs.Tree.{frequencies}
 use Rattle.elasticlunr_store.specs.Children.{Children}
 use Rattle.elasticlunr_store.specs.Table.{postings_of}
 use Rattle.elasticlunr_store.specs.Nodes.{children_of, entries_of, entries_at}
-use Rattle.elasticlunr_store.specs.declared.inverted_index.Node.{Node}
-use Rattle.elasticlunr_store.specs.declared.inverted_index.print.Left.{Left}
-use Rattle.elasticlunr_store.specs.declared.inverted_index.print.Left.TheVariants.{WithPostings, WithoutPostings}
+use Rattle.elasticlunr_store.specs.declared.inverted_index.nodes.Node.{Node}
+use Rattle.elasticlunr_store.specs.declared.inverted_index.write.Left.{Left}
+use Rattle.elasticlunr_store.specs.declared.inverted_index.write.Left.TheVariants.{WithPostings, WithoutPostings}
 
 -- the values of children, under their characters
 abbrev pub children_members : (ℕ → Data) → Children → Members

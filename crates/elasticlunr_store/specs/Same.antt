@@ -5,8 +5,8 @@ use Rattle.elasticlunr_store.specs.Table.{Postings}
 use Rattle.elasticlunr_store.specs.Table.{postings_of}
 use Rattle.elasticlunr_store.specs.Children.{Children}
 use Rattle.elasticlunr_store.specs.Nodes.{walk, step_of, entries_at}
-use Rattle.elasticlunr_store.specs.declared.inverted_index.Node.{Node}
-use Rattle.elasticlunr_store.specs.declared.inverted_index.Place.{Place}
+use Rattle.elasticlunr_store.specs.declared.inverted_index.nodes.Node.{Node}
+use Rattle.elasticlunr_store.specs.declared.inverted_index.nodes.Place.{Place}
 
 -- the postings of the text that goes on with t from the place p, if it is known
 abbrev pub look_from : Children → List Node → Place → Text → Option Postings

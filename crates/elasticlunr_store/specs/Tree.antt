@@ -7,6 +7,7 @@ use Rattle.std.specs.FinMap.{entries, len}
 use Rattle.serde_json.specs.Data.{Data, null, boolean, number, string, array, object, unsigned, Members, no_members, member}
 use Rattle.serde_json.specs.Find.{get_member}
 use Rattle.elasticlunr_text.specs.Text.{Text, Bytes}
+use Rattle.elasticlunr_store.specs.Maps.{members}
 use Rattle.elasticlunr_store.specs.Table.{Table, knows, postings}
 
 -- the value of a posting
@@ -15,8 +16,7 @@ frequency n = object (member (codes "tf") (number (unsigned n)) no_members)
 
 -- each reference with its frequency
 abbrev pub frequencies : List (Bytes × ℕ) → Members
-frequencies [] = no_members
-frequencies ((r, n) ∷ es) = member r (frequency n) (frequencies es)
+frequencies es = members frequency es
 
 -- k is below the keys of the members
 abbrev pub IsBelow : List ℕ → Members → Type 0

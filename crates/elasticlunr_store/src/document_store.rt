@@ -14,15 +14,23 @@ ghost use Rattle.serde_json.specs.View.{view, members_view};
 ghost use Rattle.serde_json.specs.Written.{has_float};
 ghost use Rattle.elasticlunr_store.specs.Contents.{text_map, length_map, document_texts, document_lengths};
 
-mod print;
+mod read;
+mod same;
+mod value;
+mod write;
 
 use elasticlunr_text::IndexError;
-use serde_json::{Map, Value};
+use read::{has_empty, has_text, parts, read_lengths, read_texts};
+use same::{same_lengths, same_texts};
+use serde_json::Value;
 use std::alloc::{AllocError, Global};
 use std::collections::BTreeMap;
-use std::collections::btree_map::Iter;
 use std::marker::Model;
+use value::{lengths_value, store_value, texts_value};
 
+/// The texts of the documents of an index, where they are kept, and how many tokens their fields have.
+///
+/// It stands for its contents: whether texts are kept, a map from references to texts by field, and a map from references to lengths by field. A reference may have lengths and no texts. Where texts are not kept each map of texts is empty.
 #[derive(Debug, Drop)]
 pub struct DocumentStore {
     alloc: Global,
@@ -45,7 +53,7 @@ impl Model for DocumentStore {
 }
 
 impl DocumentStore {
-    /// An empty store.
+    /// An empty store, which keeps texts or does not. It requests no memory; later calls take it from this allocator.
     pub fn new(alloc: Global, save: bool) -> Self
         ensures { result ≡ new_contents save }
     {
@@ -64,6 +72,7 @@ impl DocumentStore {
         self.docs.len()
     }
 
+    /// Are there no documents? Lengths alone make none.
     pub fn is_empty(&self) -> bool
         ensures { result ≡ (len self.now.texts == 0) }
     {
@@ -77,6 +86,7 @@ impl DocumentStore {
         self.save
     }
 
+    /// Is there a document of this reference?
     pub fn has_doc(&self, doc_ref: &str) -> bool
         ensures { result ≡ contains_key self.now.texts doc_ref.now }
     {
@@ -169,6 +179,7 @@ impl DocumentStore {
         }
     }
 
+    /// A store with the same contents, which takes its memory from the same allocator.
     pub fn clone(&self) -> Result<Self, IndexError>
         ensures ok { IfOk result (λ copy. copy ≡ self.now) }
         ensures memory { IsOkUnless result Memory }
@@ -181,7 +192,7 @@ impl DocumentStore {
         })
     }
 
-    /// The JSON value of the store.
+    /// The JSON value of the store: an object with the keys `docInfo`, `docs`, `length` and `save`.
     pub fn to_value(&self) -> Result<Value, IndexError>
         ensures value { IfOk result (λ v. IsStoreValue self.now (view v)) }
         ensures only { IfOk result (λ v. (c : Contents) → IsStoreValue c (view v) → c ≡ self.now) }
@@ -195,7 +206,7 @@ impl DocumentStore {
         Ok(store_value(alloc, self.save, docs, doc_info, self.docs.len())?)
     }
 
-    /// The store that a value stands for.
+    /// The store whose JSON value this is. Refuses other keys, missing ones, a `length` that is not the number of documents, a reference with no lengths, and texts where `save` is false.
     pub fn from_value(alloc: Global, value: &Value) -> Result<Self, IndexError>
         ensures ok { IfOk result (λ store. IsStoreValue store (view value.now)) }
         ensures err { IfErr result (IsRefused ((c : Contents) → IsContents c → view value.now ≢ store_value c)) }
@@ -261,74 +272,6 @@ impl Eq for DocumentStore {
     ghost laws = { contents_equivalence };
 }
 
-// Whether two maps have the same texts.
-fn same_text(a: &BTreeMap<String, String>, b: &BTreeMap<String, String>) -> bool
-    ensures { result ≡ same_map bytes_eq (text_map a.now.entries) (text_map b.now.entries) }
-{
-    if a.len() != b.len() {
-        return false;
-    }
-    *a == *b
-}
-
-// Whether two maps have the same lengths.
-fn same_length(a: &BTreeMap<String, usize>, b: &BTreeMap<String, usize>) -> bool
-    ensures { result ≡ same_map nat_eq (length_map a.now.entries) (length_map b.now.entries) }
-{
-    if a.len() != b.len() {
-        return false;
-    }
-    *a == *b
-}
-
-// Whether two maps have the same texts of documents.
-fn same_texts(
-    a: &BTreeMap<String, BTreeMap<String, String>>,
-    b: &BTreeMap<String, BTreeMap<String, String>>,
-) -> bool
-    ensures { result ≡ same_map (same_map bytes_eq) (document_texts a.now.entries) (document_texts b.now.entries) }
-{
-    let mut others = b.iter();
-    for (doc_ref, texts) in a.iter() {
-        match others.next() {
-            Some((other_ref, other)) => {
-                if doc_ref.as_str() != other_ref.as_str() {
-                    return false;
-                }
-                if !same_text(texts, other) {
-                    return false;
-                }
-            }
-            None => return false,
-        }
-    }
-    others.next().is_none()
-}
-
-// Whether two maps have the same lengths of documents.
-fn same_lengths(
-    a: &BTreeMap<String, BTreeMap<String, usize>>,
-    b: &BTreeMap<String, BTreeMap<String, usize>>,
-) -> bool
-    ensures { result ≡ same_map (same_map nat_eq) (document_lengths a.now.entries) (document_lengths b.now.entries) }
-{
-    let mut others = b.iter();
-    for (doc_ref, lengths) in a.iter() {
-        match others.next() {
-            Some((other_ref, other)) => {
-                if doc_ref.as_str() != other_ref.as_str() {
-                    return false;
-                }
-                if !same_length(lengths, other) {
-                    return false;
-                }
-            }
-            None => return false,
-        }
-    }
-    others.next().is_none()
-}
-
 // Sets the length of a field of a reference.
 fn set_length(
     alloc: Global,
@@ -364,225 +307,4 @@ fn find_length(
     ensures { result ≡ option_and_then (λ lengths. get lengths field.now) (get (document_lengths doc_info.now.entries) doc_ref.now) }
 {
     doc_info.get(doc_ref)?.get(field).copied()
-}
-
-// Sets a member of an object.
-fn put_member(members: &mut Map<String, Value>, key: String, value: Value) -> Result<(), AllocError>
-    ensures { OnOk result (members_view members.new.entries ≡ put (string_bytes key) (view value) (members_view members.old.entries)) }
-{
-    members.insert(key, value)?;
-    Ok(())
-}
-
-// The value of a map of texts.
-fn text_value(alloc: Global, texts: &BTreeMap<String, String>) -> Result<Value, AllocError>
-    ensures { IfOk result (λ v. view v ≡ keyed string (text_map texts.now.entries)) }
-{
-    let mut members = Map::new(alloc);
-    for (field, text) in texts.iter() {
-        put_member(&mut members, field.clone()?, Value::String(text.clone()?))?;
-    }
-    Ok(Value::Object(members))
-}
-
-// The value of the texts of documents.
-fn texts_value(
-    alloc: Global,
-    docs: &BTreeMap<String, BTreeMap<String, String>>,
-) -> Result<Value, AllocError>
-    ensures { IfOk result (λ v. view v ≡ keyed (keyed string) (document_texts docs.now.entries)) }
-{
-    let mut members = Map::new(alloc);
-    for (doc_ref, texts) in docs.iter() {
-        put_member(&mut members, doc_ref.clone()?, text_value(alloc, texts)?)?;
-    }
-    Ok(Value::Object(members))
-}
-
-// The value of a map of lengths.
-fn length_value(alloc: Global, lengths: &BTreeMap<String, usize>) -> Result<Value, AllocError>
-    ensures { IfOk result (λ v. view v ≡ keyed count (length_map lengths.now.entries)) }
-{
-    let mut members = Map::new(alloc);
-    for (field, length) in lengths.iter() {
-        put_member(&mut members, field.clone()?, Value::from(*length))?;
-    }
-    Ok(Value::Object(members))
-}
-
-// The value of the lengths of documents.
-fn lengths_value(
-    alloc: Global,
-    doc_info: &BTreeMap<String, BTreeMap<String, usize>>,
-) -> Result<Value, AllocError>
-    ensures { IfOk result (λ v. view v ≡ keyed (keyed count) (document_lengths doc_info.now.entries)) }
-{
-    let mut members = Map::new(alloc);
-    for (doc_ref, lengths) in doc_info.iter() {
-        put_member(
-            &mut members,
-            doc_ref.clone()?,
-            length_value(alloc, lengths)?,
-        )?;
-    }
-    Ok(Value::Object(members))
-}
-
-// The object of the four parts of a store.
-fn store_value(
-    alloc: Global,
-    save: bool,
-    docs: Value,
-    doc_info: Value,
-    length: usize,
-) -> Result<Value, AllocError>
-    ensures { IfOk result (λ v. view v ≡ store_object save (view docs) (view doc_info) length) }
-{
-    let mut members = Map::new(alloc);
-    put_member(
-        &mut members,
-        String::from_str(alloc, "save")?,
-        Value::Bool(save),
-    )?;
-    put_member(&mut members, String::from_str(alloc, "docs")?, docs)?;
-    put_member(&mut members, String::from_str(alloc, "docInfo")?, doc_info)?;
-    put_member(
-        &mut members,
-        String::from_str(alloc, "length")?,
-        Value::from(length),
-    )?;
-    Ok(Value::Object(members))
-}
-
-// The texts that a value stands for.
-fn read_text(alloc: Global, value: &Value) -> Result<BTreeMap<String, String>, IndexError>
-    ensures ok { IfOk result (λ texts. view value.now ≡ keyed string (text_map texts.entries)) }
-    ensures err { IfErr result (IsRefused ((m : TextMap) → view value.now ≢ keyed string m)) }
-{
-    let Some(members) = value.as_object() else {
-        return Err(IndexError::ForeignValue);
-    };
-    let mut texts = BTreeMap::new(alloc);
-    for (field, text) in members.iter() {
-        let Some(text) = text.as_str() else {
-            return Err(IndexError::ForeignValue);
-        };
-        texts.insert(field.clone()?, String::from_str(alloc, text)?)?;
-    }
-    Ok(texts)
-}
-
-// The texts of documents that a value stands for.
-fn read_texts(
-    alloc: Global,
-    value: &Value,
-) -> Result<BTreeMap<String, BTreeMap<String, String>>, IndexError>
-    ensures ok { IfOk result (λ docs. view value.now ≡ keyed (keyed string) (document_texts docs.entries)) }
-    ensures err { IfErr result (IsRefused ((m : FinMap text_cmp TextMap) → view value.now ≢ keyed (keyed string) m)) }
-{
-    let Some(members) = value.as_object() else {
-        return Err(IndexError::ForeignValue);
-    };
-    let mut docs = BTreeMap::new(alloc);
-    for (doc_ref, texts) in members.iter() {
-        let texts = read_text(alloc, texts)?;
-        docs.insert(doc_ref.clone()?, texts)?;
-    }
-    Ok(docs)
-}
-
-// The lengths that a value stands for.
-fn read_length(alloc: Global, value: &Value) -> Result<BTreeMap<String, usize>, IndexError>
-    ensures ok { IfOk result (λ lengths. view value.now ≡ keyed count (length_map lengths.entries)) }
-    ensures err { IfErr result (IsRefused ((m : LengthMap) → view value.now ≢ keyed count m)) }
-{
-    let Some(members) = value.as_object() else {
-        return Err(IndexError::ForeignValue);
-    };
-    let mut lengths = BTreeMap::new(alloc);
-    for (field, length) in members.iter() {
-        let Some(length) = length.as_u64() else {
-            return Err(IndexError::ForeignValue);
-        };
-        lengths.insert(field.clone()?, length as usize)?;
-    }
-    Ok(lengths)
-}
-
-// The lengths of documents that a value stands for.
-fn read_lengths(
-    alloc: Global,
-    value: &Value,
-) -> Result<BTreeMap<String, BTreeMap<String, usize>>, IndexError>
-    ensures ok { IfOk result (λ doc_info. view value.now ≡ keyed (keyed count) (document_lengths doc_info.entries)) }
-    ensures err { IfErr result (IsRefused ((m : FinMap text_cmp LengthMap) → view value.now ≢ keyed (keyed count) m)) }
-{
-    let Some(members) = value.as_object() else {
-        return Err(IndexError::ForeignValue);
-    };
-    let mut doc_info = BTreeMap::new(alloc);
-    for (doc_ref, lengths) in members.iter() {
-        let lengths = read_length(alloc, lengths)?;
-        doc_info.insert(doc_ref.clone()?, lengths)?;
-    }
-    Ok(doc_info)
-}
-
-// The value of the next member, if that has the name.
-fn next_member<'a>(rest: &mut Iter<'a, String, Value>, name: &str) -> Option<&'a Value>
-    ensures some { IfSome result (λ v. members_view rest.old ≡ member name.now (view v.now) (members_view rest.new)) }
-    ensures none { IfNone result ((d : Data) (ms : Members) → members_view rest.old ≢ member name.now d ms) }
-{
-    match rest.next() {
-        Some((key, value)) => {
-            if key.as_str() == name {
-                Some(value)
-            } else {
-                None
-            }
-        }
-        None => None,
-    }
-}
-
-// The values of the lengths, the texts, the count and the mark of a store.
-fn parts(members: &Map<String, Value>) -> Option<(&Value, &Value, &Value, &Value)>
-    ensures some { IfSome result (λ p. members_view members.now.entries ≡ store_members (view p.0.now) (view p.1.now) (view p.2.now) (view p.3.now)) }
-    ensures none { IfNone result ((lengths texts count save : Data) → members_view members.now.entries ≢ store_members lengths texts count save) }
-{
-    let mut rest = members.iter();
-    let doc_info = next_member(&mut rest, "docInfo")?;
-    let docs = next_member(&mut rest, "docs")?;
-    let length = next_member(&mut rest, "length")?;
-    let save = next_member(&mut rest, "save")?;
-    match rest.next() {
-        Some(_) => None,
-        None => Some((doc_info, docs, length, save)),
-    }
-}
-
-// Whether some reference has an empty map of lengths.
-fn has_empty(doc_info: &BTreeMap<String, BTreeMap<String, usize>>) -> bool
-    ensures yes { OnTrue result ((r : Bytes) × (get (document_lengths doc_info.now.entries) r ≡ Some empty)) }
-    ensures no { OnFalse result ((r : Bytes) → get (document_lengths doc_info.now.entries) r ≢ Some empty) }
-{
-    for (_doc_ref, lengths) in doc_info.iter() {
-        if lengths.is_empty() {
-            return true;
-        }
-    }
-    false
-}
-
-// Whether some reference has a text.
-fn has_text(docs: &BTreeMap<String, BTreeMap<String, String>>) -> bool
-    ensures yes { OnTrue result ((r : Bytes) × IsSomeAnd (get (document_texts docs.now.entries) r) (λ texts. texts ≢ empty)) }
-    ensures no { OnFalse result ((r : Bytes) → IfSome (get (document_texts docs.now.entries) r) (λ texts. texts ≡ empty)) }
-{
-    for (_doc_ref, texts) in docs.iter() {
-        if !texts.is_empty() {
-            return true;
-        }
-    }
-    false
 }

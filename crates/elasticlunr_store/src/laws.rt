@@ -8,6 +8,8 @@ ghost use Rattle.elasticlunr_text.specs.declared.error.IndexError.{IndexError};
 ghost use Rattle.elasticlunr_store.specs.Table.{Table, new_table, knows, postings, same_tables, IsPrefix, IsTable, Change, AreChanged, IsAdded};
 ghost use Rattle.elasticlunr_store.specs.Tree.{IsTrieValue};
 ghost use Rattle.elasticlunr_store.specs.Contents.{Contents, IsContents, IsStoreValue, same_contents};
+ghost use Rattle.elasticlunr_store.specs.Options.{Options, HasSmallBoosts, ReadsOptions, options_value, same_options, same_field};
+ghost use Rattle.elasticlunr_store.specs.declared.config.SearchOptionsField.{SearchOptionsField};
 ghost use Rattle.elasticlunr_store.specs.Refused.{IsRefused, IsAnswer};
 
 /// A value is the trie value of one table at most.
@@ -58,4 +60,19 @@ pub fn equal_tries()
 /// Two stores are `==` exactly if their contents are equal.
 pub fn equal_stores()
     ensures { (c : Contents) (d : Contents) → Decides (same_contents c d) (c ≡ d) }
+{}
+
+/// What is written for options gives these options when it is read.
+pub fn written_options_are_read()
+    ensures { (options : Options) → HasSmallBoosts options → ReadsOptions (options_value options) options }
+{}
+
+/// Two search options are `==` exactly if their parts are equal.
+pub fn equal_options()
+    ensures { (a : Options) (b : Options) → Decides (same_options a b) (a ≡ b) }
+{}
+
+/// The options of two fields are `==` exactly if their parts are equal.
+pub fn equal_fields()
+    ensures { (a : SearchOptionsField) (b : SearchOptionsField) → Decides (same_field a b) (a ≡ b) }
 {}

@@ -7,12 +7,15 @@ ghost use Rattle.elasticlunr_store.specs.Nodes.{IsTrie, at, table_of};
 ghost use Rattle.elasticlunr_store.specs.Children.{child, IsStrictlySorted};
 ghost use Rattle.elasticlunr_store.specs.Compact.{Bears, is_marked, AreNumbers, kept_children, KeepsBelow};
 
-use super::{InvertedIndex, Node, copy_postings};
+use super::InvertedIndex;
+use super::nodes::{Node, copy_postings};
 use elasticlunr_text::IndexError;
 use std::alloc::{AllocError, Global};
 
 impl InvertedIndex {
-    /// A trie with the same postings, in which only the beginnings of their tokens are known, and the empty text.
+    /// A new trie with the same postings, in which only the beginnings of their tokens are known, and the empty text. This one stays as it is.
+    ///
+    /// Visits each node twice, with no recursion.
     pub fn compacted(&self) -> Result<Self, IndexError>
         ensures known { IfOk result (λ T. (s : Text) → IsTrue (knows T s) ↔ ((s ≡ []) ⊎ ((t : Text) × (r : Bytes) × IsPrefix s t × IsSome (posting self.now t r)))) }
         ensures postings { IfOk result (λ T. (s : Text) (r : Bytes) → posting T s r ≡ posting self.now s r) }

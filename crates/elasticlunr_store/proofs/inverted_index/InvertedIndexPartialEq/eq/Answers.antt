@@ -1,6 +1,6 @@
 use Rattle.std.proofs.Common.{◌↔◌, IsTrue, subst, sym, ◌∙◌}
 use Rattle.elasticlunr_store.specs.Same.{IsSameBelow}
-use Rattle.elasticlunr_store.specs.declared.inverted_index.Place.TheVariants.{Root}
+use Rattle.elasticlunr_store.specs.declared.inverted_index.nodes.Place.TheVariants.{Root}
 use Rattle.elasticlunr_store.specs.Equal.{tables_Decides}
 use Rattle.elasticlunr_store.proofs.Alike.{same_roots, one_answer}
 use Rattle.elasticlunr_store.proofs.inverted_index.InvertedIndexPartialEq.eq.Goals as goal

@@ -1,6 +1,6 @@
 use Rattle.std.proofs.Common.{sym, ap, ◌∙◌, arith, subst, length}
 use Rattle.elasticlunr_store.specs.Compact.{KeepsBelow, kept_children}
-use Rattle.elasticlunr_store.specs.declared.inverted_index.Place.TheVariants.{Root}
+use Rattle.elasticlunr_store.specs.declared.inverted_index.nodes.Place.TheVariants.{Root}
 use Rattle.elasticlunr_store.proofs.Compact.{below_trie, compact_trie, compact_known, compact_postings}
 use Rattle.elasticlunr_store.proofs.inverted_index.compact.compact.Goals as goal
 

@@ -2,7 +2,7 @@ use Rattle.std.proofs.Common.{◌+◌, sym, ap, ◌∙◌, arith, subst, Some, l
 use Rattle.elasticlunr_store.specs.Children.{child, IsStrictlySorted}
 use Rattle.elasticlunr_store.specs.Nodes.{at, children_of, entries_of}
 use Rattle.elasticlunr_store.specs.Compact.{KeepsBelow, kept_children}
-use Rattle.elasticlunr_store.specs.declared.inverted_index.Place.TheVariants.{At}
+use Rattle.elasticlunr_store.specs.declared.inverted_index.nodes.Place.TheVariants.{At}
 use Rattle.elasticlunr_store.proofs.Places.{get_there}
 use Rattle.elasticlunr_store.proofs.Marks.{is_marked_or}
 use Rattle.elasticlunr_store.proofs.Compact.{none_kept, left_out, put_behind}

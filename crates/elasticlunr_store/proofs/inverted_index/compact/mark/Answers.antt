@@ -3,7 +3,7 @@ use Rattle.elasticlunr_text.specs.Text.{Bytes}
 use Rattle.elasticlunr_store.specs.Children.{child, IsStrictlySorted}
 use Rattle.elasticlunr_store.specs.Nodes.{at, children_of, entries_of}
 use Rattle.elasticlunr_store.specs.Compact.{is_marked}
-use Rattle.elasticlunr_store.specs.declared.inverted_index.Place.TheVariants.{At}
+use Rattle.elasticlunr_store.specs.declared.inverted_index.nodes.Place.TheVariants.{At}
 use Rattle.elasticlunr_store.proofs.Places.{get_there}
 use Rattle.elasticlunr_store.proofs.Compact.{one_marked}
 use Rattle.elasticlunr_store.proofs.inverted_index.compact.mark.Goals as goal

@@ -1,0 +1,13 @@
+use Rattle.std.proofs.Common.{◌≡◌, ◌++◌, string_bytes}
+use Rattle.serde_json.specs.Data.{string}
+use Rattle.elasticlunr_store.specs.Maps.{members, keyed, count}
+use Rattle.elasticlunr_store.specs.Contents.{text_map, length_map}
+use Rattle.elasticlunr_store.specs.Printed.{tokens_of}
+use Rattle.elasticlunr_store.proofs.Sorted.{shown}
+use Rattle.elasticlunr_store.proofs.document_store.write.write_texts.Given as goal
+
+-- what was written, and the entries that are left
+abbrev pub invariant-loop-field : goal.invariant-loop-field
+invariant-loop-field g l =
+    (g.W.Tokens.written l.out ++ tokens_of (members (string) (shown (string_bytes) l.field-iterator)) ≡ g.W.Tokens.written l.initial.out ++ tokens_of (members (string) (shown (string_bytes) l.texts.entries)))
+    × (g.W.Tokens.before l.out ≡ g.W.Tokens.before l.fn.out)

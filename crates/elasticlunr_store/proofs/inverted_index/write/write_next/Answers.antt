@@ -1,0 +1,67 @@
+use Rattle.std.proofs.Common.{◌≡◌, ap, sym, ◌∙◌, ◌++◌, [], arith, ℕ, length}
+use Rattle.elasticlunr_store.specs.Table.{postings_of}
+use Rattle.elasticlunr_store.specs.Nodes.{entries_at}
+use Rattle.elasticlunr_store.specs.Printed.{place_members, children_members, part, tokens_of, left_members, stack_tokens, postings_before}
+use Rattle.elasticlunr_store.specs.declared.inverted_index.write.Left.TheVariants.{WithPostings, WithoutPostings}
+use Rattle.elasticlunr_store.proofs.Finishing.{some_of}
+use Rattle.elasticlunr_store.proofs.Printing.{above_d, up_to_d, opened, postings_first_more}
+use Rattle.elasticlunr_store.proofs.inverted_index.write.write_next.Goals as goal
+use Rattle.elasticlunr_store.proofs.inverted_index.write.write_next.Goals.{in_default-via-in-Some+else-c-le100, in_default-via-in_default}
+
+-- a child up to `d`
+pub returns-in_ok-open_child-in-Some-clause-written : goal.returns-in_ok-open_child-in-Some-clause-written
+returns-in_ok-open_child-in-Some-clause-written g c =
+    let nodes = c.args.nodes.now in
+    let stack = c.args.stack.now.items in
+    let P = postings_of (entries_at [] nodes c.in-WithPostings.place) in
+    let first = c.in-Some.field-0-0.now in
+    let rest = c.in-Some.rest in (
+      _,
+      omega arith,
+      c.in_ok-open_child-in-Some.ensures.written,
+      ap (λ l. tokens_of (left_members nodes l) ++ stack_tokens nodes stack) c.in-WithPostings.is
+          ∙ ap (λ es. tokens_of (place_members (part nodes) P es) ++ stack_tokens nodes stack) c.in-Some.ensures.cases.0
+          ∙ ap (λ ms. tokens_of ms ++ stack_tokens nodes stack) (up_to_d nodes P first.0 first.1 rest.now c.if-c-le100.true)
+          ∙ opened nodes c.requires stack (WithPostings c.in-WithPostings.place rest) first.0 first.1 c.push.new.self.items c.open_child.new.stack.items c.in_ok-push-in-Some.ensures.items c.in_ok-open_child-in-Some.ensures.left,
+    )
+
+-- `df` and `docs`
+pub returns-in_ok-push-in_default-clause-written : goal.returns-in_ok-push-in_default-clause-written
+returns-in_ok-push-in_default-clause-written g c =
+    let nodes = c.args.nodes.now in
+    let stack = c.args.stack.now.items in
+    let P = postings_of (entries_at [] nodes c.in-WithPostings.place) in
+    let es = c.in-WithPostings.children in
+    let now : place_members (part nodes) P es.now ≡ postings_before P (children_members (part nodes) es.now) =
+    above_d nodes P es.now (λ d k rest is. elim c.in_default.branch [
+      | in_default-via-in-Some+else-c-le100 w ↦
+          let both = sym w.in-Some.ensures.cases.0 ∙ is in
+          let heads : w.in-Some.field-0-0.now ≡ (d, k) = cc in
+          omega (arith, w.if-c-le100.false, ap (λ (p : ℕ × ℕ). p.0) heads)
+      | in_default-via-in_default w ↦
+          let some = some_of c.split_first.result (c.split_first.ensures.variant.1 (omega (arith, ap length is))) in
+          absurd (w.in_default.not-Some some.0 some.1)
+    ]) in (
+      _,
+      omega arith,
+      c.in_ok-write_postings-in_default.ensures.written,
+      ap (λ l. tokens_of (left_members nodes l) ++ stack_tokens nodes stack) c.in-WithPostings.is
+          ∙ ap (λ ms. tokens_of ms ++ stack_tokens nodes stack) now
+          ∙ postings_first_more nodes P stack (WithoutPostings es) _ c.in_ok-push-in_default.ensures.items,
+    )
+
+-- a child above `d`
+pub returns-in_ok-open_child-in-Some-split_first-clause-written :
+    goal.returns-in_ok-open_child-in-Some-split_first-clause-written
+returns-in_ok-open_child-in-Some-split_first-clause-written g c =
+    let nodes = c.args.nodes.now in
+    let stack = c.args.stack.now.items in
+    let first = c.in-Some-split_first.field-0-0.now in
+    let rest = c.in-Some-split_first.rest in (
+      _,
+      omega arith,
+      c.in_ok-open_child-in-Some-split_first.ensures.written,
+      ap (λ l. tokens_of (left_members nodes l) ++ stack_tokens nodes stack) c.in-WithoutPostings.is
+          ∙ ap (λ es. tokens_of (children_members (part nodes) es) ++ stack_tokens nodes stack) c.in-Some-split_first.ensures.cases.0
+          ∙ opened nodes c.requires stack (WithoutPostings rest) first.0 first.1 c.push-in-Some-split_first.new.self.items c.open_child-in-Some-split_first.new.stack.items c.in_ok-push-in-Some-split_first.ensures.items c.in_ok-open_child-in-Some-split_first.ensures.left,
+    )

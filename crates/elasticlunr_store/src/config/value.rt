@@ -1,0 +1,123 @@
+//! The JSON value of search options.
+ghost use Rattle.std.specs.Prelude.{◌≡◌, ◌≢◌, ◌⊎◌, ◌<◌, ◌^◌, ℕ, Bool, Option, None, Some, false, IfOk, IfErr, IfSome, OnOk, IsOkUnless, option_map, codes, string_bytes};
+ghost use Rattle.std.specs.FinMap.{get as get_field};
+ghost use Rattle.serde_json.specs.Data.{Data, null, boolean, object, put};
+ghost use Rattle.serde_json.specs.Find.{get};
+ghost use Rattle.serde_json.specs.View.{view, members_view};
+ghost use Rattle.serde_json.specs.Written.{has_float};
+ghost use Rattle.elasticlunr_text.specs.Text.{Bytes};
+ghost use Rattle.elasticlunr_text.specs.declared.error.IndexError.TheVariants.{Memory};
+ghost use Rattle.elasticlunr_store.specs.Maps.{keyed, count, same_map};
+ghost use Rattle.elasticlunr_store.specs.Refused.{IsRefused};
+ghost use Rattle.elasticlunr_store.specs.Options.{Options, FieldMap, field_map, options_of, new_options, bool_value, field_value, options_value, options_object, put_part, IsPart, ReadsField, ReadsFields, ReadsOptions, same_bool, same_field, same_options};
+
+use super::{SearchBool, SearchOptionsField};
+use crate::members::put_member;
+use serde_json::{Map, Value};
+use std::alloc::{AllocError, Global};
+use std::collections::BTreeMap;
+
+pub(super) fn bool_value(alloc: Global, bool: SearchBool) -> Result<Value, AllocError>
+    ensures { IfOk result (λ v. view v ≡ bool_value bool) }
+{
+    let name = match bool {
+        SearchBool::Or => "OR",
+        SearchBool::And => "AND",
+    };
+    Ok(Value::String(String::from_str(alloc, name)?))
+}
+
+// Sets a member of an object, if there is a value for it.
+pub(super) fn put_part(
+    alloc: Global,
+    members: &mut Map<String, Value>,
+    key: &str,
+    value: Option<Value>,
+) -> Result<(), AllocError>
+    ensures { OnOk result (members_view members.new.entries ≡ put_part key.now (option_map view value) (members_view members.old.entries)) }
+{
+    match value {
+        Some(value) => {
+            put_member(members, String::from_str(alloc, key)?, value)?;
+            Ok(())
+        }
+        None => Ok(()),
+    }
+}
+
+fn bool_part(alloc: Global, bool: Option<SearchBool>) -> Result<Option<Value>, AllocError>
+    ensures { IfOk result (λ v. option_map view v ≡ option_map bool_value bool) }
+{
+    match bool {
+        Some(bool) => {
+            let value = bool_value(alloc, bool)?;
+            Ok(Some(value))
+        }
+        None => Ok(None),
+    }
+}
+
+fn boost_part(boost: Option<u8>) -> Option<Value>
+    ensures { option_map view result ≡ option_map count boost }
+{
+    match boost {
+        Some(boost) => Some(Value::from(boost)),
+        None => None,
+    }
+}
+
+fn expand_part(expand: Option<bool>) -> Option<Value>
+    ensures { option_map view result ≡ option_map boolean expand }
+{
+    match expand {
+        Some(expand) => Some(Value::Bool(expand)),
+        None => None,
+    }
+}
+
+// The object of the options for all fields, and of those of some.
+pub(super) fn whole_value(
+    alloc: Global,
+    bool: SearchBool,
+    expand: bool,
+    fields: Value,
+) -> Result<Value, AllocError>
+    ensures { IfOk result (λ v. view v ≡ options_object (bool_value bool) (boolean expand) (view fields)) }
+{
+    let mut members = Map::new(alloc);
+    let bool = bool_value(alloc, bool)?;
+    put_member(&mut members, String::from_str(alloc, "bool")?, bool)?;
+    put_member(
+        &mut members,
+        String::from_str(alloc, "expand")?,
+        Value::Bool(expand),
+    )?;
+    put_member(&mut members, String::from_str(alloc, "fields")?, fields)?;
+    Ok(Value::Object(members))
+}
+
+// The value of the options of one field.
+pub(super) fn field_value(alloc: Global, field: &SearchOptionsField) -> Result<Value, AllocError>
+    ensures { IfOk result (λ v. view v ≡ field_value field.now) }
+{
+    let mut members = Map::new(alloc);
+    let bool = bool_part(alloc, field.bool)?;
+    put_part(alloc, &mut members, "bool", bool)?;
+    put_part(alloc, &mut members, "boost", boost_part(field.boost))?;
+    put_part(alloc, &mut members, "expand", expand_part(field.expand))?;
+    Ok(Value::Object(members))
+}
+
+// The value of the options of fields.
+pub(super) fn fields_value(
+    alloc: Global,
+    fields: &BTreeMap<String, SearchOptionsField>,
+) -> Result<Value, AllocError>
+    ensures { IfOk result (λ v. view v ≡ keyed field_value (field_map fields.now.entries)) }
+{
+    let mut members = Map::new(alloc);
+    for (name, field) in fields.iter() {
+        put_member(&mut members, name.clone()?, field_value(alloc, field)?)?;
+    }
+    Ok(Value::Object(members))
+}

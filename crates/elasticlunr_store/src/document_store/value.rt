@@ -1,0 +1,100 @@
+//! The JSON value of a document store.
+ghost use Rattle.std.specs.Prelude.{◌≡◌, ◌==◌, nat_eq, false, string_bytes, if◌then◌else◌, OnOk, OnErr, IfOk, IfErr, IfSome, IfNone, IsSomeAnd, Some, ◌≢◌, IsOkUnless, unwrap_or};
+ghost use Rattle.std.specs.Option.{option_map, option_and_then};
+ghost use Rattle.std.specs.Str.{bytes_eq};
+ghost use Rattle.std.specs.Bool.{OnTrue, OnFalse};
+ghost use Rattle.std.specs.FinMap.{FinMap, get, contains_key, len, insert, remove, empty};
+ghost use Rattle.elasticlunr_text.specs.declared.error.IndexError.TheVariants.{Memory};
+ghost use Rattle.elasticlunr_text.specs.Text.{Bytes, text_cmp};
+ghost use Rattle.elasticlunr_store.specs.Refused.{IsRefused};
+ghost use Rattle.elasticlunr_store.specs.Contents.{Contents, TextMap, LengthMap, IsContents, new_contents, with_document, with_length, without_document, without, length_at, IsStoreValue, store_object, store_members, store_value};
+ghost use Rattle.elasticlunr_store.specs.Maps.{keyed, count, same_map};
+ghost use Rattle.serde_json.specs.Data.{Data, Members, no_members, member, boolean, string, put};
+ghost use Rattle.serde_json.specs.View.{view, members_view};
+ghost use Rattle.serde_json.specs.Written.{has_float};
+ghost use Rattle.elasticlunr_store.specs.Contents.{text_map, length_map, document_texts, document_lengths};
+
+use crate::members::put_member;
+use serde_json::{Map, Value};
+use std::alloc::{AllocError, Global};
+use std::collections::BTreeMap;
+
+// The value of a map of texts.
+fn text_value(alloc: Global, texts: &BTreeMap<String, String>) -> Result<Value, AllocError>
+    ensures { IfOk result (λ v. view v ≡ keyed string (text_map texts.now.entries)) }
+{
+    let mut members = Map::new(alloc);
+    for (field, text) in texts.iter() {
+        put_member(&mut members, field.clone()?, Value::String(text.clone()?))?;
+    }
+    Ok(Value::Object(members))
+}
+
+// The value of the texts of documents.
+pub(super) fn texts_value(
+    alloc: Global,
+    docs: &BTreeMap<String, BTreeMap<String, String>>,
+) -> Result<Value, AllocError>
+    ensures { IfOk result (λ v. view v ≡ keyed (keyed string) (document_texts docs.now.entries)) }
+{
+    let mut members = Map::new(alloc);
+    for (doc_ref, texts) in docs.iter() {
+        put_member(&mut members, doc_ref.clone()?, text_value(alloc, texts)?)?;
+    }
+    Ok(Value::Object(members))
+}
+
+// The value of a map of lengths.
+fn length_value(alloc: Global, lengths: &BTreeMap<String, usize>) -> Result<Value, AllocError>
+    ensures { IfOk result (λ v. view v ≡ keyed count (length_map lengths.now.entries)) }
+{
+    let mut members = Map::new(alloc);
+    for (field, length) in lengths.iter() {
+        put_member(&mut members, field.clone()?, Value::from(*length))?;
+    }
+    Ok(Value::Object(members))
+}
+
+// The value of the lengths of documents.
+pub(super) fn lengths_value(
+    alloc: Global,
+    doc_info: &BTreeMap<String, BTreeMap<String, usize>>,
+) -> Result<Value, AllocError>
+    ensures { IfOk result (λ v. view v ≡ keyed (keyed count) (document_lengths doc_info.now.entries)) }
+{
+    let mut members = Map::new(alloc);
+    for (doc_ref, lengths) in doc_info.iter() {
+        put_member(
+            &mut members,
+            doc_ref.clone()?,
+            length_value(alloc, lengths)?,
+        )?;
+    }
+    Ok(Value::Object(members))
+}
+
+// The object of the four parts of a store.
+pub(super) fn store_value(
+    alloc: Global,
+    save: bool,
+    docs: Value,
+    doc_info: Value,
+    length: usize,
+) -> Result<Value, AllocError>
+    ensures { IfOk result (λ v. view v ≡ store_object save (view docs) (view doc_info) length) }
+{
+    let mut members = Map::new(alloc);
+    put_member(
+        &mut members,
+        String::from_str(alloc, "save")?,
+        Value::Bool(save),
+    )?;
+    put_member(&mut members, String::from_str(alloc, "docs")?, docs)?;
+    put_member(&mut members, String::from_str(alloc, "docInfo")?, doc_info)?;
+    put_member(
+        &mut members,
+        String::from_str(alloc, "length")?,
+        Value::from(length),
+    )?;
+    Ok(Value::Object(members))
+}

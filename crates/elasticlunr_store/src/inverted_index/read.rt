@@ -1,0 +1,170 @@
+//! Reading a trie back from a JSON value, one node after another.
+ghost use Rattle.std.specs.FinMap.{get as get_postings};
+ghost use Rattle.std.specs.Prelude.{option_map, codes, ◌⊎◌, Some, true, encode_utf8, ◌∷◌, IfSome, ◌≡◌, ℕ, ◌<◌, ◌+◌, ◌^◌, ◌↔◌, [], List, length, None, IsTrue, IfOk, IfErr, IsOk, OnOk, OnErr, IsOkUnless, false, string_bytes, string_cmp, unwrap_or, slice_set, ◌≢◌, ◌++◌, slice_get};
+ghost use Rattle.std.specs.Str.{chars, IsUtf8};
+ghost use Rattle.elasticlunr_text.specs.Text.{Text, Bytes};
+ghost use Rattle.elasticlunr_store.specs.Table.{Table, new_table, knows, posting, postings, IsTable, AddsToken, RemovesToken};
+ghost use Rattle.std.specs.BTreeMap.{IsOrdered};
+ghost use Rattle.std.specs.Option.{option_map_or};
+ghost use Rattle.std.specs.FinMap.{entries, len};
+ghost use Rattle.serde_json.specs.Data.{Data, Members, object, number, unsigned, put, member, no_members};
+ghost use Rattle.serde_json.specs.Find.{get};
+ghost use Rattle.serde_json.specs.View.{view, members_view};
+ghost use Rattle.elasticlunr_store.specs.Refused.{IsRefused};
+ghost use Rattle.elasticlunr_text.specs.declared.error.IndexError.TheVariants.{Memory};
+ghost use Rattle.serde_json.specs.Written.{has_float};
+ghost use Rattle.elasticlunr_store.specs.Tree.{frequency, frequencies, HasKeysInOrder, IsTree, IsTrieValue};
+ghost use Rattle.elasticlunr_store.specs.Finished.{HasChildren, KeepsOtherValues, IsNode};
+ghost use Rattle.elasticlunr_store.specs.Table.{same_tables};
+ghost use Rattle.elasticlunr_store.specs.Same.{IsSameBelow};
+ghost use Rattle.elasticlunr_store.specs.Reading.{seen, ReadsChildren, ReadsNode, HasForeignKey};
+ghost use Rattle.std.specs.Str.{all_scalars};
+ghost use Rattle.elasticlunr_store.specs.Children.{child, IsStrictlySorted, IsAt, IsGapFor};
+ghost use Rattle.elasticlunr_store.specs.Table.{postings_of};
+ghost use Rattle.elasticlunr_store.specs.Nodes.{children_at, children_of, entries_of, step_of, walk, IsTrie, AreSmall, SameNodes, IsBranch, HasBranch, GainsChild, IsLocated, SetsPosting, SameTrie, Grows, IsPlace, table_of, LosesReference, ClearsPosting, RemovesPosting, look};
+
+use super::nodes::{Node, gap};
+use elasticlunr_text::IndexError;
+use serde_json::{Map, Value};
+use std::alloc::Global;
+use std::collections::BTreeMap;
+
+// The value of an object's one member, where that has the given key.
+pub(super) fn only_member<'a>(value: &'a Value, key: &str) -> Option<&'a Value>
+    ensures found { IfSome result (λ v. view value.now ≡ object (member key.now (view v.now) no_members)) }
+    ensures none { result ≡ None → (d : Data) → view value.now ≢ object (member key.now d no_members) }
+{
+    let members = value.as_object()?;
+    if members.len() != 1 {
+        return None;
+    }
+    value.get(key)
+}
+
+// The number under `tf`, where nothing else stands.
+fn read_frequency(value: &Value) -> Option<u64>
+    ensures found { IfSome result (λ n. view value.now ≡ frequency n) }
+    ensures small { IfSome result (λ n. n < 2 ^ 64) }
+    ensures none { result ≡ None → (n : ℕ) → view value.now ≢ frequency n }
+{
+    only_member(value, "tf")?.as_u64()
+}
+
+// The postings that the value under `docs` tells.
+fn read_docs(alloc: Global, value: &Value) -> Result<BTreeMap<String, u64>, IndexError>
+    ensures ok { IfOk result (λ m. view value.now ≡ object (frequencies (entries (postings_of m.entries)))) }
+    ensures small { IfOk result (λ m. AreSmall m.entries) }
+    ensures foreign { IfErr result (IsRefused ((es : List (Bytes × ℕ)) → view value.now ≢ object (frequencies es))) }
+{
+    let Some(docs) = value.as_object() else {
+        return Err(IndexError::ForeignValue);
+    };
+    let mut postings = BTreeMap::new(alloc);
+    for (doc_ref, frequency) in docs.iter() {
+        let Some(term_freq) = read_frequency(frequency) else {
+            return Err(IndexError::ForeignValue);
+        };
+        postings.insert(doc_ref.clone()?, term_freq)?;
+    }
+    Ok(postings)
+}
+
+// The character of a text of one character.
+fn only_char(text: &str) -> Option<char>
+    ensures found { IfSome result (λ c. (text.now ≡ encode_utf8 c) × (all_scalars (c ∷ []) ≡ true)) }
+    ensures none { result ≡ None → (c : ℕ) → all_scalars (c ∷ []) ≡ true → text.now ≢ encode_utf8 c }
+{
+    let mut letters = text.chars();
+    let c = letters.next()?;
+    match letters.next() {
+        None => Some(c),
+        Some(_) => None,
+    }
+}
+
+// Is it a key of a node that is no child's?
+fn is_own_key(key: &str) -> bool
+    ensures { IsTrue result ↔ ((key.now ≡ codes "docs") ⊎ (key.now ≡ codes "df")) }
+{
+    key == "docs" || key == "df"
+}
+
+// The children that the members tell, numbered on from the values that wait. Their values wait behind these.
+fn read_children<'a>(
+    alloc: Global,
+    members: &'a Map<String, Value>,
+    waiting: &mut Vec<&'a Value>,
+) -> Result<Vec<(char, usize)>, IndexError>
+    ensures ok { IfOk result (λ kids. ReadsChildren kids.items (seen waiting.old.items) (seen waiting.new.items) (members_view members.now.entries)) }
+    ensures order { IfOk result (λ _. HasKeysInOrder (members_view members.now.entries)) }
+    ensures foreign { IfErr result (IsRefused (HasForeignKey (members_view members.now.entries))) }
+{
+    let mut children = Vec::new(alloc);
+    for (key, value) in members.iter() {
+        if is_own_key(key.as_str()) {
+            continue;
+        }
+        let Some(c) = only_char(key.as_str()) else {
+            return Err(IndexError::ForeignValue);
+        };
+        let at = gap(&children, c);
+        children.insert(at, (c, waiting.len()))?;
+        waiting.push(value)?;
+    }
+    Ok(children)
+}
+
+// Is this number under `df`?
+fn has_count(value: &Value, count: u64) -> bool
+    ensures { IsTrue result ↔ (get (codes "df") (view value.now) ≡ Some (number (unsigned count))) }
+{
+    match value.get("df") {
+        Some(df) => df.as_u64() == Some(count),
+        None => false,
+    }
+}
+
+// The node that a value tells.
+fn read_node<'a>(
+    alloc: Global,
+    value: &'a Value,
+    waiting: &mut Vec<&'a Value>,
+) -> Result<Node, IndexError>
+    ensures ok { IfOk result (λ n. ReadsNode n.children.items n.postings.entries (seen waiting.old.items) (seen waiting.new.items) (view value.now)) }
+    ensures foreign { IfErr result (IsRefused ((T : Table) (p : Text) → IsTable T → ¬ (IsTree T p (view value.now)))) }
+{
+    let Some(members) = value.as_object() else {
+        return Err(IndexError::ForeignValue);
+    };
+    let Some(docs) = value.get("docs") else {
+        return Err(IndexError::ForeignValue);
+    };
+    let postings = read_docs(alloc, docs)?;
+    if !has_count(value, postings.len() as u64) {
+        return Err(IndexError::ForeignValue);
+    }
+    let children = read_children(alloc, members, waiting)?;
+    Ok(Node { children, postings })
+}
+
+// The root's children and the nodes that a value tells.
+pub(super) fn read_nodes(
+    alloc: Global,
+    value: &Value,
+) -> Result<(Vec<(char, usize)>, Vec<Node>), IndexError>
+    ensures trie { IfOk result (λ t. IsTrie t.0.items t.1.items) }
+    ensures tree { IfOk result (λ t. IsTree (table_of t.0.items t.1.items) [] (view value.now)) }
+    ensures foreign { IfErr result (IsRefused ((T : Table) → IsTable T → ¬ (IsTree T [] (view value.now)))) }
+{
+    let mut waiting = Vec::new(alloc);
+    let root = read_node(alloc, value, &mut waiting)?;
+    if !root.postings.is_empty() {
+        return Err(IndexError::ForeignValue);
+    }
+    let mut nodes = Vec::new(alloc);
+    while nodes.len() < waiting.len() {
+        let node = read_node(alloc, waiting[nodes.len()], &mut waiting)?;
+        nodes.push(node)?;
+    }
+    Ok((root.children, nodes))
+}

@@ -1,0 +1,21 @@
+//! The members of JSON objects.
+ghost use Rattle.std.specs.Prelude.{◌≡◌, OnOk, string_bytes, string_cmp};
+ghost use Rattle.std.specs.BTreeMap.{IsOrdered};
+ghost use Rattle.serde_json.specs.Data.{put};
+ghost use Rattle.serde_json.specs.View.{view, members_view};
+
+use serde_json::{Map, Value};
+use std::alloc::AllocError;
+
+// Sets a member of an object.
+pub fn put_member(
+    members: &mut Map<String, Value>,
+    key: String,
+    value: Value,
+) -> Result<(), AllocError>
+    ensures put { OnOk result (members_view members.new.entries ≡ put (string_bytes key) (view value) (members_view members.old.entries)) }
+    ensures ordered { IsOrdered string_cmp members.new }
+{
+    members.insert(key, value)?;
+    Ok(())
+}

@@ -1,0 +1,3 @@
+mod options;
+mod store;
+mod trie;

@@ -53,8 +53,8 @@ module _ (Behind : Text → Option Text → Type 0) (keeps_all : (t : Text) (lef
   Listed-same : (t : Text) (left : Option Text) → IsTrue (all_scalars t) → Listed t left ↔ (left ≡ unless_listed words t)
   Listed-same t left scalar = (
     λ listed.
-      (behind (unless_listed words t) left).0
-      (subst (λ kept. MatchOption kept (left ≡ None) (λ u. Behind u left)) (listed.1 ∙ without-words filter words t has scalar) listed.2),
+        (behind (unless_listed words t) left).0
+        (subst (λ kept. MatchOption kept (left ≡ None) (λ u. Behind u left)) (listed.1 ∙ without-words filter words t has scalar) listed.2),
     λ e. (unless_listed words t, sym (without-words filter words t has scalar), (behind (unless_listed words t) left).1 e),
   )
 
@@ -65,8 +65,8 @@ module _ (Behind : Text → Option Text → Type 0) (keeps_all : (t : Text) (lef
   class-Listed : (trimmer : RegexTrimmer) (in_class : ℕ → Bool) (token : Text) (left : Option Text) → ((c : ℕ) → keeps trimmer c ≡ in_class c) → IsTrue (all_scalars token) → ((cut : Option Text) × (cut ≡ cut_to_class trimmer token) × MatchOption cut (left ≡ None) (λ u. Listed u left)) ↔ class_leaves in_class words token left
   class-Listed trimmer in_class token left same scalar = (
     λ all.
-      (cut-Listed (trimmed in_class token) left (scalars-trimmed in_class token scalar)).0
-      (subst (λ cut. MatchOption cut (left ≡ None) (λ u. Listed u left)) (all.1 ∙ cuts) all.2),
+        (cut-Listed (trimmed in_class token) left (scalars-trimmed in_class token scalar)).0
+        (subst (λ cut. MatchOption cut (left ≡ None) (λ u. Listed u left)) (all.1 ∙ cuts) all.2),
     λ e. (unless_empty (trimmed in_class token), sym cuts, (cut-Listed (trimmed in_class token) left (scalars-trimmed in_class token scalar)).1 e),
   )
     where

@@ -37,10 +37,7 @@ fn words_of_texts(rt: HostRuntime) -> Result<(), Fail> {
         ("Solve for A - B", "solve;for;a;b;"),
         ("", ""),
         ("İZMİR-ÇAĞ", "i\u{307}zmi\u{307}r;çağ;"),
-        (
-            "a\u{A0}b\u{2028}c\u{3000}d-\u{2010}e",
-            "a;b;c;d;\u{2010}e;",
-        ),
+        ("a\u{A0}b\u{2028}c\u{3000}d-\u{2010}e", "a;b;c;d;\u{2010}e;"),
         ("ŸÁ×ÞŽ\u{1E9E}\u{391}", "ÿá×þž\u{1E9E}\u{391};"),
     ] {
         let tokens = tokenize_whitespace(alloc, text)?;
@@ -107,8 +104,20 @@ fn pipelines_of_languages(rt: HostRuntime) -> Result<(), Fail> {
     let alloc = rt.alloc();
     leaves(&rt, alloc, &Korean::new(), &[" 한글 ", " 사랑!"], "한글;사랑;")?;
     leaves(&rt, alloc, &Korean::new(), &["어떤", "사람"], "사람;")?;
-    leaves(&rt, alloc, &English::new(), &["[the]", "!!", "Eggs"], "Egg;")?;
-    leaves(&rt, alloc, &Arabic::new(), &["\u{640}", "\u{623}\u{623}"], "\u{627}\u{623};")?;
+    leaves(
+        &rt,
+        alloc,
+        &English::new(),
+        &["[the]", "!!", "Eggs"],
+        "Egg;",
+    )?;
+    leaves(
+        &rt,
+        alloc,
+        &Arabic::new(),
+        &["\u{640}", "\u{623}\u{623}"],
+        "\u{627}\u{623};",
+    )?;
     leaves(&rt, alloc, &AnyLanguage::Danish, &["på", "øen!"], "øen;")?;
     leaves(&rt, alloc, &AnyLanguage::Russian, &["я", "и", "ёж"], "ёж;")
 }

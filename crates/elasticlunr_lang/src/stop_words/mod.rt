@@ -13,7 +13,6 @@ pub mod pt;
 pub mod ro;
 pub mod ru;
 pub mod sv;
-pub mod tr;
-
 #[cfg(test)]
 mod tests;
+pub mod tr;

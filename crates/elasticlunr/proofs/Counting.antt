@@ -1,17 +1,15 @@
 -- From the counts of tokens to the postings of a field.
-use Rattle.std.proofs.Common.{◌≡◌, ◌≢◌, ◌⊎◌, inl, inr, ℕ, zero, suc, ◌+◌, ◌<◌, List, [], ◌∷◌, ◌++◌, length, map, get_or, arith, Bool, true, false, cond, Option, None, Some, IfSome, unwrap_or, true≢false, bytes_eq, String, Global, string_bytes, refl, sym, ap, subst, ◌∙◌}
+use Rattle.std.proofs.Common.{◌≡◌, ◌≢◌, ◌⊎◌, inl, inr, ℕ, zero, suc, ◌+◌, ◌<◌, List, [], ◌∷◌, ◌++◌, length, map, get_or, arith, Bool, true, false, cond, Option, None, Some, unwrap_or, bytes_eq, String, Global, string_bytes, refl, sym, ap, subst, ◌∙◌}
 use Rattle.std.specs.Prelude.{IsSomeAnd, IsTrue, Contains, count_by, string_cmp}
 use Rattle.std.specs.List.{slice_get}
 use Rattle.std.proofs.Math.ListN.{set}
 use Rattle.std.specs.Str.{chars, encode_utf8_all}
-use Rattle.std.specs.Option.{option_map_or}
-use Rattle.std.specs.BTreeMap.{BTreeMap, IsOrdered, get_by_text, get, is_at}
+use Rattle.std.specs.BTreeMap.{BTreeMap, IsOrdered, get_by_text, is_at}
 use Rattle.std.specs.Cmp.{eq_by_cmp_equiv}
 use Rattle.std.specs.String.{string_cmp_total}
 use Rattle.std.proofs.lemmas.List.Sums.{sum_by-cons}
-use Rattle.std.specs.Cmp.Lexicographic.{nat_list_cmp_total, slice_cmp}
-use Rattle.std.specs.Ordering.{nat_cmp, is_eq, eq_by_cmp}
-use Rattle.std.proofs.lemmas.Slice.Eq.{bytes_eq-Decides}
+use Rattle.std.specs.Cmp.Lexicographic.{slice_cmp}
+use Rattle.std.specs.Ordering.{nat_cmp}
 use Rattle.std.proofs.lemmas.Str.{IsUtf8-string_bytes, encodes-chars}
 use Rattle.std.proofs.lemmas.Map.Text.{is_eq-slice_cmp}
 use Rattle.std.proofs.lemmas.Map.Entries.{lookup_from_place, place_from_lookup}
@@ -92,12 +90,12 @@ module _ (old mid new : Table) (reference : Bytes) (counts : List (Text × ℕ))
     at_token token there false e =
         let stays : posting new token reference ≡ posting mid token reference = step.others token reference (λ is. apart token t e is.0) in
         either
-            (λ p. inl (record { count = p.count; among = stands_before counts _ _ p.among; rooted = subst (λ o. IsSomeAnd o (IsRoot p.count)) (sym stays) p.rooted }))
-            (λ p. inr (record {
-              absent = λ k among. either (p.absent k) (λ is. apart token t e (ap (λ q. q.0) (sym is))) (stands_split counts _ _ among);
-              as_before = stays ∙ p.as_before;
-            }))
-            (so_far.its_own token there)
+        (λ p. inl (record { count = p.count; among = stands_before counts _ _ p.among; rooted = subst (λ o. IsSomeAnd o (IsRoot p.count)) (sym stays) p.rooted }))
+        (λ p. inr (record {
+          absent = λ k among. either (p.absent k) (λ is. apart token t e (ap (λ q. q.0) (sym is))) (stands_split counts _ _ among);
+          as_before = stays ∙ p.as_before;
+        }))
+        (so_far.its_own token there)
 
   pub posts_empty : t ≡ [] → new ≡ mid → Posts old new reference (counts ++ (t, n) ∷ [])
   posts_empty empty same_table = subst (λ u. Posts old u reference (counts ++ (t, n) ∷ [])) (sym same_table) (record {
@@ -178,8 +176,7 @@ module _ (tokens : List (String Global)) (counts : BTreeMap (String Global) ℕ)
       let token_is : text_of key ≡ token = ap (λ p. p.0) entry.2 in
       let n_is : entry.0.1 ≡ n = ap (λ p. p.1) entry.2 in
       let counted : entry.0.1 ≡ count_by (bytes_eq (text_of key)) (texts_of tokens) =
-      sym (ap (λ o. unwrap_or o 0) found) ∙ are.counted (string_bytes key) ∙ count_texts key tokens in
-      (
+      sym (ap (λ o. unwrap_or o 0) found) ∙ are.counted (string_bytes key) ∙ count_texts key tokens in (
         sym n_is ∙ counted ∙ ap (λ t. count_by (bytes_eq t) (texts_of tokens)) token_is,
         λ zero_is. are.positive (string_bytes key) (found ∙ ap Some (n_is ∙ zero_is)),
       )

@@ -1,7 +1,7 @@
 -- A document in the place of what its reference had, from the parts of the work.
-use Rattle.std.proofs.Common.{◌≡◌, ◌≢◌, ◌⊎◌, inl, inr, ℕ, zero, suc, ◌+◌, ◌≤◌, ◌<◌, List, [], ◌∷◌, ◌++◌, length, map, arith, Bool, true, false, not, ◌&&◌, ◌||◌, cond, Option, None, Some, IfSome, option_map, option_and_then, true≢false, bytes_eq, refl, sym, ap, subst, ◌∙◌}
-use Rattle.std.specs.Prelude.{IsSomeAnd, IsSome, IsTrue}
-use Rattle.std.specs.List.{slice_get, zip, list_any}
+use Rattle.std.proofs.Common.{◌≡◌, ◌≢◌, inl, inr, ℕ, zero, suc, ◌+◌, ◌≤◌, ◌<◌, List, [], ◌∷◌, ◌++◌, length, map, arith, Bool, true, false, not, cond, Option, None, Some, IfSome, option_map, option_and_then, true≢false, bytes_eq, refl, sym, ap, subst, ◌∙◌}
+use Rattle.std.specs.Prelude.{IsSome, IsTrue}
+use Rattle.std.specs.List.{slice_get, zip}
 use Rattle.std.specs.FinMap as finite
 use Rattle.std.specs.Cmp.Lexicographic.{nat_list_cmp_total}
 use Rattle.std.proofs.lemmas.Slice.Eq.{bytes_eq-Decides}
@@ -14,10 +14,10 @@ use Rattle.elasticlunr_store.specs.Contents.{Contents, TextMap, IsContents, leng
 use Rattle.elasticlunr.specs.Fields.{has_name, all_differ}
 use Rattle.elasticlunr.specs.History.{Given, Document, add, Commands, ◌▸◌}
 use Rattle.elasticlunr.specs.Standing.{Plan, tokens_at, stored, length_in, Holds}
-use Rattle.elasticlunr.specs.Entered.{IsMadeOf, TakesOut, ReplacesPostings, HasOnlyStored, MakesRoom, AddsTokens, Enters}
+use Rattle.elasticlunr.specs.Entered.{IsMadeOf, TakesOut, ReplacesPostings, HasOnlyStored, MakesRoom, AddsTokens}
 use Rattle.elasticlunr.specs.Texts.{reference_alone, with_texts, with_tokens, with_all_tokens}
-use Rattle.elasticlunr.proofs.Adding.{same, apart, either, both_some, holds_entered}
-use Rattle.elasticlunr.proofs.Counting.{mapped_back, mapped_there}
+use Rattle.elasticlunr.proofs.Adding.{Enters, same, apart, either, both_some, holds_entered}
+use Rattle.elasticlunr.proofs.Counting.{mapped_back}
 use Rattle.elasticlunr.proofs.Pairing.{FoundIn, early, late, found, within_list}
 use Rattle.std.proofs.lemmas.List.{length_push}
 use Rattle.elasticlunr.proofs.Naming.{turned, both_false, both_true}
@@ -78,9 +78,9 @@ texts_are_stored : (field reference : Bytes) (fields values : List Bytes) → al
     → with_texts (reference_alone field reference) fields values ≡ finite.from_entries (zip fields values ++ (field, reference) ∷ [])
 texts_are_stored field reference fields values differ =
     finite.same_map nat_list_cmp_total (finite.slice_cmp-IsAntisymmetric finite.nat_cmp-IsAntisymmetric) _ _ (λ q.
-      found_with_texts (reference_alone field reference) fields values q differ
-      ∙ ap (or_else (named fields values q)) (found_after_insert finite.empty field reference q ∙ ap (cond (bytes_eq q field) (Some reference)) (finite.get-empty text_cmp q))
-      ∙ sym (finite.get-from_entries nat_list_cmp_total (zip fields values ++ (field, reference) ∷ []) q ∙ found_in_zip fields values field reference q))
+    found_with_texts (reference_alone field reference) fields values q differ
+    ∙ ap (or_else (named fields values q)) (found_after_insert finite.empty field reference q ∙ ap (cond (bytes_eq q field) (Some reference)) (finite.get-empty text_cmp q))
+    ∙ sym (finite.get-from_entries nat_list_cmp_total (zip fields values ++ (field, reference) ∷ []) q ∙ found_in_zip fields values field reference q))
 
 -- the lengths that were put in
 abbrev length_named : List Bytes → List (Option (List Text)) → Bytes → Option ℕ
@@ -258,7 +258,7 @@ module _ (plan : Plan) (document : Document) (reference : Bytes) (values : List 
         by_tokens m em out None e =
             let stays : m ≡ after = cc (em, ea, step.without_tokens i (none_past tokens i e)) in
             subst (ReplacesPostings before after reference) (sym (no_tokens_there i e))
-                (subst (λ t. ReplacesPostings before t reference None) stays (replaces_after before m m reference None out (replaces_nothing m reference out.its_own)))
+            (subst (λ t. ReplacesPostings before t reference None) stays (replaces_after before m m reference None out (replaces_nothing m reference out.its_own)))
 
   pub enters_in_place : (old_tables mid_tables new_tables : List Table) (old mid : Contents) (texts : TextMap)
       → IsTrue (all_differ plan.fields) → plan.save ≡ old.save → length mid_tables ≡ length old_tables
@@ -346,7 +346,7 @@ pub holds_after : (plan : Plan) (document : Document) (commands : Commands) (fie
 holds_after plan document commands fields field reference values tokens old_tables mid_tables new_tables old mid longer new texts its_fields differ its_field made held many room adds longer_is are new_is =
     let longer_from : longer ≡ with_all_tokens mid reference plan.fields tokens = longer_is ∙ ap (λ fs. with_all_tokens mid reference fs tokens) (sym its_fields) in
     subst (λ c. Holds plan (commands ▸ add document) new_tables c) (sym (new_is ∙ ap (λ c. with_document c reference texts) longer_from))
-        (holds_entered commands document plan old_tables new_tables old _ held (λ only.
-          enters_in_place plan document reference values tokens made old_tables mid_tables new_tables old mid texts differ (sym held.store.save) many
-          (room (subst (HasOnlyStored old_tables old) made.its_reference only)) adds
-          (λ saved. are (ap (λ c. c.save) longer_from ∙ saved) ∙ ap (λ f. with_texts (reference_alone f reference) fields values) (sym its_field) ∙ ap (λ fs. with_texts (reference_alone plan.reference_field reference) fs values) (sym its_fields))))
+    (holds_entered commands document plan old_tables new_tables old _ held (λ only.
+    enters_in_place plan document reference values tokens made old_tables mid_tables new_tables old mid texts differ (sym held.store.save) many
+    (room (subst (HasOnlyStored old_tables old) made.its_reference only)) adds
+    (λ saved. are (ap (λ c. c.save) longer_from ∙ saved) ∙ ap (λ f. with_texts (reference_alone f reference) fields values) (sym its_field) ∙ ap (λ fs. with_texts (reference_alone plan.reference_field reference) fs values) (sym its_fields))))

@@ -1,6 +1,6 @@
 -- What removals and compactions leave is what a new index with the current documents has.
-use Rattle.std.proofs.Common.{◌≡◌, ◌≢◌, ◌↔◌, ◌⊎◌, inl, inr, ℕ, zero, suc, List, length, Bool, true, false, cond, Option, None, Some, IfSome, true≢false, option_map, option_and_then, bytes_eq, refl, sym, ap, subst, ◌∙◌}
-use Rattle.std.specs.Prelude.{IsSomeAnd, count_by}
+use Rattle.std.proofs.Common.{◌≡◌, ◌≢◌, ◌↔◌, ◌⊎◌, inl, inr, ℕ, zero, suc, List, Bool, true, false, cond, Option, None, Some, IfSome, option_map, option_and_then, bytes_eq, refl, sym, ap, subst, ◌∙◌}
+use Rattle.std.specs.Prelude.{count_by}
 use Rattle.std.proofs.Common.{[], ◌≤◌, arith}
 use Rattle.std.specs.List.{slice_get}
 use Rattle.std.specs.Option.{option_map_or}
@@ -9,15 +9,14 @@ use Rattle.std.specs.Cmp.Lexicographic.{nat_list_cmp_total}
 use Rattle.std.proofs.lemmas.Slice.Eq.{bytes_eq-Decides}
 use Rattle.elasticlunr_text.specs.Text.{Text, Bytes, text_cmp}
 use Rattle.elasticlunr_store.specs.Table.{Table, posting}
-use Rattle.elasticlunr_store.specs.Contents.{Contents, TextMap, LengthMap, IsContents, length_at}
+use Rattle.elasticlunr_store.specs.Contents.{Contents, LengthMap}
 use Rattle.elasticlunr.specs.Root.{IsRoot}
 use Rattle.elasticlunr.specs.History.{Document, add, remove, compact, Commands, none, ◌▸◌, now, EndsCompacted, AddsEachOnce, IsFresh}
 use Rattle.elasticlunr.specs.Standing.{Plan, tokens_at, Counts, occurrences, IsPosting, IsTableOf, stored, length_in, IsContentsOf, Holds}
 use Rattle.elasticlunr.specs.Printed.{IsValue}
 use Rattle.serde_json.specs.Data.{Data}
-use Rattle.elasticlunr.proofs.Adding.{same, apart, either}
+use Rattle.elasticlunr.proofs.Adding.{same, apart}
 use Rattle.elasticlunr.proofs.Agreeing.{Alike, holds_alike}
-use Rattle.elasticlunr.proofs.Naming.{turned}
 
 -- where each reference was added once, the documents that count are the current ones
 counted_is_now : (fresh : Commands) (d : Document) → AddsEachOnce fresh → Counts fresh d → now fresh d.reference ≡ Some d
@@ -104,8 +103,8 @@ module _ (plan : Plan) (commands fresh : Commands) (same_now : (r : Bytes) → n
       (same_maps contents.texts kept.texts (λ q. l.texts q ∙ ap (option_map (stored plan)) (sym (same_now q)) ∙ sym (r.texts q)))
       (same_maps contents.lengths kept.lengths (λ q. same_lengths _ _ (l.are_contents.has_lengths q) (r.are_contents.has_lengths q)
       (λ field. l.lengths q field ∙ ap (option_and_then (λ d. length_in plan.fields d.given field)) (sym (same_now q)) ∙ sym (r.lengths q field)))) where
-      made : (c d : Contents) → c.save ≡ d.save → c.texts ≡ d.texts → c.lengths ≡ d.lengths → c ≡ d
-      made c d save texts lengths = λ i. record { save = save i; texts = texts i; lengths = lengths i }
+        made : (c d : Contents) → c.save ≡ d.save → c.texts ≡ d.texts → c.lengths ≡ d.lengths → c ≡ d
+        made c d save texts lengths = λ i. record { save = save i; texts = texts i; lengths = lengths i }
 
   pub same_postings : (i : ℕ) (table other : Table) → IsTableOf commands i table → IsTableOf fresh i other → (token : Text) (r : Bytes) → posting table token r ≡ posting other token r
   same_postings i table other l r token reference = by_test (bytes_eq token []) refl where

@@ -104,12 +104,12 @@ found_in_texts m q = map.get-from_entries nat_list_cmp_total _ q ∙ texts_found
 pub text_map_insert : (m n : BTreeMap (String Global) (String Global)) (key : Bytes) (value : String Global) → ((q : Bytes) → get_by_text n q ≡ update bytes_eq (get_by_text m) key (Some value) q)
     → text_map n.entries ≡ map.insert (text_map m.entries) key (string_bytes value)
 text_map_insert m n key value updates = map.same_map nat_list_cmp_total (map.slice_cmp-IsAntisymmetric map.nat_cmp-IsAntisymmetric) _ _ (λ q.
-  found_in_texts n q ∙ ap (option_map string_bytes) (updates q) ∙ by_test q (bytes_eq key q) (bytes_eq q key) refl refl ∙ sym (found_after_insert (text_map m.entries) key (string_bytes value) q)) where
-    by_test : (q : Bytes) (a b : Bool) → bytes_eq key q ≡ a → bytes_eq q key ≡ b → option_map string_bytes (cond a (Some value) (get_by_text m q)) ≡ cond b (Some (string_bytes value)) (map.get (text_map m.entries) q)
-    by_test q true true ea eb = refl
-    by_test q false false ea eb = sym (found_in_texts m q)
-    by_test q true false ea eb = absurd (true≢false (sym ((bytes_eq-Decides q key).1 (sym ((bytes_eq-Decides key q).0 ea))) ∙ eb))
-    by_test q false true ea eb = absurd (true≢false (sym ((bytes_eq-Decides key q).1 (sym ((bytes_eq-Decides q key).0 eb))) ∙ ea))
+    found_in_texts n q ∙ ap (option_map string_bytes) (updates q) ∙ by_test q (bytes_eq key q) (bytes_eq q key) refl refl ∙ sym (found_after_insert (text_map m.entries) key (string_bytes value) q)) where
+      by_test : (q : Bytes) (a b : Bool) → bytes_eq key q ≡ a → bytes_eq q key ≡ b → option_map string_bytes (cond a (Some value) (get_by_text m q)) ≡ cond b (Some (string_bytes value)) (map.get (text_map m.entries) q)
+      by_test q true true ea eb = refl
+      by_test q false false ea eb = sym (found_in_texts m q)
+      by_test q true false ea eb = absurd (true≢false (sym ((bytes_eq-Decides q key).1 (sym ((bytes_eq-Decides key q).0 ea))) ∙ eb))
+      by_test q false true ea eb = absurd (true≢false (sym ((bytes_eq-Decides key q).1 (sym ((bytes_eq-Decides q key).0 eb))) ∙ ea))
 
 -- the same, in the words of the caller
 pub texts_put : (m n : BTreeMap (String Global) (String Global)) (key value : String Global) (texts : TextMap) (field text : Bytes) → UpdatesBy string_cmp (λ k. slice_cmp nat_cmp (string_bytes key) (string_bytes k)) m n (Some value)

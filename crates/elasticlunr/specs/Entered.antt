@@ -7,7 +7,7 @@ use Rattle.elasticlunr_text.specs.Text.{Text, Bytes}
 use Rattle.elasticlunr_store.specs.Table.{Table, knows, posting, IsPrefix}
 use Rattle.elasticlunr_store.specs.Contents.{Contents, IsContents, length_at}
 use Rattle.elasticlunr.specs.History.{Document}
-use Rattle.elasticlunr.specs.Standing.{Plan, tokens_at, IsPosting, stored, length_in}
+use Rattle.elasticlunr.specs.Standing.{IsPosting}
 
 -- the document has this reference, these values and these tokens
 pub record IsMadeOf (document : Document) (reference : Bytes) (values : List Bytes) (tokens : List (Option (List Text))) : Type 0 where
@@ -59,12 +59,3 @@ pub record AddsTokens (reference : Bytes) (tokens : List (Option (List Text))) (
   pub with_tokens : (i : ℕ) (before after : Table) (these : Option (List Text)) → slice_get old_tables i ≡ Some before → slice_get new_tables i ≡ Some after → slice_get tokens i ≡ Some these
       → ((token : Text) → posting before token reference ≡ None) → ReplacesPostings before after reference these
   pub without_tokens : (i : ℕ) → length tokens ≤ i → slice_get new_tables i ≡ slice_get old_tables i
-
--- the document is in the place of what its reference had
-pub record Enters (plan : Plan) (document : Document) (old_tables new_tables : List Table) (old new : Contents) : Type 0 where
-  pub as_many : length new_tables ≡ length old_tables
-  pub tables : (i : ℕ) (before after : Table) → slice_get old_tables i ≡ Some before → slice_get new_tables i ≡ Some after → ReplacesPostings before after document.reference (tokens_at i document)
-  pub kept : IsContents old → IsContents new
-  pub save : new.save ≡ old.save
-  pub texts : (r : Bytes) → map.get new.texts r ≡ (if bytes_eq r document.reference then Some (stored plan document) else map.get old.texts r)
-  pub lengths : (r field : Bytes) → length_at new r field ≡ (if bytes_eq r document.reference then length_in plan.fields document.given field else length_at old r field)

@@ -11,10 +11,7 @@ use std::alloc::Global;
 use std::collections::BTreeMap;
 
 /// How often each text stands among the tokens.
-pub fn count_tokens(
-    alloc: Global,
-    tokens: Vec<String>,
-) -> Result<BTreeMap<String, u64>, IndexError>
+pub fn count_tokens(alloc: Global, tokens: Vec<String>) -> Result<BTreeMap<String, u64>, IndexError>
     ensures memory { IsOkUnless result Memory }
     ensures counted { IfOk result (AreCounts tokens.items) }
 {

@@ -1,4 +1,4 @@
-use Rattle.std.proofs.Common.{◌≡◌, true, length, map, ap, sym, subst, ◌∙◌, true≢false}
+use Rattle.std.proofs.Common.{◌≡◌, true, length, map, ap, sym, ◌∙◌, true≢false}
 use Rattle.std.proofs.lemmas.Result.{on_ok_weaker}
 use Rattle.elasticlunr_text.specs.Text.{bytes_of}
 use Rattle.elasticlunr_store.specs.Contents.{text_map}
@@ -16,6 +16,6 @@ returns-clause-entered c =
     ] in
     let many : length c.make_room.new.self.tries.items ≡ length c.args.self.now.tries.items = sym c.make_room.new.self.tries.ok.0 ∙ c.make_room.ensures.as_many ∙ c.args.self.now.tries.ok.0 in
     on_ok_weaker c.add_doc.result (λ stored plan document commands fields differ reference_field made held.
-      holds_after plan document commands (bytes_of c.args.fields.now) c.args.ref_field.now c.args.doc_ref.now (map (λ value. value.now) c.args.values.now) (token_texts c.args.tokens.items)
-      c.args.self.now.tries.items c.make_room.new.self.tries.items c.enter_tokens.new.self.tries.items c.args.self.now.store c.make_room.new.self.store c.enter_tokens.new.self.store c.add_doc.new.self (text_map c.if-is_stored.document.entries)
-      fields differ reference_field made held many c.make_room.ensures.room c.in_ok-enter_tokens.ensures.tables c.in_ok-enter_tokens.ensures.store texts_are stored) c.add_doc.ensures.ok
+    holds_after plan document commands (bytes_of c.args.fields.now) c.args.ref_field.now c.args.doc_ref.now (map (λ value. value.now) c.args.values.now) (token_texts c.args.tokens.items)
+    c.args.self.now.tries.items c.make_room.new.self.tries.items c.enter_tokens.new.self.tries.items c.args.self.now.store c.make_room.new.self.store c.enter_tokens.new.self.store c.add_doc.new.self (text_map c.if-is_stored.document.entries)
+    fields differ reference_field made held many c.make_room.ensures.room c.in_ok-enter_tokens.ensures.tables c.in_ok-enter_tokens.ensures.store texts_are stored) c.add_doc.ensures.ok

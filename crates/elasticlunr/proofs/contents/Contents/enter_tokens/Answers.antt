@@ -1,12 +1,12 @@
-use Rattle.std.proofs.Common.{◌≡◌, ◌<◌, ◌≢◌, ◌+◌, ℕ, List, [], ◌∷◌, ◌++◌, Option, Some, length, map, arith, zero-add, string_bytes, sym, subst, ap, ◌∙◌, refl}
-use Rattle.std.specs.List.{enumerate_from, slice_get}
+use Rattle.std.proofs.Common.{◌≡◌, ◌<◌, List, [], ◌∷◌, ◌++◌, Option, Some, length, map, arith, zero-add, string_bytes, sym, subst, ap, ◌∙◌, refl}
+use Rattle.std.specs.List.{slice_get}
 use Rattle.std.proofs.lemmas.List.{map-append}
 use Rattle.std.proofs.lemmas.Simd.{map-map}
 use Rattle.std.proofs.lemmas.Option.{slice_get_read}
 use Rattle.std.proofs.lemmas.List.FromFn.{get_or-enumerate_from, length-enumerate_from}
 use Rattle.std.proofs.lemmas.Iterator.Adapters.{YieldsList-from_vec}
 use Rattle.std.proofs.lemmas.Iterator.Consumers.{YieldsList-turn, YieldsList-end, YieldsList-from_enumerate}
-use Rattle.elasticlunr_text.specs.Text.{Text, Bytes, bytes_of}
+use Rattle.elasticlunr_text.specs.Text.{Text, bytes_of}
 use Rattle.elasticlunr.specs.Entered.{AddsTokens}
 use Rattle.elasticlunr.specs.Texts.{texts_left, token_texts, with_tokens, with_all_tokens}
 use Rattle.elasticlunr.proofs.Counting.{mapped_there}

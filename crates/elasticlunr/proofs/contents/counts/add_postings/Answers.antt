@@ -1,4 +1,4 @@
-use Rattle.std.proofs.Common.{◌≡◌, ap, sym, subst, ◌∙◌, map}
+use Rattle.std.proofs.Common.{◌≡◌, ap, sym, subst, ◌∙◌}
 use Rattle.std.specs.Str.{chars}
 use Rattle.std.proofs.lemmas.List.{map-append}
 use Rattle.std.proofs.lemmas.Simd.{map-map}
@@ -16,9 +16,9 @@ pub loop-token-preserved : goal.loop-token-preserved
 loop-token-preserved c =
     let spelled : chars c.as_str.result.now ≡ text_of c.in-Some.token.now = ap chars c.as_str.ensures.value in
     subst (Posts c.args.trie.now c.add_token.new.self c.args.doc_ref.now) (sym (map-append (λ e. (text_of e.0.now, e.1.now)) c.loop-token.yielded _))
-        (posts_more c.args.trie.now c.loop-token.trie c.add_token.new.self c.args.doc_ref.now _ (text_of c.in-Some.token.now) c.in-Some.count.now c.root.result c.loop-token.invariant c.root.ensures
-            (λ given. subst (λ t. AddsToken c.loop-token.trie c.add_token.new.self t c.args.doc_ref.now c.root.result) spelled (c.in_ok-add_token.ensures.ok (λ is. given (sym spelled ∙ is))))
-            (λ empty. (c.in_ok-add_token.ensures.empty_token (spelled ∙ empty)).1))
+    (posts_more c.args.trie.now c.loop-token.trie c.add_token.new.self c.args.doc_ref.now _ (text_of c.in-Some.token.now) c.in-Some.count.now c.root.result c.loop-token.invariant c.root.ensures
+    (λ given. subst (λ t. AddsToken c.loop-token.trie c.add_token.new.self t c.args.doc_ref.now c.root.result) spelled (c.in_ok-add_token.ensures.ok (λ is. given (sym spelled ∙ is))))
+    (λ empty. (c.in_ok-add_token.ensures.empty_token (spelled ∙ empty)).1))
 
 pub returns-clause-posted : goal.returns-clause-posted
 returns-clause-posted c =

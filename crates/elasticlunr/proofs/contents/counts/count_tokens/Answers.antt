@@ -1,4 +1,4 @@
-use Rattle.std.proofs.Common.{◌≡◌, ◌<◌, ◌≤◌, ◌^◌, arith, sym, ap, subst, ◌∙◌, length, count_by, unwrap_or, bytes_eq, string_bytes}
+use Rattle.std.proofs.Common.{◌≡◌, ◌<◌, ◌≤◌, ◌^◌, arith, sym, subst, ◌∙◌, length, count_by, unwrap_or, bytes_eq, string_bytes}
 use Rattle.std.specs.BTreeMap.{get_by_text}
 use Rattle.std.proofs.lemmas.Grind.{text_counts}
 use Rattle.std.proofs.lemmas.Iterator.Adapters.{YieldsList-from_vec}

@@ -2,7 +2,7 @@ use Rattle.std.proofs.Common.{ap, ◌∙◌}
 use Rattle.serde_json.specs.View.{view, members_view}
 use Rattle.serde_json.specs.declared.value.Value.{Object}
 use Rattle.serde_json.proofs.Views.{view-Object}
-use Rattle.elasticlunr.specs.Parts.{plan_of}
+use Rattle.elasticlunr.specs.Parts.{plan_of_parts}
 use Rattle.elasticlunr.proofs.Values.{seven_members}
 use Rattle.elasticlunr.proofs.Whole.{value_whole}
 use Rattle.elasticlunr.proofs.printed.value.index_value.Goals as goal
@@ -16,10 +16,10 @@ returns-clause-value c =
       each_trie = tries.1;
       store = c.in_ok-documents.ensures.value;
       whole = view-Object c.put_member-7.new.members
-          ∙ seven_members (plan_of c.args.parts) tries.0 (view c.in_ok-documents.documents) _ _ _ _ _ _ _ _ _ _ _ _ _ _
+          ∙ seven_members (plan_of_parts c.args.parts) tries.0 (view c.in_ok-documents.documents) _ _ _ _ _ _ _ _ _ _ _ _ _ _
           c.in_ok-fields.ensures tries.2 c.in_ok-language.ensures c.in_ok-stages.ensures c.in_ok-reference.ensures c.in_ok-version.ensures
           (ap (λ es. members_view es) c.new-members.ensures.empty) c.in_ok-put_member.ensures c.in_ok-put_member-2.ensures c.in_ok-put_member-3.ensures c.in_ok-put_member-4.ensures c.in_ok-put_member-5.ensures c.in_ok-put_member-6.ensures c.in_ok-put_member-7.ensures;
     }
 
 pub returns-clause-whole : goal.returns-clause-whole
-returns-clause-whole c = value_whole (plan_of c.args.parts) c.args.parts.tries.now c.args.parts.store.now (view (Object c.put_member-7.new.members)) (returns-clause-value c)
+returns-clause-whole c = value_whole (plan_of_parts c.args.parts) c.args.parts.tries.now c.args.parts.store.now (view (Object c.put_member-7.new.members)) (returns-clause-value c)

@@ -1,5 +1,5 @@
 -- What an index holds that has not failed.
-use Rattle.std.proofs.Common.{◌≡◌, List, Option, Some, subst, sym}
+use Rattle.std.proofs.Common.{◌≡◌, List, Option, Some, subst, sym, ◌∙◌}
 use Rattle.std.specs.Prelude.{IsSomeAnd}
 use Rattle.elasticlunr_text.specs.Text.{bytes_of}
 use Rattle.elasticlunr_store.specs.Table.{Table}
@@ -9,7 +9,7 @@ use Rattle.elasticlunr.specs.declared.contents.Contents.{Contents}
 use Rattle.elasticlunr.specs.declared.printed.Parts.{Parts}
 use Rattle.elasticlunr.specs.History.{Commands, Agree}
 use Rattle.elasticlunr.specs.Parts.{IsPrinted}
-use Rattle.elasticlunr.specs.Printed.{IsValue}
+use Rattle.elasticlunr.specs.Printed.{AreTrieValues, IsValue, IsValueOf, index_object}
 use Rattle.elasticlunr.specs.Standing.{Plan, Holds}
 use Rattle.elasticlunr.proofs.Agreeing.{holds_agreed}
 use Rattle.elasticlunr.proofs.Printing.{value_of_parts}
@@ -41,3 +41,23 @@ value_of_held plan contents commands other parts value holds agree are printed =
     value_of_parts plan other parts value are.fields are.reference_field are.language are.stages
     (subst (λ (ts : List Table). Holds plan other ts parts.store.now) (sym are.tries) (subst (λ (kept : store.Contents). Holds plan other contents.tries.items kept) (sym are.store) agreed))
     printed
+
+-- what they print is the value of the tables and the store's contents, too
+pub value_of_own : (plan : Plan) (there : Option Contents) (contents : Contents) (parts : Parts) (tables : List Table) (kept : store.Contents) (value : Data) → there ≡ Some contents
+    → IsSomeAnd there (λ c. (c.tries.items ≡ tables) × (c.store ≡ kept)) → ArePartsOf plan contents parts → IsPrinted parts value → IsValueOf plan tables kept value
+value_of_own plan there contents parts tables kept value is has are printed =
+    let own : (contents.tries.items ≡ tables) × (contents.store ≡ kept) = subst (λ o. IsSomeAnd o (λ c. (c.tries.items ≡ tables) × (c.store ≡ kept))) is has in
+    record {
+      tries = printed.tries;
+      documents = printed.documents;
+      each_trie = subst (λ ts. AreTrieValues ts printed.tries) (are.tries ∙ own.0) printed.each_trie;
+      store = subst (λ c. store.IsStoreValue c printed.documents) (are.store ∙ own.1) printed.store;
+      whole = printed.whole ∙ (λ i. index_object (record { fields = are.fields i; reference_field = are.reference_field i; save = plan.save; language = are.language i; stages = are.stages i }) printed.tries printed.documents);
+    }
+
+-- these are tables, as many as fields
+pub tables_of_own : (there : Option Contents) (contents : Contents) (parts : Parts) (tables : List Table) (kept : store.Contents) (P : List Table → Type 0) → there ≡ Some contents
+    → IsSomeAnd there (λ c. (c.tries.items ≡ tables) × (c.store ≡ kept)) → parts.tries.now ≡ contents.tries.items → P parts.tries.now → P tables
+tables_of_own there contents parts tables kept P is has are holds =
+    let own : (contents.tries.items ≡ tables) × (contents.store ≡ kept) = subst (λ o. IsSomeAnd o (λ c. (c.tries.items ≡ tables) × (c.store ≡ kept))) is has in
+    subst P (are ∙ own.0) holds

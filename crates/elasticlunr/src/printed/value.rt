@@ -1,6 +1,7 @@
 //! The JSON value of an index.
 ghost use Rattle.std.specs.Prelude.{◌≡◌, List, false, map, length, string_bytes, IfOk, OnOk, IsOkUnless};
-ghost use Rattle.std.specs.List.{zip};
+ghost use Rattle.std.specs.List.{zip, All};
+ghost use Rattle.elasticlunr_store.specs.Table.{IsTable};
 ghost use Rattle.elasticlunr_text.specs.declared.error.IndexError.TheVariants.{Memory};
 ghost use Rattle.elasticlunr.specs.Printed.{texts, object_of, AreTrieValues};
 ghost use Rattle.elasticlunr.specs.Parts.{IsPrinted};
@@ -17,6 +18,7 @@ use std::alloc::{AllocError, Global};
 /// The JSON value of an index with these parts.
 pub fn index_value(alloc: Global, parts: Parts<'_>) -> Result<Value, IndexError>
     ensures value { IfOk result (λ v. IsPrinted parts.entry (view v)) }
+    ensures tables { OnOk result (All IsTable parts.entry.tries.now) }
     ensures whole { IfOk result (λ v. has_float (view v) ≡ false) }
     ensures memory { IsOkUnless result Memory }
 {
@@ -57,6 +59,7 @@ fn tries_value(
 ) -> Result<Value, IndexError>
     requires { length tries.now ≡ length fields.now }
     ensures value { IfOk result (λ v. (values : List Data) × AreTrieValues tries.now values × (view v ≡ object_of (zip (map string_bytes fields.now) values))) }
+    ensures tables { OnOk result (All IsTable tries.now) }
     ensures memory { IsOkUnless result Memory }
 {
     let mut members = Map::new(alloc);

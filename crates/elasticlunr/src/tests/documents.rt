@@ -17,14 +17,19 @@ fn posting(index: &InvertedIndex, token: &str) -> (u64, u64) {
 fn a_document_is_printed(rt: HostRuntime) -> Result<(), Fail> {
     let mut index = Index::new(rt.alloc(), &["body"])?;
     index.add_doc("1", &["go"])?;
-    assert_eq!(
-        rt;
+    assert_eq!(rt;
         index.to_json()?.as_str(),
         r#"{"documentStore":{"docInfo":{"1":{"body":1}},"docs":{"1":{"body":"go","id":"1"}},"length":1,"save":true},"fields":["body"],"index":{"body":{"root":{"df":0,"docs":{},"g":{"df":0,"docs":{},"o":{"df":1,"docs":{"1":{"tf":1000000}}}}}}},"lang":"English","pipeline":["trimmer","stopWordFilter","stemmer"],"ref":"id","version":"0.9.5"}"#
     );
     let value = index.to_value()?;
-    assert_eq!(rt; index.to_json()?.as_str(), value.to_string(rt.alloc())?.as_str());
-    assert_eq!(rt; index.to_json_pretty()?.as_str(), value.to_string_pretty(rt.alloc())?.as_str());
+    assert_eq!(rt;
+        index.to_json()?.as_str(),
+        value.to_string(rt.alloc())?.as_str()
+    );
+    assert_eq!(rt;
+        index.to_json_pretty()?.as_str(),
+        value.to_string_pretty(rt.alloc())?.as_str()
+    );
     Ok(())
 }
 
@@ -82,9 +87,12 @@ fn a_field_that_is_left_out_goes(rt: HostRuntime) -> Result<(), Fail> {
     let mut index = Index::new(rt.alloc(), &["title", "body"])?;
     index.add_doc("1", &["cat", "dog bird"])?;
     index.add_doc("1", &["cow"])?;
-    assert_eq!(
-        rt;
-        index.document_store()?.to_value()?.to_string(rt.alloc())?.as_str(),
+    assert_eq!(rt;
+        index
+            .document_store()?
+            .to_value()?
+            .to_string(rt.alloc())?
+            .as_str(),
         r#"{"docInfo":{"1":{"title":1}},"docs":{"1":{"id":"1","title":"cow"}},"length":1,"save":true}"#
     );
     let body = index.inverted_index("body")?.ok_or("body")?;
@@ -118,14 +126,16 @@ fn agreeing_lists_print_alike(rt: HostRuntime) -> Result<(), Fail> {
 #[test]
 fn names_and_values_are_counted(rt: HostRuntime) -> Result<(), Fail> {
     let alloc = rt.alloc();
-    assert_eq!(
-        rt;
+    assert_eq!(rt;
         Index::new(alloc, &["title", "body", "title"]).err(),
         Some(IndexError::DuplicateField)
     );
     let mut index = Index::new(alloc, &["body"])?;
     let before = index.to_json()?;
-    assert_eq!(rt; index.add_doc("1", &["a", "b"]), Err(IndexError::TooManyValues));
+    assert_eq!(rt;
+        index.add_doc("1", &["a", "b"]),
+        Err(IndexError::TooManyValues)
+    );
     assert_eq!(rt; index.to_json()?.as_str(), before.as_str());
     Ok(())
 }
@@ -135,9 +145,12 @@ fn an_index_without_fields_takes_documents_without_values(rt: HostRuntime) -> Re
     let mut index = Index::new(rt.alloc(), &[])?;
     index.add_doc("1", &[])?;
     assert_eq!(rt; index.add_doc("1", &["x"]), Err(IndexError::TooManyValues));
-    assert_eq!(
-        rt;
-        index.document_store()?.to_value()?.to_string(rt.alloc())?.as_str(),
+    assert_eq!(rt;
+        index
+            .document_store()?
+            .to_value()?
+            .to_string(rt.alloc())?
+            .as_str(),
         r#"{"docInfo":{},"docs":{"1":{"id":"1"}},"length":1,"save":true}"#
     );
     assert_eq!(rt; index.get_fields().len(), 0);
@@ -150,9 +163,12 @@ fn a_field_may_hold_the_reference(rt: HostRuntime) -> Result<(), Fail> {
     index.add_doc("1", &["a7", "go"])?;
     let id = index.inverted_index("id")?.ok_or("id")?;
     assert!(rt; *id == InvertedIndex::new(rt.alloc()));
-    assert_eq!(
-        rt;
-        index.document_store()?.to_value()?.to_string(rt.alloc())?.as_str(),
+    assert_eq!(rt;
+        index
+            .document_store()?
+            .to_value()?
+            .to_string(rt.alloc())?
+            .as_str(),
         r#"{"docInfo":{"1":{"body":1}},"docs":{"1":{"body":"go","id":"a7"}},"length":1,"save":true}"#
     );
     Ok(())
@@ -199,8 +215,7 @@ fn a_builder_keeps_its_settings(rt: HostRuntime) -> Result<(), Fail> {
         .add_field("title")?
         .build()?;
     index.add_doc("a", &["Red fox"])?;
-    assert_eq!(
-        rt;
+    assert_eq!(rt;
         index.to_json()?.as_str(),
         r#"{"documentStore":{"docInfo":{"a":{"title":2}},"docs":{"a":{}},"length":1,"save":false},"fields":["title"],"index":{"title":{"root":{"df":0,"docs":{},"f":{"df":0,"docs":{},"o":{"df":0,"docs":{},"x":{"df":1,"docs":{"a":{"tf":1000000}}}}},"r":{"df":0,"docs":{},"e":{"d":{"df":1,"docs":{"a":{"tf":1000000}}},"df":0,"docs":{}}}}}},"lang":"English","pipeline":["trimmer","stopWordFilter","stemmer"],"ref":"key","version":"0.9.5"}"#
     );

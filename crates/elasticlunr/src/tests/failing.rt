@@ -34,7 +34,10 @@ fn fail_with(rt: &impl Abort, alloc: Global, pipeline: Pipeline) -> Result<(), I
     assert_eq!(rt; index.to_json_pretty().err(), Some(IndexError::Failed));
     assert_eq!(rt; index.to_value().err(), Some(IndexError::Failed));
     assert_eq!(rt; index.document_store().err(), Some(IndexError::Failed));
-    assert_eq!(rt; index.inverted_index("body").err(), Some(IndexError::Failed));
+    assert_eq!(rt;
+        index.inverted_index("body").err(),
+        Some(IndexError::Failed)
+    );
     assert_eq!(rt; index.get_fields().len(), 1);
     Ok(())
 }

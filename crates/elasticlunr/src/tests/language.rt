@@ -55,13 +55,11 @@ impl Language for Commas {
 fn a_language_is_handed_in(rt: HostRuntime) -> Result<(), Fail> {
     let mut index = Index::with_language(rt.alloc(), Commas {}, &["body"])?;
     index.add_doc("1", &["A,,A"])?;
-    assert_eq!(
-        rt;
+    assert_eq!(rt;
         index.to_json()?.as_str(),
         r#"{"documentStore":{"docInfo":{"1":{"body":3}},"docs":{"1":{"body":"A,,A","id":"1"}},"length":1,"save":true},"fields":["body"],"index":{"body":{"root":{"A":{"df":1,"docs":{"1":{"tf":1414213}}},"df":0,"docs":{}}}},"lang":"Commas","pipeline":["all"],"ref":"id","version":"0.9.5"}"#
     );
-    assert_eq!(
-        rt;
+    assert_eq!(rt;
         Index::with_language(rt.alloc(), Commas {}, &["a", "a"]).err(),
         Some(IndexError::DuplicateField)
     );

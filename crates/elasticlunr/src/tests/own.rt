@@ -57,7 +57,8 @@ fn printed_with(alloc: Global, pipeline: Pipeline) -> Result<String, IndexError>
     index.to_json()
 }
 
-const MARKED: &str = r#"{"documentStore":{"docInfo":{"1":{"body":2}},"docs":{"1":{"body":"x, y x y","id":"1"}},"length":1,"save":true},"fields":["body"],"index":{"body":{"root":{"df":0,"docs":{},"y":{"!":{"df":1,"docs":{"1":{"tf":1414213}}},"df":0,"docs":{}}}}},"lang":"English","pipeline":["trimmer","dropx"],"ref":"id","version":"0.9.5"}"#;
+const MARKED: &str =
+    r#"{"documentStore":{"docInfo":{"1":{"body":2}},"docs":{"1":{"body":"x, y x y","id":"1"}},"length":1,"save":true},"fields":["body"],"index":{"body":{"root":{"df":0,"docs":{},"y":{"!":{"df":1,"docs":{"1":{"tf":1414213}}},"df":0,"docs":{}}}}},"lang":"English","pipeline":["trimmer","dropx"],"ref":"id","version":"0.9.5"}"#;
 
 #[test]
 fn a_function_is_a_stage(rt: HostRuntime) -> Result<(), Fail> {
@@ -90,10 +91,7 @@ fn whole(alloc: Global, text: &str) -> Result<Vec<String>, AllocError>
 }
 
 /// The text of an index of a title with this tokenizer and of a body with the language's.
-fn printed_by(
-    builder: IndexBuilder<English>,
-    tokenizer: Tokenize,
-) -> Result<String, IndexError>
+fn printed_by(builder: IndexBuilder<English>, tokenizer: Tokenize) -> Result<String, IndexError>
     requires callable { Tokenize.IsAlwaysCallable tokenizer }
     requires one_answer { (a b : Global) (s t : Bor (List ℕ)) (v w : Vec (String Global) Global) → s.now ≡ t.now
         → Tokenize.post tokenizer a s (Ok v) → Tokenize.post tokenizer b t (Ok w) → bytes_of v.items ≡ bytes_of w.items }

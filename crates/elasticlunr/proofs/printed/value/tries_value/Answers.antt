@@ -3,7 +3,7 @@ use Rattle.std.proofs.lemmas.List.{length-map}
 use Rattle.serde_json.specs.Data.{object, put}
 use Rattle.serde_json.specs.View.{view, members_view}
 use Rattle.serde_json.proofs.Views.{view-Object}
-use Rattle.elasticlunr.proofs.Values.{WillHold, hold_none, hold_more, hold_all}
+use Rattle.elasticlunr.proofs.Values.{WillHold, hold_none, hold_more, hold_all, all_are_tables}
 use Rattle.elasticlunr.proofs.printed.value.tries_value.Goals as goal
 
 pub loop-name-init : goal.loop-name-init
@@ -27,7 +27,7 @@ loop-name-preserved c =
     let value = view c.in_ok-to_value.field-0 in
     let after = c.in_ok-put_member.ensures ∙ ap (λ key. put key value members) c.as_str.ensures.value in
     subst (WillHold all c.args.tries.now (map string_bytes c.next.new.self.a.rest.now) c.next.new.self.b.rest.now) (sym after)
-    (hold_more all c.args.tries.now (string_bytes c.in-Some.name.now) _ c.in-Some.trie.now c.next.new.self.b.rest.now members value c.in_ok-to_value.ensures.tree before)
+    (hold_more all c.args.tries.now (string_bytes c.in-Some.name.now) _ c.in-Some.trie.now c.next.new.self.b.rest.now members value c.to_value.ensures.table c.in_ok-to_value.ensures.tree before)
 
 pub returns-clause-value : goal.returns-clause-value
 returns-clause-value c =
@@ -37,3 +37,11 @@ returns-clause-value c =
     let none : length names ≡ 0 = elim c.in-None.ensures.steps [ inl a ↦ mapped ∙ a.1.0 | inr b ↦ sym many ∙ b.1.0 ] in
     let held = hold_all (map string_bytes c.args.fields.now) c.args.tries.now names c.loop-name.name-iterator.b.rest.now (members_view c.loop-name.members.entries) c.loop-name.invariant none in
     (held.0, held.1, view-Object c.loop-name.members ∙ ap object held.2)
+
+pub returns-clause-tables : goal.returns-clause-tables
+returns-clause-tables c =
+    let names = map string_bytes c.loop-name.name-iterator.a.rest.now in
+    let many = c.loop-name.invariant.as_many in
+    let mapped = length-map c.loop-name.name-iterator.a.rest.now string_bytes in
+    let none : length names ≡ 0 = elim c.in-None.ensures.steps [ inl a ↦ mapped ∙ a.1.0 | inr b ↦ sym many ∙ b.1.0 ] in
+    all_are_tables (map string_bytes c.args.fields.now) c.args.tries.now names c.loop-name.name-iterator.b.rest.now (members_view c.loop-name.members.entries) c.loop-name.invariant none

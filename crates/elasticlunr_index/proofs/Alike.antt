@@ -4,7 +4,7 @@ use Rattle.std.proofs.lemmas.Bool.{cases_lt}
 use Rattle.std.proofs.lemmas.List.{length-map}
 use Rattle.elasticlunr_text.specs.Stages.{names_of, IsRun}
 use Rattle.elasticlunr_text.specs.Text.{Text, Bytes}
-use Rattle.elasticlunr.specs.Choices.{Choices, plan_with, Reads}
+use Rattle.elasticlunr.specs.Choices.{plan_with, Reads}
 use Rattle.elasticlunr.specs.Documents as documents
 use Rattle.elasticlunr.specs.History.{Commands, Document, ◌▸◌, compact}
 use Rattle.elasticlunr.specs.Index.{choices_of, fields_of, plan_of, IsDocument, IsFailed, StandsFor}
@@ -60,13 +60,17 @@ module _ {L P X Y : Type 0} {O : X → Type 0} {F : Y → Type 0} {p : _} {g : _
   pub compacted_then : (name_of : L → Bytes) (name_text : (v : X) × O v → Bytes) (old new last : Index L P X Y O F p g) (wanted : Bool) → last ≡ new → wanted ≡ true
       → ((commands : Commands) → StandsFor name_of name_text old commands → StandsFor name_of name_text new (commands ▸ compact))
       → Follows (StandsFor name_of name_text old) (StandsFor name_of name_text last) (compacted wanted)
-  compacted_then name_of name_text old new last wanted is on then = record { stands = λ commands stands.
-      subst (λ b. StandsFor name_of name_text last (followed_by commands (compacted b))) (sym on) (subst (λ i. StandsFor name_of name_text i (commands ▸ compact)) (sym is) (then commands stands)) }
+  compacted_then name_of name_text old new last wanted is on then = record {
+    stands = λ commands stands.
+        subst (λ b. StandsFor name_of name_text last (followed_by commands (compacted b))) (sym on) (subst (λ i. StandsFor name_of name_text i (commands ▸ compact)) (sym is) (then commands stands));
+  }
 
   pub compacted_not : (name_of : L → Bytes) (name_text : (v : X) × O v → Bytes) (old last : Index L P X Y O F p g) (wanted : Bool) → last ≡ old → wanted ≡ false
       → Follows (StandsFor name_of name_text old) (StandsFor name_of name_text last) (compacted wanted)
-  compacted_not name_of name_text old last wanted is off = record { stands = λ commands stands.
-      subst (λ b. StandsFor name_of name_text last (followed_by commands (compacted b))) (sym off) (subst (λ i. StandsFor name_of name_text i commands) (sym is) stands) }
+  compacted_not name_of name_text old last wanted is off = record {
+    stands = λ commands stands.
+        subst (λ b. StandsFor name_of name_text last (followed_by commands (compacted b))) (sym off) (subst (λ i. StandsFor name_of name_text i commands) (sym is) stands);
+  }
 
   -- the values of a document are not too many
   pub fits_told : (old new : Index L P X Y O F p g) (doc : held.Document) (values : List (Bor Bytes)) → choices_of new ≡ choices_of old → values ≡ doc.values.items → ¬ (length (fields_of new) < length values) → length (document_told doc).values ≤ length (fields_of old)

@@ -1,5 +1,5 @@
 -- The index that is built for a job.
-use Rattle.std.proofs.Common.{◌≡◌, ◌≢◌, ◌⊎◌, ℕ, zero, suc, List, [], ◌∷◌, ◌++◌, Bor, map, length, Option, None, Some, slice_get, IsSomeAnd, IfSome, IfNone, refl, sym, ap, subst, ◌∙◌}
+use Rattle.std.proofs.Common.{◌≡◌, ◌≢◌, ℕ, zero, suc, List, [], ◌∷◌, ◌++◌, Bor, map, Option, None, Some, slice_get, IsSomeAnd, IfSome, IfNone, refl, ap, subst, ◌∙◌}
 use Rattle.elasticlunr_text.specs.Text.{Text, Bytes}
 use Rattle.elasticlunr_lang.specs.Known.{language_name, language_stages, language_leaves}
 use Rattle.elasticlunr_lang.specs.declared.any.AnyLanguage.{AnyLanguage}
@@ -8,7 +8,7 @@ use Rattle.elasticlunr.specs.Documents as documents
 use Rattle.elasticlunr.specs.History.{Commands, Document, none}
 use Rattle.elasticlunr.specs.Standing.{Plan}
 use Rattle.elasticlunr.specs.Reading.{LanguageReads, ReadsOnly}
-use Rattle.elasticlunr_index.specs.Commands.{IsAdded, job_plan, language_tokens}
+use Rattle.elasticlunr_index.specs.Commands.{language_tokens}
 use Rattle.elasticlunr_index.specs.Filled.{IsBuiltFor}
 use Rattle.elasticlunr_index.specs.JobTold.{job_told}
 use Rattle.elasticlunr_index.specs.declared.job.Job as held
@@ -68,7 +68,7 @@ module _ {P T : Type 0} where
       let fields : built.fields ≡ job.fields = has.fields ∙ ap (λ (c : Choices AnyLanguage (Option P) T). c.fields) same in
       let reference_field : built.reference_field ≡ job.reference_field = has.reference_field ∙ ap (λ (c : Choices AnyLanguage (Option P) T). c.reference_field) same in
       let only : ReadsOnly reads (LanguageReads (language_tokens language) (language_leaves language)) =
-          subst (λ (c : Choices AnyLanguage (Option P) T). UsesLanguage c → ReadsOnly reads (LanguageReads (language_tokens c.language) (language_leaves c.language))) same uses (uses_language job language) in
+      subst (λ (c : Choices AnyLanguage (Option P) T). UsesLanguage c → ReadsOnly reads (LanguageReads (language_tokens c.language) (language_leaves c.language))) same uses (uses_language job language) in
       record {
         its_plan = subst (λ (c : Choices AnyLanguage (Option P) T). IfNone c.pipeline (plan ≡ language_plan language_name language_stages c)) same its_plan;
         adds = λ doc document made.

@@ -7,7 +7,6 @@ use Rattle.elasticlunr_text.specs.Text.{Bytes}
 use Rattle.elasticlunr.specs.History.{Command, Commands, Document, add, remove, ◌▸◌}
 use Rattle.elasticlunr_index.specs.Commands.{compacted, followed_by}
 use Rattle.elasticlunr_index.specs.Filled.{AreMade, Follows, HasDone, HasTaken}
-use Rattle.elasticlunr_index.specs.Job as asked
 use Rattle.elasticlunr_index.specs.JobTold.{document_told, job_told}
 use Rattle.elasticlunr_index.specs.declared.job.Document as held
 use Rattle.elasticlunr_index.specs.declared.job.Job as held_job
@@ -54,7 +53,7 @@ next_removed old mid new references i d lt so_far then =
     let before = map remove (map (λ s. s.now) (take i references)) in
     let reference = get_or references i d in
     let more : map remove (map (λ s. s.now) (take (i + 1) references)) ≡ before ++ remove reference.now ∷ [] =
-        ap (λ rs. map remove (map (λ s. s.now) rs)) (take_more references i d lt) ∙ (ap (map remove) (map-append (λ s. s.now) (take i references) (reference ∷ [])) ∙ map-append remove (map (λ s. s.now) (take i references)) (reference.now ∷ [])) in
+    ap (λ rs. map remove (map (λ s. s.now) rs)) (take_more references i d lt) ∙ (ap (map remove) (map-append (λ s. s.now) (take i references) (reference ∷ [])) ∙ map-append remove (map (λ s. s.now) (take i references)) (reference.now ∷ [])) in
     subst (Follows old new) (sym more) (Follows-append old mid new before (remove reference.now ∷ []) so_far (record { stands = then }))
 
 -- one document more is taken

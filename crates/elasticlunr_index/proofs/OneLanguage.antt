@@ -1,5 +1,5 @@
 -- A name names one language, and a language leaves one answer of a token.
-use Rattle.std.proofs.Common.{◌≡◌, List, Option, None, Some, IsSomeAnd, bytes_eq, refl, sym, ap, ◌∙◌}
+use Rattle.std.proofs.Common.{◌≡◌, Option, None, Some, IsSomeAnd, bytes_eq, refl, sym, ap, ◌∙◌}
 use Rattle.std.specs.List.{find}
 use Rattle.elasticlunr_text.specs.Text.{Text, Bytes}
 use Rattle.elasticlunr_text.specs.Stems.{Stem}

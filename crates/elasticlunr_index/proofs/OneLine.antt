@@ -1,12 +1,12 @@
 -- A job has one line in a language.
-use Rattle.std.proofs.Common.{◌≡◌, ◌⊎◌, ℕ, zero, suc, List, [], ◌∷◌, Bool, true, false, map, filter_map, Option, None, Some, slice_get, IsSomeAnd, IfSome, bytes_eq, inl, inr, true≢false, refl, sym, ap, subst, ◌∙◌}
+use Rattle.std.proofs.Common.{◌≡◌, ◌⊎◌, ℕ, suc, List, [], ◌∷◌, Bool, true, false, map, filter_map, Option, None, Some, slice_get, IsSomeAnd, IfSome, bytes_eq, inl, inr, true≢false, refl, sym, ap, subst, ◌∙◌}
 use Rattle.std.proofs.lemmas.Slice.Eq.{bytes_eq-Decides}
 use Rattle.std.specs.List.{AllZip}
 use Rattle.serde_json.specs.Data.{Data}
 use Rattle.elasticlunr_text.specs.Text.{Text, Bytes}
 use Rattle.elasticlunr_lang.specs.Known.{language_leaves}
 use Rattle.elasticlunr_lang.specs.declared.any.AnyLanguage.{AnyLanguage}
-use Rattle.elasticlunr.specs.Documents.{HoldsReference, IsDocument, IsGiven}
+use Rattle.elasticlunr.specs.Documents.{IsGiven}
 use Rattle.elasticlunr.specs.History.{Commands, Document, Given, none}
 use Rattle.elasticlunr.specs.Printed.{IsValue}
 use Rattle.elasticlunr.specs.Standing.{Plan}
@@ -55,9 +55,9 @@ one_given : OneStem → (job : Job) (language : AnyLanguage) (i : ℕ) (a b : Gi
 one_given stems job language i a b is other value =
     let reads = LanguageReads (language_tokens language) (language_leaves language) in
     let tokens : a.tokens ≡ b.tokens = elim (holds_or_not (slice_get job.fields i) job.reference_field) [
-      inl holds ↦ is.of_reference holds ∙ sym (other.of_reference holds)
-    | inr other_field ↦ both_some a.tokens b.tokens (LanguageReads (language_tokens language) (language_leaves language) i a.value) (LanguageReads (language_tokens language) (language_leaves language) i b.value)
-        (λ ts us first second. one_reading stems language i b.value ts us (subst (λ v. LanguageReads (language_tokens language) (language_leaves language) i v ts) value first) second) (is.of_value other_field) (other.of_value other_field)
+      | inl holds ↦ is.of_reference holds ∙ sym (other.of_reference holds)
+      | inr other_field ↦ both_some a.tokens b.tokens (LanguageReads (language_tokens language) (language_leaves language) i a.value) (LanguageReads (language_tokens language) (language_leaves language) i b.value)
+          (λ ts us first second. one_reading stems language i b.value ts us (subst (λ v. LanguageReads (language_tokens language) (language_leaves language) i v ts) value first) second) (is.of_value other_field) (other.of_value other_field)
     ] in
     λ k. record { value = value k; tokens = tokens k }
 

@@ -6,6 +6,7 @@ use std::alloc::Global;
 use std::test::Fail;
 
 const JOB: &str = "{\"fields\":[\"body\"],\"docs\":[[\"1\",\"go\"]]}";
+
 const NO_JOB: &str = "{\"fields\":[\"body\"],\"docs\":[[]]}";
 
 /// A run over pieces of the input, that fails where so many reads are used up.
@@ -51,12 +52,18 @@ fn written_in_room(
 #[test]
 fn short_reads_lose_nothing(rt: HostRuntime) -> Result<(), Fail> {
     let mut whole = Vec::new(rt.alloc());
-    assert_eq!(rt; ran(rt.alloc(), JOB.as_bytes(), &mut whole), Ok(Outcome::Printed));
+    assert_eq!(rt;
+        ran(rt.alloc(), JOB.as_bytes(), &mut whole),
+        Ok(Outcome::Printed)
+    );
     for piece in 1..JOB.len() + 1 {
         let mut taken = Vec::new(rt.alloc());
         let ended = read_in_pieces(rt.alloc(), JOB, piece, 1000, &mut taken);
         assert_eq!(rt; ended, Ok(Outcome::Printed));
-        assert!(rt; taken.as_slice() == whole.as_slice(), "in pieces of {piece}");
+        assert!(rt;
+            taken.as_slice() == whole.as_slice(),
+            "in pieces of {piece}"
+        );
     }
     Ok(())
 }
@@ -85,7 +92,10 @@ fn a_failed_write_leaves_a_beginning(rt: HostRuntime) -> Result<(), Fail> {
                 let mut taken = Vec::new(rt.alloc());
                 let ended = written_in_room(rt.alloc(), input, room, fails, &mut taken);
                 assert_eq!(rt; ended, Err(RunError::Device));
-                assert!(rt; taken.len() == room && whole.starts_with(&taken), "after {room} bytes");
+                assert!(rt;
+                    taken.len() == room && whole.starts_with(&taken),
+                    "after {room} bytes"
+                );
             }
         }
     }

@@ -22,10 +22,13 @@ fn one_token(
     body: &str,
     trie: &str,
 ) -> Result<String, AllocError> {
-    format!(in alloc; "{{\"documentStore\":{{\"docInfo\":{{\"1\":{{\"body\":1}}}},\"docs\":{{\"1\":{{\"body\":\"{body}\",\"id\":\"1\"}}}},\"length\":1,\"save\":true}},\"fields\":[\"body\"],\"index\":{{\"body\":{{\"root\":{trie}}}}},\"lang\":\"{language}\",\"pipeline\":[{stages}],\"ref\":\"id\",\"version\":\"0.9.5\"}}\n")
+    format!(in alloc;
+        "{{\"documentStore\":{{\"docInfo\":{{\"1\":{{\"body\":1}}}},\"docs\":{{\"1\":{{\"body\":\"{body}\",\"id\":\"1\"}}}},\"length\":1,\"save\":true}},\"fields\":[\"body\"],\"index\":{{\"body\":{{\"root\":{trie}}}}},\"lang\":\"{language}\",\"pipeline\":[{stages}],\"ref\":\"id\",\"version\":\"0.9.5\"}}\n"
+    )
 }
 
 const ENGLISH: &str = "\"trimmer\",\"stopWordFilter\",\"stemmer\"";
+
 const POSTED: &str = "{\"df\":1,\"docs\":{\"1\":{\"tf\":1000000}}}";
 
 #[test]
@@ -34,7 +37,9 @@ fn prints_one_document(rt: HostRuntime) -> Result<(), Fail> {
         rt.alloc(),
         "{\"fields\":[\"body\"],\"docs\":[[\"1\",\"go\"]]}",
     )?;
-    let trie = format!(in rt.alloc(); "{{\"df\":0,\"docs\":{{}},\"g\":{{\"df\":0,\"docs\":{{}},\"o\":{POSTED}}}}}")?;
+    let trie = format!(in rt.alloc();
+        "{{\"df\":0,\"docs\":{{}},\"g\":{{\"df\":0,\"docs\":{{}},\"o\":{POSTED}}}}}"
+    )?;
     let wanted = one_token(rt.alloc(), "English", ENGLISH, "go", trie.as_str())?;
     assert!(rt; taken.as_slice() == wanted.as_bytes());
     Ok(())
@@ -43,7 +48,8 @@ fn prints_one_document(rt: HostRuntime) -> Result<(), Fail> {
 #[test]
 fn prints_an_index_without_fields(rt: HostRuntime) -> Result<(), Fail> {
     let taken = printed(rt.alloc(), "{\"fields\":[],\"docs\":[]}")?;
-    let wanted = "{\"documentStore\":{\"docInfo\":{},\"docs\":{},\"length\":0,\"save\":true},\"fields\":[],\"index\":{},\"lang\":\"English\",\"pipeline\":[\"trimmer\",\"stopWordFilter\",\"stemmer\"],\"ref\":\"id\",\"version\":\"0.9.5\"}\n";
+    let wanted =
+        "{\"documentStore\":{\"docInfo\":{},\"docs\":{},\"length\":0,\"save\":true},\"fields\":[],\"index\":{},\"lang\":\"English\",\"pipeline\":[\"trimmer\",\"stopWordFilter\",\"stemmer\"],\"ref\":\"id\",\"version\":\"0.9.5\"}\n";
     assert!(rt; taken.as_slice() == wanted.as_bytes());
     Ok(())
 }
@@ -65,7 +71,10 @@ fn refuses_in_order(rt: HostRuntime) -> Result<(), Fail> {
         ("{\"fields\":[],\"docs\":[],\"lang\":null}", not_a_job),
         ("{\"fields\":[],\"docs\":[],\"pretty\":null}", not_a_job),
         ("{\"fields\":[\"a\"],\"docs\":[[\"1\",2]]}", not_a_job),
-        ("{\"fields\":[\"a\"],\"docs\":[[\"1\",\"x\"],[]]}", not_a_job),
+        (
+            "{\"fields\":[\"a\"],\"docs\":[[\"1\",\"x\"],[]]}",
+            not_a_job,
+        ),
         (
             "{\"fields\":[],\"docs\":[],\"lang\":\"Klingon\",\"x\":1}",
             not_a_job,
@@ -81,7 +90,10 @@ fn refuses_in_order(rt: HostRuntime) -> Result<(), Fail> {
             "{\"fields\":[\"a\",\"a\"],\"docs\":[[\"1\",\"x\",\"y\",\"z\"]]}",
             duplicate,
         ),
-        ("{\"fields\":[\"a\"],\"docs\":[[\"1\",\"x\",\"y\"]]}", too_many),
+        (
+            "{\"fields\":[\"a\"],\"docs\":[[\"1\",\"x\",\"y\"]]}",
+            too_many,
+        ),
         (
             "{\"fields\":[\"a\"],\"docs\":[[\"1\",\"x\"],[\"2\",\"x\",\"y\"]]}",
             too_many,
@@ -146,7 +158,9 @@ fn speaks_other_languages(rt: HostRuntime) -> Result<(), Fail> {
         ),
     ];
     for (language, stages, body, trie) in cases {
-        let job = format!(in rt.alloc(); "{{\"fields\":[\"body\"],\"docs\":[[\"1\",\"{body}\"]],\"lang\":\"{language}\"}}")?;
+        let job = format!(in rt.alloc();
+            "{{\"fields\":[\"body\"],\"docs\":[[\"1\",\"{body}\"]],\"lang\":\"{language}\"}}"
+        )?;
         let wanted = one_token(rt.alloc(), language, stages, body, trie)?;
         let taken = printed(rt.alloc(), job.as_str())?;
         assert!(rt; taken.as_slice() == wanted.as_bytes(), "{language}");
@@ -154,7 +168,8 @@ fn speaks_other_languages(rt: HostRuntime) -> Result<(), Fail> {
     Ok(())
 }
 
-const NOT_SAVED: &str = "{\"documentStore\":{\"docInfo\":{\"a\":{\"title\":2}},\"docs\":{\"a\":{}},\"length\":1,\"save\":false},\"fields\":[\"title\"],\"index\":{\"title\":{\"root\":{\"df\":0,\"docs\":{},\"f\":{\"df\":0,\"docs\":{},\"o\":{\"df\":0,\"docs\":{},\"x\":{\"df\":1,\"docs\":{\"a\":{\"tf\":1000000}}}}},\"r\":{\"df\":0,\"docs\":{},\"e\":{\"d\":{\"df\":1,\"docs\":{\"a\":{\"tf\":1000000}}},\"df\":0,\"docs\":{}}}}}},\"lang\":\"English\",\"pipeline\":[\"trimmer\",\"stopWordFilter\",\"stemmer\"],\"ref\":\"key\",\"version\":\"0.9.5\"}";
+const NOT_SAVED: &str =
+    "{\"documentStore\":{\"docInfo\":{\"a\":{\"title\":2}},\"docs\":{\"a\":{}},\"length\":1,\"save\":false},\"fields\":[\"title\"],\"index\":{\"title\":{\"root\":{\"df\":0,\"docs\":{},\"f\":{\"df\":0,\"docs\":{},\"o\":{\"df\":0,\"docs\":{},\"x\":{\"df\":1,\"docs\":{\"a\":{\"tf\":1000000}}}}},\"r\":{\"df\":0,\"docs\":{},\"e\":{\"d\":{\"df\":1,\"docs\":{\"a\":{\"tf\":1000000}}},\"df\":0,\"docs\":{}}}}}},\"lang\":\"English\",\"pipeline\":[\"trimmer\",\"stopWordFilter\",\"stemmer\"],\"ref\":\"key\",\"version\":\"0.9.5\"}";
 
 #[test]
 fn takes_its_settings(rt: HostRuntime) -> Result<(), Fail> {
@@ -197,7 +212,8 @@ fn removes_and_compacts(rt: HostRuntime) -> Result<(), Fail> {
     assert!(rt; printed(rt.alloc(), compact.as_str())?.as_slice() == only.as_slice());
 
     let removed = format!(in rt.alloc(); "{{{docs},\"remove\":[\"1\"]}}")?;
-    let wanted = "{\"documentStore\":{\"docInfo\":{\"2\":{\"body\":1}},\"docs\":{\"2\":{\"body\":\"rest\",\"id\":\"2\"}},\"length\":1,\"save\":true},\"fields\":[\"body\"],\"index\":{\"body\":{\"root\":{\"df\":0,\"docs\":{},\"r\":{\"df\":0,\"docs\":{},\"e\":{\"d\":{\"df\":0,\"docs\":{}},\"df\":0,\"docs\":{},\"s\":{\"df\":0,\"docs\":{},\"t\":{\"df\":1,\"docs\":{\"2\":{\"tf\":1000000}}}}}}}}},\"lang\":\"English\",\"pipeline\":[\"trimmer\",\"stopWordFilter\",\"stemmer\"],\"ref\":\"id\",\"version\":\"0.9.5\"}\n";
+    let wanted =
+        "{\"documentStore\":{\"docInfo\":{\"2\":{\"body\":1}},\"docs\":{\"2\":{\"body\":\"rest\",\"id\":\"2\"}},\"length\":1,\"save\":true},\"fields\":[\"body\"],\"index\":{\"body\":{\"root\":{\"df\":0,\"docs\":{},\"r\":{\"df\":0,\"docs\":{},\"e\":{\"d\":{\"df\":0,\"docs\":{}},\"df\":0,\"docs\":{},\"s\":{\"df\":0,\"docs\":{},\"t\":{\"df\":1,\"docs\":{\"2\":{\"tf\":1000000}}}}}}}}},\"lang\":\"English\",\"pipeline\":[\"trimmer\",\"stopWordFilter\",\"stemmer\"],\"ref\":\"id\",\"version\":\"0.9.5\"}\n";
     assert!(rt; printed(rt.alloc(), removed.as_str())?.as_slice() == wanted.as_bytes());
     Ok(())
 }

@@ -1,4 +1,4 @@
-use Rattle.std.proofs.Common.{◌≤◌, [], Bor, Err, Any, map, length, take, string_bytes, refl, ap, subst, ◌∙◌, arith}
+use Rattle.std.proofs.Common.{◌≤◌, [], Err, Any, map, length, string_bytes, refl, ap, subst, ◌∙◌, arith}
 use Rattle.elasticlunr.specs.Index.{fields_of}
 use Rattle.elasticlunr_lang.specs.Known.{language_name}
 use Rattle.elasticlunr_index.specs.Answer.{HasTooMany}
@@ -21,11 +21,11 @@ returns-in_err-add_doc-clause-err g c =
     let values = c.deref.result.now in
     let same = c.loop-doc.invariant.settings in
     later_too_many c.from_residual.result _ _ _ _ c.from_residual.ensures.1 c.loop-doc.invariant.works
-        (λ is. c.add_doc.ensures.failed.0 (c.in_err-add_doc.was ∙ ap Err is))
-        (λ is. subst (λ ds. Any (HasTooMany (fields_of c.args.index)) (map document_told ds)) c.deref-doc-items.ensures.value
-          (Any_at document_told (HasTooMany (fields_of c.args.index)) docs c.loop-doc.doc-index doc c.loop-doc-test.true c.doc-item.is
-            (too_many_told c.args.index c.loop-doc.index doc values same c.deref.ensures.value (c.add_doc.ensures.too_many.0 (c.in_err-add_doc.was ∙ ap Err is)).1)))
-        c.in_err-add_doc.ensures.errors
+    (λ is. c.add_doc.ensures.failed.0 (c.in_err-add_doc.was ∙ ap Err is))
+    (λ is. subst (λ ds. Any (HasTooMany (fields_of c.args.index)) (map document_told ds)) c.deref-doc-items.ensures.value
+    (Any_at document_told (HasTooMany (fields_of c.args.index)) docs c.loop-doc.doc-index doc c.loop-doc-test.true c.doc-item.is
+    (too_many_told c.args.index c.loop-doc.index doc values same c.deref.ensures.value (c.add_doc.ensures.too_many.0 (c.in_err-add_doc.was ∙ ap Err is)).1)))
+    c.in_err-add_doc.ensures.errors
 
 pub loop-doc-preserved : goal.loop-doc-preserved
 loop-doc-preserved g c =
@@ -56,8 +56,8 @@ loop-reference-preserved g c = record {
 pub returns-in_err-text-clause-err : goal.returns-in_err-text-clause-err
 returns-in_err-text-clause-err g c = later_exit c.from_residual-in_err-text.result _ _ _ _ _ c.from_residual-in_err-text.ensures.1
     (λ works. elim c.if-job.branch [
-      then-job+in_ok-compact w ↦ works_then c.loop-reference.index w.compact.new.self c.if-job.index w.index-is w.compact.ensures.fails (c.loop-reference.invariant.works works)
-    | else-job w ↦ works_still c.loop-reference.index c.if-job.index w.index-is (c.loop-reference.invariant.works works)
+      | then-job+in_ok-compact w ↦ works_then c.loop-reference.index w.compact.new.self c.if-job.index w.index-is w.compact.ensures.fails (c.loop-reference.invariant.works works)
+      | else-job w ↦ works_still c.loop-reference.index c.if-job.index w.index-is (c.loop-reference.invariant.works works)
     ])
     c.in_err-text.ensures.err
 
@@ -67,18 +67,18 @@ returns-clause-fits g c = subst (λ ds. Fits (fields_of c.args.index) (map docum
 
 pub returns-clause-ok : goal.returns-clause-ok
 returns-clause-ok g c language built = elim c.if-job.branch [
-    then-job+in_ok-compact w ↦ carried_line (job_told c.args.job.now) language _ _ _ _ _ (string_bytes c.in_ok-text.text)
-        (plan_alike language_name (λ z. (goal.PipelineFn-dyn g z).name_text z.1) c.args.index c.if-job.index (same_settings c.args.index c.loop-reference.index w.compact.new.self c.if-job.index w.index-is w.compact.ensures.settings c.loop-reference.invariant.settings))
-        built
-        (done _ _ _ _ _ c.args.job.now c.deref-doc-items.result.now c.loop-doc.doc-index c.deref-reference-items.result.now c.loop-reference.reference-index
-          c.deref-doc-items.ensures.value c.deref-reference-items.ensures.value c.loop-doc-test.false c.loop-reference-test.false c.loop-doc.invariant.taken c.loop-reference.invariant.follows
-          (compacted_then language_name (λ z. (goal.PipelineFn-dyn g z).name_text z.1) c.loop-reference.index w.compact.new.self c.if-job.index c.args.job.now.compact w.index-is w.if-job.true w.in_ok-compact.ensures.compacted))
-        c.in_ok-text.ensures.ok
+  | then-job+in_ok-compact w ↦ carried_line (job_told c.args.job.now) language _ _ _ _ _ (string_bytes c.in_ok-text.text)
+      (plan_alike language_name (λ z. (goal.PipelineFn-dyn g z).name_text z.1) c.args.index c.if-job.index (same_settings c.args.index c.loop-reference.index w.compact.new.self c.if-job.index w.index-is w.compact.ensures.settings c.loop-reference.invariant.settings))
+      built
+      (done _ _ _ _ _ c.args.job.now c.deref-doc-items.result.now c.loop-doc.doc-index c.deref-reference-items.result.now c.loop-reference.reference-index
+      c.deref-doc-items.ensures.value c.deref-reference-items.ensures.value c.loop-doc-test.false c.loop-reference-test.false c.loop-doc.invariant.taken c.loop-reference.invariant.follows
+      (compacted_then language_name (λ z. (goal.PipelineFn-dyn g z).name_text z.1) c.loop-reference.index w.compact.new.self c.if-job.index c.args.job.now.compact w.index-is w.if-job.true w.in_ok-compact.ensures.compacted))
+      c.in_ok-text.ensures.ok
   | else-job w ↦ carried_line (job_told c.args.job.now) language _ _ _ _ _ (string_bytes c.in_ok-text.text)
-        (plan_alike language_name (λ z. (goal.PipelineFn-dyn g z).name_text z.1) c.args.index c.if-job.index (same_settings c.args.index c.loop-reference.index c.loop-reference.index c.if-job.index w.index-is refl c.loop-reference.invariant.settings))
-        built
-        (done _ _ _ _ _ c.args.job.now c.deref-doc-items.result.now c.loop-doc.doc-index c.deref-reference-items.result.now c.loop-reference.reference-index
-          c.deref-doc-items.ensures.value c.deref-reference-items.ensures.value c.loop-doc-test.false c.loop-reference-test.false c.loop-doc.invariant.taken c.loop-reference.invariant.follows
-          (compacted_not language_name (λ z. (goal.PipelineFn-dyn g z).name_text z.1) c.loop-reference.index c.if-job.index c.args.job.now.compact w.index-is w.if-job.false))
-        c.in_ok-text.ensures.ok
-  ]
+      (plan_alike language_name (λ z. (goal.PipelineFn-dyn g z).name_text z.1) c.args.index c.if-job.index (same_settings c.args.index c.loop-reference.index c.loop-reference.index c.if-job.index w.index-is refl c.loop-reference.invariant.settings))
+      built
+      (done _ _ _ _ _ c.args.job.now c.deref-doc-items.result.now c.loop-doc.doc-index c.deref-reference-items.result.now c.loop-reference.reference-index
+      c.deref-doc-items.ensures.value c.deref-reference-items.ensures.value c.loop-doc-test.false c.loop-reference-test.false c.loop-doc.invariant.taken c.loop-reference.invariant.follows
+      (compacted_not language_name (λ z. (goal.PipelineFn-dyn g z).name_text z.1) c.loop-reference.index c.if-job.index c.args.job.now.compact w.index-is w.if-job.false))
+      c.in_ok-text.ensures.ok
+]

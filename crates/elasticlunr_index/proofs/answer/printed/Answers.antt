@@ -1,9 +1,7 @@
-use Rattle.std.proofs.Common.{◌≡◌, Any, Err, true, false, map, refl, ap, subst, ◌∙◌}
-use Rattle.elasticlunr_text.specs.Text.{Bytes}
+use Rattle.std.proofs.Common.{◌≡◌, Any, Err, true, false, refl, ap, subst, ◌∙◌}
 use Rattle.elasticlunr.specs.Builder.{chosen}
-use Rattle.elasticlunr.specs.Choices.{with_fields}
 use Rattle.elasticlunr.specs.Fields.{all_differ}
-use Rattle.elasticlunr.specs.Index.{choices_of, fields_of}
+use Rattle.elasticlunr.specs.Index.{choices_of}
 use Rattle.elasticlunr_index.specs.Answer.{HasTooMany}
 use Rattle.elasticlunr_index.specs.Filled.{Fits}
 use Rattle.elasticlunr_index.specs.JobTold.{job_told}
@@ -41,8 +39,7 @@ returns-clause-ok c =
     let job = job_told c.args.job.now in
     let language = c.in-Some.language in
     let begun = begun_for job language (chosen c.in_ok-with_language.field-0) (chosen c.save_docs.result) (chosen c.in_ok-set_ref.field-0) c.in_ok-with_language.ensures.chosen c.save_docs.ensures c.in_ok-set_ref.ensures.chosen in
-    let given = given_for c.args.job.now language (chosen c.in_ok-set_ref.field-0) (chosen c.in_ok-add_fields.field-0) c.deref.result.now begun c.deref.ensures.value c.in_ok-add_fields.ensures.chosen in
-    (
+    let given = given_for c.args.job.now language (chosen c.in_ok-set_ref.field-0) (chosen c.in_ok-add_fields.field-0) c.deref.result.now begun c.deref.ensures.value c.in_ok-add_fields.ensures.chosen in (
       language,
       record {
         named = c.in-Some.ensures.found;

@@ -6,7 +6,7 @@ ghost use Rattle.elasticlunr_text.specs.Text.{Text, is_listed};
 ghost use Rattle.elasticlunr_text.specs.StopWords.{filter_name, has_word};
 ghost use Rattle.elasticlunr_text.specs.Classes.{in_scripts};
 ghost use Rattle.elasticlunr_text.specs.Trimmers.{trimmer_name, keeps};
-ghost use Rattle.elasticlunr_text.specs.Stages.{names_of, LeavesAs, HasKnownStages};
+ghost use Rattle.elasticlunr_text.specs.Stages.{names_by, LeavesBy, HasKnownStages};
 ghost use Rattle.elasticlunr_lang.specs.Classes.{class_stages, class_leaves};
 
 use elasticlunr_text::lang::common::{RegexTrimmer, StopWordFilter};
@@ -61,8 +61,8 @@ pub fn class_pipeline(
     stop_words: &[&str],
     empty: Pipeline,
 ) -> Result<Pipeline, AllocError>
-    ensures names { IfOk result (λ pipeline. names_of (λ step. name_text (step.vtable, step.value)) pipeline ≡ class_stages code.now) }
-    ensures leaves { IfOk result (λ pipeline. LeavesAs (λ step. leaves (step.vtable, step.value)) pipeline (class_leaves (in_scripts (script ∷ [])) (map (λ word. chars word.now) stop_words.now))) }
+    ensures names { IfOk result (λ pipeline. names_by name_text pipeline ≡ class_stages code.now) }
+    ensures leaves { IfOk result (λ pipeline. LeavesBy leaves pipeline (class_leaves (in_scripts (script ∷ [])) (map (λ word. chars word.now) stop_words.now))) }
     ensures known { IfOk result (λ pipeline. HasKnownStages pipeline) }
 {
     let mut pipeline = empty;

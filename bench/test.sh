@@ -7,7 +7,8 @@ log=$(mktemp)
 rt ci 2>&1 | tee "$log"
 status=${PIPESTATUS[0]}
 if [ "$status" -eq 0 ]; then
-    make --silent build >>"$log" 2>&1 || { tail -n 20 "$log"; status=1; }
+    # the gate leaves the program that it proved and built
+    [ -x crates/elasticlunr_index/out/elasticlunr_index ] || make --silent build >"$log.build" 2>&1 || { tail -n 20 "$log.build"; status=1; }
     for check in bench/check_jobs.py bench/refuse_memory.py; do
         python3 "$check" | tee -a "$log"
         [ "${PIPESTATUS[0]}" -eq 0 ] || status=1
@@ -15,5 +16,5 @@ if [ "$status" -eq 0 ]; then
 fi
 awk '/^([a-z]+: )?[0-9]+ passed, [0-9]+ failed$/ { n = NF - 3; passed += $n; failed += $(n + 2) }
      END { printf "%d passed, %d failed\n", passed, failed }' "$log"
-rm -f "$log"
+rm -f "$log" "$log.build"
 exit "$status"

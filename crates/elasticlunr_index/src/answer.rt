@@ -1,20 +1,20 @@
 //! What is written for an input.
 
-ghost use Rattle.std.specs.Prelude.{◌≡◌, Any, Some, None, map, string_bytes, IfOk, IfErr, OnOk, OnErr};
-ghost use Rattle.elasticlunr.specs.History.{Commands, remove};
-ghost use Rattle.elasticlunr.specs.Index.{fields_of, plan_of, IsDocument, IsFailed, SameSettings, StandsFor};
+ghost use Rattle.std.specs.Prelude.{◌≡◌, Any, Some, None, string_bytes, IfOk, IfErr, OnOk};
+ghost use Rattle.elasticlunr.specs.History.{Commands};
+ghost use Rattle.elasticlunr.specs.Index.{fields_of, plan_of, IsDocument, IsFailed, StandsFor};
 ghost use Rattle.elasticlunr_lang.specs.Known.{language_name};
 ghost use Rattle.elasticlunr_text.specs.Text.{Bytes};
 ghost use Rattle.elasticlunr_index.specs.Answer.{FailsAt, Passes, HasTooMany, IsIndexLine, IsRefused, IsAnswer, line, reading, refusal_text};
-ghost use Rattle.elasticlunr_index.specs.Commands.{compacted, language_tokens};
-ghost use Rattle.elasticlunr_index.specs.Filled.{Fits, Follows, HasDone, HasTaken, IsBuiltFor, IsPrintOf};
-ghost use Rattle.elasticlunr_index.specs.JobTold.{document_told, job_told};
+ghost use Rattle.elasticlunr_index.specs.Commands.{language_tokens};
+ghost use Rattle.elasticlunr_index.specs.Filled.{Fits, IsBuiltFor, IsPrintOf};
+ghost use Rattle.elasticlunr_index.specs.JobTold.{job_told};
 ghost use Rattle.elasticlunr_index.specs.Stop.{StopsBy, StopsFor};
 ghost use Rattle.elasticlunr_index.specs.declared.outcome.Outcome.TheVariants.{Printed};
 ghost use Rattle.elasticlunr_index.specs.declared.outcome.Refusal.TheVariants.{TooManyValues, NotJson};
 ghost use Rattle.serde_json.specs.View.{view};
 
-use crate::job::{Document, Job, parse};
+use crate::job::{Job, parse};
 use crate::outcome::{Outcome, Refusal, Stop};
 use elasticlunr::lang::{AnyLanguage, from_name};
 use elasticlunr::{Index, IndexBuilder, IndexError};

@@ -1,5 +1,6 @@
 //! An index whose document met want of memory.
-ghost use Rattle.std.specs.Prelude.{◌≡◌, IfOk, Some, option_map, string_bytes};
+ghost use Rattle.std.specs.Prelude.{◌≡◌, IfOk, Some, option_map};
+ghost use Rattle.elasticlunr_text.specs.Text.{text_of};
 
 use crate::lang::English;
 use crate::pipeline::{FnWrapper, Pipeline, Stage};
@@ -10,7 +11,7 @@ use std::test::Fail;
 
 /// Keeps a token, but has no memory for `b`.
 fn no_memory_for_b(_alloc: Global, token: String) -> Result<Option<String>, AllocError>
-    ensures { IfOk result (λ left. option_map string_bytes left ≡ Some (string_bytes token)) }
+    ensures { IfOk result (λ left. option_map text_of left ≡ Some (text_of token)) }
 {
     if token.as_str() == "b" {
         return Err(AllocError);

@@ -1,9 +1,9 @@
 //! Functions, stages and tokenizers of the user's own.
 ghost use Rattle.std.specs.Prelude.{◌≡◌, ◌++◌, ◌∷◌, [], ℕ, List, IfOk, Ok, None, Some, Vec, String, codes, option_map, string_bytes, if◌then◌else◌};
 ghost use Rattle.std.specs.Borrow.{Bor};
-ghost use Rattle.std.specs.Str.{bytes_eq};
+ghost use Rattle.std.specs.Str.{bytes_eq, chars, encode_utf8_all};
 ghost use Rattle.std.specs.declared.alloc.Global.{Global};
-ghost use Rattle.elasticlunr_text.specs.Text.{bytes_of};
+ghost use Rattle.elasticlunr_text.specs.Text.{bytes_of, text_of};
 
 use crate::lang::English;
 use crate::pipeline::{FnWrapper, Pipeline, PipelineFn, Stage};
@@ -14,7 +14,7 @@ use std::process::Abort;
 use std::test::Fail;
 
 /// What is left of a token: none of `x`, and else the token followed by `!`.
-fn without_x(_alloc: Global, mut token: String) -> Result<Option<String>, AllocError>
+fn marked(_alloc: Global, mut token: String) -> Result<Option<String>, AllocError>
     ensures { IfOk result (λ left. option_map string_bytes left
         ≡ (if bytes_eq (string_bytes token) (codes "x") then None else Some (string_bytes token ++ codes "!"))) }
 {
@@ -23,6 +23,14 @@ fn without_x(_alloc: Global, mut token: String) -> Result<Option<String>, AllocE
     }
     token.push_str("!")?;
     Ok(Some(token))
+}
+
+/// The same, by its characters.
+fn without_x(alloc: Global, token: String) -> Result<Option<String>, AllocError>
+    ensures { IfOk result (λ left. option_map text_of left ≡ option_map chars
+        (if bytes_eq (encode_utf8_all (text_of token)) (codes "x") then None else Some (encode_utf8_all (text_of token) ++ codes "!"))) }
+{
+    marked(alloc, token)
 }
 
 /// The same as an object.

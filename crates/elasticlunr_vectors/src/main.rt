@@ -3,6 +3,8 @@
 
 mod cells;
 mod tables;
+#[cfg(test)]
+mod tests;
 
 use std::{fs, io};
 

@@ -1,6 +1,6 @@
-use crate::{InvertedIndex, Tokens};
-use elasticlunr_text::IndexError;
-use json::{Pretty, Writer};
+//! Tries: what they know, their postings and their values.
+use elasticlunr::IndexError;
+use elasticlunr::inverted_index::InvertedIndex;
 use serde_json::Value;
 use std::alloc::Global;
 use std::process::Abort;
@@ -14,7 +14,7 @@ fn count(trie: &InvertedIndex, token: &str) -> Result<Option<usize>, IndexError>
     }
 }
 
-// Checks that the value and both written texts of a trie are these.
+// Checks that the value of a trie has this text, and is read as the trie.
 fn check_text(
     rt: &impl Abort,
     alloc: Global,
@@ -23,14 +23,6 @@ fn check_text(
 ) -> Result<(), Fail> {
     let value = trie.to_value()?;
     assert_eq!(rt; value.to_string(alloc)?.as_str(), text);
-    let mut out = Writer::new(Vec::new(alloc));
-    trie.write(&mut out)?;
-    let written = unsafe { String::from_utf8_unchecked(out.into_inner()) };
-    assert_eq!(rt; written.as_str(), text);
-    let mut out = Pretty::new(alloc);
-    trie.write(&mut out)?;
-    let written = unsafe { String::from_utf8_unchecked(out.into_inner()) };
-    assert_eq!(rt; written.as_str(), value.to_string_pretty(alloc)?.as_str());
     let again = InvertedIndex::from_value(alloc, &value)?;
     assert!(rt; again == *trie);
     Ok(())
@@ -44,6 +36,18 @@ fn knows_what_was_added(rt: HostRuntime) -> Result<(), Fail> {
     assert_eq!(rt; count(&trie, "foo")?, None);
     trie.add_token("123", "foo", 1)?;
     assert_eq!(rt; count(&trie, "foo")?, Some(1));
+    for (token, known) in [
+        ("foo", true),
+        ("fo", true),
+        ("f", true),
+        ("fooo", false),
+        ("fof", false),
+        ("foo ", false),
+        ("foo  ", false),
+        ("bar", false),
+    ] {
+        assert_eq!(rt; trie.has_token(token), known, "{token}");
+    }
     trie.remove_token("123", "foo");
     assert!(rt; trie.has_token("foo"));
     assert_eq!(rt; count(&trie, "foo")?, Some(0));
@@ -65,6 +69,68 @@ fn replaces_a_frequency(rt: HostRuntime) -> Result<(), Fail> {
     trie.add_token("1", "x", 0)?;
     assert_eq!(rt; trie.get_term_frequency("1", "x"), 0);
     assert_eq!(rt; trie.get_doc_frequency("x"), 1);
+    Ok(())
+}
+
+// The references of a token and their frequencies, as `reference=frequency;`.
+fn docs(alloc: Global, trie: &InvertedIndex, token: &str) -> Result<String, Fail> {
+    let docs = trie.get_docs(token)?.ok_or("unknown")?;
+    let mut all = String::new(alloc);
+    for (doc_ref, term_freq) in docs.iter() {
+        all.push_str(format!(in alloc; "{doc_ref}={term_freq};")?.as_str())?;
+    }
+    Ok(all)
+}
+
+#[test]
+fn each_token_has_its_own_postings(rt: HostRuntime) -> Result<(), Fail> {
+    let alloc = rt.alloc();
+    let mut trie = InvertedIndex::new(alloc);
+    trie.add_token("123", "foo", 1)?;
+    trie.add_token("234", "boo", 100)?;
+    trie.add_token("345", "too", 101)?;
+    assert_eq!(rt; docs(alloc, &trie, "foo")?.as_str(), "123=1;");
+    trie.add_token("234", "foo", 100)?;
+    trie.add_token("345", "foo", 101)?;
+    assert_eq!(rt; docs(alloc, &trie, "foo")?.as_str(), "123=1;234=100;345=101;");
+    for (token, frequency) in [
+        ("foo", 3),
+        ("boo", 1),
+        ("fox", 0),
+        ("fo", 0),
+        ("f", 0),
+        ("b", 0),
+        ("baz", 0),
+    ] {
+        assert_eq!(rt; trie.get_doc_frequency(token), frequency, "{token}");
+    }
+    for (doc_ref, token, frequency) in [
+        ("234", "foo", 100),
+        ("234", "boo", 100),
+        ("345", "boo", 0),
+        ("789", "foo", 0),
+        ("123", "ken", 0),
+        ("foo", "12", 0),
+        ("123", "fo", 0),
+    ] {
+        assert_eq!(rt; trie.get_term_frequency(doc_ref, token), frequency, "{token}");
+    }
+    Ok(())
+}
+
+#[test]
+fn removing_what_is_not_there_changes_nothing(rt: HostRuntime) -> Result<(), Fail> {
+    let alloc = rt.alloc();
+    let mut trie = InvertedIndex::new(alloc);
+    trie.remove_token("123", "foo");
+    assert!(rt; !trie.has_token("foo"));
+    trie.add_token("123", "foo", 1)?;
+    trie.add_token("567", "bar", 1)?;
+    trie.remove_token("foo", "456");
+    trie.remove_token("567", "foo");
+    trie.remove_doc("9");
+    assert_eq!(rt; docs(alloc, &trie, "foo")?.as_str(), "123=1;");
+    assert_eq!(rt; docs(alloc, &trie, "bar")?.as_str(), "567=1;");
     Ok(())
 }
 

@@ -5,13 +5,15 @@ ghost use Rattle.std.specs.Str.{bytes_eq, chars, encode_utf8_all};
 ghost use Rattle.std.specs.declared.alloc.Global.{Global};
 ghost use Rattle.elasticlunr_text.specs.Text.{bytes_of, text_of};
 
-use crate::lang::English;
-use crate::pipeline::{FnWrapper, Pipeline, PipelineFn, Stage};
-use crate::settings::Tokenize;
-use crate::{Index, IndexBuilder, IndexError};
+use elasticlunr::lang::English;
+use elasticlunr::pipeline::{FnWrapper, Pipeline, PipelineFn, Stage};
+use elasticlunr::{Index, IndexBuilder, IndexError};
 use std::alloc::{AllocError, Global};
 use std::process::Abort;
 use std::test::Fail;
+
+/// What makes tokens of a text.
+type Tokenize = Box<dyn Fn(Global, &str) -> Result<Vec<String>, AllocError>>;
 
 /// What is left of a token: none of `x`, and else the token followed by `!`.
 fn marked(_alloc: Global, mut token: String) -> Result<Option<String>, AllocError>

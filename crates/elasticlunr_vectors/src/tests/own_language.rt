@@ -1,7 +1,7 @@
 //! A language of the user's own.
-use crate::lang::Language;
-use crate::pipeline::{Pipeline, Stage};
-use crate::{Index, IndexError};
+use elasticlunr::lang::Language;
+use elasticlunr::pipeline::{Pipeline, Stage};
+use elasticlunr::{Index, IndexError};
 use std::alloc::{AllocError, Global};
 use std::process::Abort;
 use std::test::Fail;

@@ -1,5 +1,6 @@
-use crate::{SearchBool, SearchOptions, SearchOptionsField};
-use elasticlunr_text::IndexError;
+//! Search options: written and read.
+use elasticlunr::IndexError;
+use elasticlunr::config::{SearchBool, SearchOptions, SearchOptionsField};
 use serde_json::Value;
 use std::test::Fail;
 
@@ -15,10 +16,9 @@ fn writes_boosts(rt: HostRuntime) -> Result<(), Fail> {
             .insert(String::from_str(alloc, name)?, field)?;
     }
     let value = options.to_value(alloc)?;
-    assert_eq!(rt;
-        value.to_string(alloc)?.as_str(),
-        r#"{"bool":"OR","expand":false,"fields":{"body":{"boost":1},"title":{"boost":5}}}"#
-    );
+    let fields = r#""fields":{"body":{"boost":1},"title":{"boost":5}}"#;
+    let written = format!(in alloc; "{{\"bool\":\"OR\",\"expand\":false,{fields}}}")?;
+    assert!(rt; value.to_string(alloc)? == written);
     assert!(rt; SearchOptions::from_value(alloc, &value)? == options);
     assert!(rt; options.clone(alloc)? == options);
     assert!(rt; options != SearchOptions::new(alloc));

@@ -2,9 +2,9 @@
 ghost use Rattle.std.specs.Prelude.{◌≡◌, IfOk, Some, option_map};
 ghost use Rattle.elasticlunr_text.specs.Text.{text_of};
 
-use crate::lang::English;
-use crate::pipeline::{FnWrapper, Pipeline, Stage};
-use crate::{IndexBuilder, IndexError};
+use elasticlunr::lang::English;
+use elasticlunr::pipeline::{FnWrapper, Pipeline, Stage};
+use elasticlunr::{IndexBuilder, IndexError};
 use std::alloc::{AllocError, Global};
 use std::process::Abort;
 use std::test::Fail;

@@ -1,6 +1,6 @@
 //! Documents of kept languages.
-use crate::inverted_index::InvertedIndex;
-use crate::{Index, IndexBuilder, IndexError, root};
+use elasticlunr::inverted_index::InvertedIndex;
+use elasticlunr::{Index, IndexBuilder, IndexError, root};
 use std::alloc::Global;
 use std::process::Abort;
 use std::test::Fail;
@@ -13,6 +13,14 @@ fn posting(index: &InvertedIndex, token: &str) -> (u64, u64) {
     )
 }
 
+// Both texts are those that the JSON crate prints of the value.
+fn check_texts(rt: &impl Abort, alloc: Global, index: &Index) -> Result<(), Fail> {
+    let value = index.to_value()?;
+    assert!(rt; index.to_json()? == value.to_string(alloc)?);
+    assert!(rt; index.to_json_pretty()? == value.to_string_pretty(alloc)?);
+    Ok(())
+}
+
 #[test]
 fn a_document_is_printed(rt: HostRuntime) -> Result<(), Fail> {
     let mut index = Index::new(rt.alloc(), &["body"])?;
@@ -21,16 +29,16 @@ fn a_document_is_printed(rt: HostRuntime) -> Result<(), Fail> {
         index.to_json()?.as_str(),
         r#"{"documentStore":{"docInfo":{"1":{"body":1}},"docs":{"1":{"body":"go","id":"1"}},"length":1,"save":true},"fields":["body"],"index":{"body":{"root":{"df":0,"docs":{},"g":{"df":0,"docs":{},"o":{"df":1,"docs":{"1":{"tf":1000000}}}}}}},"lang":"English","pipeline":["trimmer","stopWordFilter","stemmer"],"ref":"id","version":"0.9.5"}"#
     );
-    let value = index.to_value()?;
-    assert_eq!(rt;
-        index.to_json()?.as_str(),
-        value.to_string(rt.alloc())?.as_str()
-    );
-    assert_eq!(rt;
-        index.to_json_pretty()?.as_str(),
-        value.to_string_pretty(rt.alloc())?.as_str()
-    );
-    Ok(())
+    assert_eq!(rt; index.document_store()?.len(), 1);
+    check_texts(&rt, rt.alloc(), &index)
+}
+
+#[test]
+fn fields_are_printed_in_the_order_of_their_names(rt: HostRuntime) -> Result<(), Fail> {
+    let mut index = Index::new(rt.alloc(), &["title", "body"])?;
+    index.add_doc("\"1\"", &["a \"title\"\n", "\u{1F}"])?;
+    assert!(rt; index.to_json()?.as_str().contains(r#""fields":["title","body"],"index":{"body":"#));
+    check_texts(&rt, rt.alloc(), &index)
 }
 
 #[test]

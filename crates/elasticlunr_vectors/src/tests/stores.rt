@@ -1,13 +1,13 @@
-use crate::{DocumentStore, Tokens};
-use elasticlunr_text::IndexError;
-use json::{Pretty, Writer};
+//! Stores: texts, lengths and their values.
+use elasticlunr::IndexError;
+use elasticlunr::document_store::DocumentStore;
 use serde_json::Value;
 use std::alloc::Global;
 use std::collections::BTreeMap;
 use std::process::Abort;
 use std::test::Fail;
 
-// Checks that the value and both written texts of a store are these.
+// Checks that the value of a store has this text, and is read as the store.
 fn check_text(
     rt: &impl Abort,
     alloc: Global,
@@ -16,14 +16,6 @@ fn check_text(
 ) -> Result<(), Fail> {
     let value = store.to_value()?;
     assert_eq!(rt; value.to_string(alloc)?.as_str(), text);
-    let mut out = Writer::new(Vec::new(alloc));
-    store.write(&mut out)?;
-    let written = unsafe { String::from_utf8_unchecked(out.into_inner()) };
-    assert_eq!(rt; written.as_str(), text);
-    let mut out = Pretty::new(alloc);
-    store.write(&mut out)?;
-    let written = unsafe { String::from_utf8_unchecked(out.into_inner()) };
-    assert_eq!(rt; written.as_str(), value.to_string_pretty(alloc)?.as_str());
     assert!(rt; DocumentStore::from_value(alloc, &value)? == *store);
     assert!(rt; store.clone()? == *store);
     Ok(())
@@ -64,6 +56,53 @@ fn keeps_texts_and_lengths(rt: HostRuntime) -> Result<(), Fail> {
     store.forget_doc("1");
     store.forget_doc("2");
     assert!(rt; store == DocumentStore::new(alloc, true));
+    Ok(())
+}
+
+#[test]
+fn documents_come_and_go(rt: HostRuntime) -> Result<(), Fail> {
+    let alloc = rt.alloc();
+    for save in [true, false] {
+        let mut store = DocumentStore::new(alloc, save);
+        assert!(rt; !store.has_doc("1"));
+        add(&mut store, alloc, "1", "eggs bread")?;
+        add(&mut store, alloc, "2", "hello world")?;
+        assert_eq!(rt; store.is_stored(), save);
+        store.remove_doc("8");
+        assert_eq!(rt; store.len(), 2);
+        store.remove_doc("1");
+        assert_eq!(rt; store.len(), 1);
+        assert!(rt; !store.has_doc("1"));
+        assert!(rt; store.get_doc("1")?.is_none());
+        assert!(rt; store.has_doc("2"));
+        let texts = store.get_doc("2")?.ok_or("2")?;
+        assert_eq!(rt; texts.len(), usize::from(save));
+    }
+    Ok(())
+}
+
+#[test]
+fn a_document_has_all_its_texts(rt: HostRuntime) -> Result<(), Fail> {
+    let alloc = rt.alloc();
+    let mut store = DocumentStore::new(alloc, true);
+    add(&mut store, alloc, "1", "eggs bread")?;
+    let mut doc = BTreeMap::new(alloc);
+    for (field, text) in [("title", "oracle"), ("body", "Oracle is demonspawn")] {
+        doc.insert(
+            String::from_str(alloc, field)?,
+            String::from_str(alloc, text)?,
+        )?;
+    }
+    store.add_doc("3", doc)?;
+    store.add_field_length("3", "title", 1)?;
+    store.add_field_length("3", "body", 10)?;
+    let texts = store.get_doc("3")?.ok_or("3")?;
+    assert_eq!(rt; texts.len(), 2);
+    assert_eq!(rt; texts.get("title").ok_or("title")?.as_str(), "oracle");
+    assert_eq!(rt; texts.get("body").ok_or("body")?.as_str(), "Oracle is demonspawn");
+    assert_eq!(rt; store.get_field_length("3", "title"), 1);
+    assert_eq!(rt; store.get_field_length("3", "body"), 10);
+    assert!(rt; store.get_doc("4")?.is_none());
     Ok(())
 }
 

@@ -1,6 +1,6 @@
 //! What the Arabic stemmer leaves.
-use super::Stemmer;
-use crate::pipeline::PipelineFn;
+use elasticlunr::lang::ar::Stemmer;
+use elasticlunr::pipeline::PipelineFn;
 use std::alloc::Global;
 use std::process::Abort;
 use std::test::Fail;

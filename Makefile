@@ -14,8 +14,8 @@ run: build
 build:
 	@cd crates/elasticlunr_index && rt run < ../../$(EXAMPLE) > /dev/null
 
-# `rt ci` (proves every crate from nothing, tries the wrong bodies, runs the tests and the programs), then the built
-# program on the table of jobs and with each request for memory refused.
+# `rt ci` (proves every crate from nothing, tries the wrong bodies, runs the tests and the programs), then the checks of
+# bench/ on the built program.
 test:
 	@bench/test.sh
 

@@ -1,7 +1,7 @@
 //! The settings of a builder.
+use super::shortest::search_index;
 use elasticlunr::lang::{AnyLanguage, Danish};
 use elasticlunr::{ELASTICLUNR_VERSION, Index, IndexBuilder, IndexError};
-use std::alloc::Global;
 use std::test::Fail;
 
 #[test]
@@ -25,13 +25,6 @@ fn a_name_that_is_there_is_refused(rt: HostRuntime) -> Result<(), Fail> {
         Some(IndexError::DuplicateField)
     );
     Ok(())
-}
-
-/// The text of an index of one document, in the library's shortest form.
-pub fn search_index(alloc: Global) -> Result<String, IndexError> {
-    let mut index = Index::new(alloc, &["title", "body"])?;
-    index.add_doc("1", &["This is a title", "This is body text!"])?;
-    index.to_json()
 }
 
 #[test]

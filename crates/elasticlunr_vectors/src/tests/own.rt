@@ -5,6 +5,7 @@ ghost use Rattle.std.specs.Str.{bytes_eq, chars, encode_utf8_all};
 ghost use Rattle.std.specs.declared.alloc.Global.{Global};
 ghost use Rattle.elasticlunr_text.specs.Text.{bytes_of, text_of};
 
+use super::own_parts::index_of_places;
 use elasticlunr::lang::English;
 use elasticlunr::pipeline::{FnWrapper, Pipeline, PipelineFn, Stage};
 use elasticlunr::{Index, IndexBuilder, IndexError};
@@ -168,6 +169,20 @@ fn empty_tokens_count_and_have_no_posting(rt: HostRuntime) -> Result<(), Fail> {
         r#""docInfo":{"1":{"body":2}}"#,
         r#""index":{"body":{"root":{"df":0,"docs":{},"x":{"df":1,"docs":{"1":{"tf":1000000}}}}}}"#,
         r#""pipeline":[]"#,
+    ] {
+        assert!(rt; text.as_str().contains(part), "{part}");
+    }
+    Ok(())
+}
+
+#[test]
+fn own_parts_work_together(rt: HostRuntime) -> Result<(), Fail> {
+    let text = index_of_places(rt.alloc())?;
+    for part in [
+        r#""docInfo":{"1":{"about":3,"place":1}}"#,
+        r#""b":{"df":0,"docs":{},"i":{"df":0,"docs":{},"g":{"df":1,"docs":{"1":{"tf":1000000}}}}}"#,
+        r#""N":{"df":0,"docs":{},"e":{"df":0,"docs":{},"w":{" ":{"Y":"#,
+        r#""lang":"Plain","pipeline":["trimmer","dropEmpty"]"#,
     ] {
         assert!(rt; text.as_str().contains(part), "{part}");
     }

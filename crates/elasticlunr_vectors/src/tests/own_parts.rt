@@ -2,11 +2,12 @@
 ghost use Rattle.std.specs.Prelude.{◌≡◌, ◌∷◌, [], IfOk};
 ghost use Rattle.elasticlunr_text.specs.Text.{bytes_of};
 
+use elasticlunr::lang::tokenize_whitespace;
 use elasticlunr::pipeline::{Pipeline, PipelineFn, Stage};
 use elasticlunr::{IndexBuilder, IndexError, Language};
 use std::alloc::{AllocError, Global};
 
-/// A stage: drops empty tokens.
+/// A stage: drops what the trimmer has emptied.
 #[derive(Drop)]
 struct DropEmpty {}
 
@@ -16,7 +17,7 @@ impl PipelineFn for DropEmpty {
 
     ghost name_text = { λ _. codes "dropEmpty" };
 
-    ghost leaves = { λ _ token. unless_empty token };
+    ghost leaves = { λ _. unless_empty };
 
     fn name(&self, alloc: Global) -> Result<String, AllocError> {
         String::from_str(alloc, "dropEmpty")
@@ -30,46 +31,41 @@ impl PipelineFn for DropEmpty {
     }
 }
 
-/// A language: cuts at commas alone, and keeps every piece.
+/// A language: words in lower case, of which all stay as they are.
 #[derive(Drop)]
-pub struct Commas {}
+struct Plain {}
 
-impl Language for Commas {
-    ghost use Rattle.std.specs.Prelude.{◌≡◌, ◌∷◌, [], Some, codes, map, nat_eq};
-    ghost use Rattle.std.specs.List.{slice_split};
-    ghost use Rattle.std.specs.Str.{chars, encode_utf8_all};
+impl Language for Plain {
+    ghost use Rattle.std.specs.Prelude.{◌≡◌, ◌∷◌, [], Some, codes};
+    ghost use Rattle.elasticlunr_lang.specs.Words.{words};
 
-    ghost name_of = { λ _. codes "Commas" };
+    ghost name_of = { λ _. codes "Plain" };
 
-    ghost code_of = { λ _. codes "cm" };
+    ghost code_of = { λ _. codes "xx" };
 
-    ghost tokens_of = { λ _ text. map chars (slice_split (λ b. nat_eq b 0x2C) (encode_utf8_all text)) };
+    ghost tokens_of = { λ _. words };
 
-    ghost stages_of = { λ _. codes "all" ∷ [] };
+    ghost stages_of = { λ _. codes "keep" ∷ [] };
 
     ghost leaves_of = { λ _ token left. left ≡ Some token };
 
     fn name(&self, alloc: Global) -> Result<String, AllocError> {
-        String::from_str(alloc, "Commas")
+        String::from_str(alloc, "Plain")
     }
 
     fn code(&self, alloc: Global) -> Result<String, AllocError> {
-        String::from_str(alloc, "cm")
+        String::from_str(alloc, "xx")
     }
 
     fn tokenize(&self, alloc: Global, text: &str) -> Result<Vec<String>, AllocError> {
-        let mut tokens = Vec::new(alloc);
-        for piece in text.split(',') {
-            tokens.push(String::from_str(alloc, piece)?)?;
-        }
-        Ok(tokens)
+        tokenize_whitespace(alloc, text)
     }
 
     fn make_pipeline(&self, alloc: Global, empty: Pipeline) -> Result<Pipeline, AllocError> {
-        let Pipeline { mut queue } = empty;
-        queue.clear();
-        queue.push(Stage::Keep(String::from_str(alloc, "all")?))?;
-        Ok(Pipeline { queue })
+        let mut pipeline = empty;
+        let keep = String::from_str(alloc, "keep")?;
+        pipeline.queue = vec![in alloc; Stage::Keep(keep)]?;
+        Ok(pipeline)
     }
 }
 
@@ -82,15 +78,17 @@ fn whole(alloc: Global, text: &str) -> Result<Vec<String>, AllocError>
     Ok(tokens)
 }
 
-pub fn tags_index(alloc: Global) -> Result<String, IndexError> {
-    let stage: Box<dyn PipelineFn> = Box::new(alloc, DropEmpty {})?;
+/// An index of places: their names as they stand, and the trimmed words of their descriptions.
+pub fn index_of_places(alloc: Global) -> Result<String, IndexError> {
+    let own: Box<dyn PipelineFn> = Box::new(alloc, DropEmpty {})?;
+    let queue = vec![in alloc; Stage::EnglishTrimmer, Stage::Own(own)]?;
     let tokenizer: Box<dyn Fn(Global, &str) -> Result<Vec<String>, AllocError>> =
         Box::new(alloc, whole)?;
-    let mut index = IndexBuilder::with_language(alloc, Commas {})?
-        .with_pipeline(Pipeline { queue: vec![in alloc; Stage::Own(stage)]? })
-        .add_field_with_tokenizer("title", tokenizer)?
-        .add_field("tags")?
+    let mut index = IndexBuilder::with_language(alloc, Plain {})?
+        .with_pipeline(Pipeline { queue })
+        .add_field_with_tokenizer("place", tokenizer)?
+        .add_field("about")?
         .build()?;
-    index.add_doc("1", &["New York", "city,,big apple"])?;
+    index.add_doc("1", &["New York", "The \"Big Apple\" ..."])?;
     index.to_json()
 }

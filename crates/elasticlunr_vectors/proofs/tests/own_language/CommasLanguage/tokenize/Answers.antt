@@ -3,8 +3,8 @@ use Rattle.std.specs.List.{slice_split}
 use Rattle.std.specs.Str.Iter.{split_text, split_has_more, split_pattern}
 use Rattle.std.proofs.lemmas.Iterator.Consumers.{YieldsList-end}
 use Rattle.std.proofs.lemmas.Iterator.Splits.{YieldsList-from_str_split}
-use Rattle.elasticlunr.proofs.Strings.{pieces_push, pieces_of}
-use Rattle.elasticlunr.proofs.tests.language.CommasLanguage.tokenize.Goals as goal
+use Rattle.elasticlunr_vectors.proofs.Strings.{pieces_push, pieces_of}
+use Rattle.elasticlunr_vectors.proofs.tests.own_language.CommasLanguage.tokenize.Goals as goal
 
 pub loop-piece-preserved : goal.loop-piece-preserved
 loop-piece-preserved c =

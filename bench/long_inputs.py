@@ -66,16 +66,25 @@ def small_stack():
     resource.setrlimit(resource.RLIMIT_STACK, (STACK, STACK))
 
 
-def run(job):
-    with tempfile.TemporaryFile() as asked:
-        asked.write(job.encode())
-        asked.seek(0)
+def run_one(job, out):
+    """What the program says of a file, as a line: its status, the seconds, and the megabytes at most."""
+    with open(job, "rb") as asked, open(out, "wb") as answered:
         begun = time.monotonic()
-        program = subprocess.Popen([PROGRAM], stdin=asked, stdout=subprocess.PIPE, preexec_fn=small_stack)
-        out = program.stdout.read().decode()
+        program = subprocess.Popen([PROGRAM], stdin=asked, stdout=answered, preexec_fn=small_stack)
         _, status, used = os.wait4(program.pid, 0)
-        program.returncode = os.waitstatus_to_exitcode(status)
-        return out, program.returncode, time.monotonic() - begun, used.ru_maxrss // 1024
+        print(os.waitstatus_to_exitcode(status), f"{time.monotonic() - begun:.2f}", used.ru_maxrss // 1024)
+
+
+def run(job, folder):
+    """Runs the program below a process of its own: memory is counted from the size of the one that starts it."""
+    asked = os.path.join(folder, "job.json")
+    answered = os.path.join(folder, "index.json")
+    with open(asked, "w", encoding="utf-8") as file:
+        file.write(job)
+    below = subprocess.run([sys.executable, __file__, asked, answered], stdout=subprocess.PIPE, check=True)
+    status, seconds, megabytes = below.stdout.split()
+    with open(answered, encoding="utf-8") as file:
+        return file.read(), int(status), float(seconds), int(megabytes)
 
 
 def main():
@@ -89,8 +98,9 @@ def main():
         ("1,000,000 brackets", 2, deep_text(500_000)),
     ]
     passed = 0
+    folder = tempfile.TemporaryDirectory()
     for name, status, (job, is_right) in cases:
-        out, ended, seconds, megabytes = run(job)
+        out, ended, seconds, megabytes = run(job, folder.name)
         right = ended == status and is_right(out)
         passed += right
         print(
@@ -98,9 +108,10 @@ def main():
             + ("" if right else f": status {ended}, or another text"),
             flush=True,
         )
+    folder.cleanup()
     print(f"long: {passed} passed, {len(cases) - passed} failed")
     return 0 if passed == len(cases) else 1
 
 
 if __name__ == "__main__":
-    sys.exit(main())
+    sys.exit(run_one(*sys.argv[1:]) if len(sys.argv) == 3 else main())

@@ -65,8 +65,8 @@ fn documents_come_and_go(rt: HostRuntime) -> Result<(), Fail> {
     for save in [true, false] {
         let mut store = DocumentStore::new(alloc, save);
         assert!(rt; !store.has_doc("1"));
-        add(&mut store, alloc, "1", "eggs bread")?;
-        add(&mut store, alloc, "2", "hello world")?;
+        add(&mut store, alloc, "1", "moon and tide")?;
+        add(&mut store, alloc, "2", "sun")?;
         assert_eq!(rt; store.is_stored(), save);
         store.remove_doc("8");
         assert_eq!(rt; store.len(), 2);
@@ -85,9 +85,9 @@ fn documents_come_and_go(rt: HostRuntime) -> Result<(), Fail> {
 fn a_document_has_all_its_texts(rt: HostRuntime) -> Result<(), Fail> {
     let alloc = rt.alloc();
     let mut store = DocumentStore::new(alloc, true);
-    add(&mut store, alloc, "1", "eggs bread")?;
+    add(&mut store, alloc, "1", "moon and tide")?;
     let mut doc = BTreeMap::new(alloc);
-    for (field, text) in [("title", "oracle"), ("body", "Oracle is demonspawn")] {
+    for (field, text) in [("title", "owls"), ("body", "Owls hunt at night")] {
         doc.insert(
             String::from_str(alloc, field)?,
             String::from_str(alloc, text)?,
@@ -98,8 +98,8 @@ fn a_document_has_all_its_texts(rt: HostRuntime) -> Result<(), Fail> {
     store.add_field_length("3", "body", 10)?;
     let texts = store.get_doc("3")?.ok_or("3")?;
     assert_eq!(rt; texts.len(), 2);
-    assert_eq!(rt; texts.get("title").ok_or("title")?.as_str(), "oracle");
-    assert_eq!(rt; texts.get("body").ok_or("body")?.as_str(), "Oracle is demonspawn");
+    assert_eq!(rt; texts.get("title").ok_or("title")?.as_str(), "owls");
+    assert_eq!(rt; texts.get("body").ok_or("body")?.as_str(), "Owls hunt at night");
     assert_eq!(rt; store.get_field_length("3", "title"), 1);
     assert_eq!(rt; store.get_field_length("3", "body"), 10);
     assert!(rt; store.get_doc("4")?.is_none());

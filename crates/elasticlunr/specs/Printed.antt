@@ -1,11 +1,12 @@
 -- The JSON value of an index.
-use Rattle.std.specs.Prelude.{◌≡◌, ℕ, List, [], ◌∷◌, codes}
+use Rattle.std.specs.Prelude.{◌≡◌, ◌≤◌, ℕ, List, [], ◌∷◌, Some, codes}
 use Rattle.std.specs.List.{zip}
 use Rattle.elasticlunr_text.specs.Text.{Bytes}
 use Rattle.elasticlunr_store.specs.Table.{Table}
 use Rattle.elasticlunr_store.specs.Tree.{IsTrieValue}
 use Rattle.elasticlunr_store.specs.Contents.{Contents, IsStoreValue}
-use Rattle.serde_json.specs.Data.{Data, string, array, object, Items, no_items, item, Members, no_members, put}
+use Rattle.serde_json.specs.Data.{Data, string, array, object, Items, no_items, item, Members, no_members, put, depth}
+use Rattle.serde_json.specs.Read.{read, max_depth}
 use Rattle.json.specs.Layout.{pretty}
 use Rattle.json.specs.Tree.{json_tokens}
 use Rattle.serde_json.specs.Written.{outline}
@@ -68,3 +69,8 @@ pub record PrintAlike (plan other : Plan) : Type 0 where
 -- the text of a value without floats, with a line for each item and member
 abbrev pub pretty_text : Data → List ℕ
 pretty_text value = pretty (json_tokens (outline value))
+
+-- `serde_json` reads the text as this value, unless that is nested too deep for it, and as no other
+pub record IsReadAs (text : List ℕ) (value : Data) : Type 0 where
+  pub reads : depth value ≤ max_depth → read text ≡ Some value
+  pub no_other : (other : Data) → read text ≡ Some other → other ≡ value

@@ -16,7 +16,6 @@ impl DocumentStore {
     /// Writes the JSON value of the store, without making it.
     pub fn write<W: Tokens>(&self, out: &mut W) -> Result<(), AllocError>
         ensures written { OnOk result (W.Tokens.written out.new ≡ W.Tokens.written out.old ++ json_tokens (outline (store_value self.now))) }
-        ensures before { W.Tokens.before out.new ≡ W.Tokens.before out.old }
     {
         out.token(Token::BeginObject)?;
         out.token(Token::Key("docInfo"))?;
@@ -35,7 +34,6 @@ impl DocumentStore {
 // Writes an object of texts.
 fn write_texts<W: Tokens>(texts: &BTreeMap<String, String>, out: &mut W) -> Result<(), AllocError>
     ensures written { OnOk result (W.Tokens.written out.new ≡ W.Tokens.written out.old ++ json_tokens (outline (keyed string (text_map texts.now.entries)))) }
-    ensures before { W.Tokens.before out.new ≡ W.Tokens.before out.old }
 {
     out.token(Token::BeginObject)?;
     for (field, text) in texts.iter() {
@@ -52,7 +50,6 @@ fn write_lengths<W: Tokens>(
     out: &mut W,
 ) -> Result<(), AllocError>
     ensures written { OnOk result (W.Tokens.written out.new ≡ W.Tokens.written out.old ++ json_tokens (outline (keyed count (length_map lengths.now.entries)))) }
-    ensures before { W.Tokens.before out.new ≡ W.Tokens.before out.old }
 {
     out.token(Token::BeginObject)?;
     for (field, length) in lengths.iter() {
@@ -69,7 +66,6 @@ fn write_documents<W: Tokens>(
     out: &mut W,
 ) -> Result<(), AllocError>
     ensures written { OnOk result (W.Tokens.written out.new ≡ W.Tokens.written out.old ++ json_tokens (outline (keyed (keyed string) (document_texts docs.now.entries)))) }
-    ensures before { W.Tokens.before out.new ≡ W.Tokens.before out.old }
 {
     out.token(Token::BeginObject)?;
     for (doc_ref, texts) in docs.iter() {
@@ -86,7 +82,6 @@ fn write_document_lengths<W: Tokens>(
     out: &mut W,
 ) -> Result<(), AllocError>
     ensures written { OnOk result (W.Tokens.written out.new ≡ W.Tokens.written out.old ++ json_tokens (outline (keyed (keyed count) (document_lengths doc_info.now.entries)))) }
-    ensures before { W.Tokens.before out.new ≡ W.Tokens.before out.old }
 {
     out.token(Token::BeginObject)?;
     for (doc_ref, lengths) in doc_info.iter() {

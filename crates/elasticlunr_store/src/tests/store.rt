@@ -1,6 +1,5 @@
-use crate::{DocumentStore, Tokens};
+use crate::{CompactText, DocumentStore, PrettyText};
 use elasticlunr_text::IndexError;
-use json::{Pretty, Writer};
 use serde_json::Value;
 use std::alloc::Global;
 use std::collections::BTreeMap;
@@ -16,14 +15,12 @@ fn check_text(
 ) -> Result<(), Fail> {
     let value = store.to_value()?;
     assert_eq!(rt; value.to_string(alloc)?.as_str(), text);
-    let mut out = Writer::new(Vec::new(alloc));
+    let mut out = CompactText::new(alloc)?;
     store.write(&mut out)?;
-    let written = unsafe { String::from_utf8_unchecked(out.into_inner()) };
-    assert_eq!(rt; written.as_str(), text);
-    let mut out = Pretty::new(alloc);
+    assert_eq!(rt; out.into_string().as_str(), text);
+    let mut out = PrettyText::new(alloc);
     store.write(&mut out)?;
-    let written = unsafe { String::from_utf8_unchecked(out.into_inner()) };
-    assert_eq!(rt; written.as_str(), value.to_string_pretty(alloc)?.as_str());
+    assert_eq!(rt; out.into_string().as_str(), value.to_string_pretty(alloc)?.as_str());
     assert!(rt; DocumentStore::from_value(alloc, &value)? == *store);
     assert!(rt; store.clone()? == *store);
     Ok(())

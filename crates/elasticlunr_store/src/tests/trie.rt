@@ -1,6 +1,5 @@
-use crate::{InvertedIndex, Tokens};
+use crate::{CompactText, InvertedIndex, PrettyText};
 use elasticlunr_text::IndexError;
-use json::{Pretty, Writer};
 use serde_json::Value;
 use std::alloc::Global;
 use std::process::Abort;
@@ -23,14 +22,12 @@ fn check_text(
 ) -> Result<(), Fail> {
     let value = trie.to_value()?;
     assert_eq!(rt; value.to_string(alloc)?.as_str(), text);
-    let mut out = Writer::new(Vec::new(alloc));
+    let mut out = CompactText::new(alloc)?;
     trie.write(&mut out)?;
-    let written = unsafe { String::from_utf8_unchecked(out.into_inner()) };
-    assert_eq!(rt; written.as_str(), text);
-    let mut out = Pretty::new(alloc);
+    assert_eq!(rt; out.into_string().as_str(), text);
+    let mut out = PrettyText::new(alloc);
     trie.write(&mut out)?;
-    let written = unsafe { String::from_utf8_unchecked(out.into_inner()) };
-    assert_eq!(rt; written.as_str(), value.to_string_pretty(alloc)?.as_str());
+    assert_eq!(rt; out.into_string().as_str(), value.to_string_pretty(alloc)?.as_str());
     let again = InvertedIndex::from_value(alloc, &value)?;
     assert!(rt; again == *trie);
     Ok(())

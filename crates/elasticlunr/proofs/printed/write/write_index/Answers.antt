@@ -10,6 +10,14 @@ use Rattle.elasticlunr.proofs.Sorting.{members_by_name}
 use Rattle.elasticlunr.proofs.Writing.{index_tokens}
 use Rattle.elasticlunr.proofs.printed.write.write_index.Goals as goal
 
+pub returns-clause-tables : goal.returns-clause-tables
+returns-clause-tables g c =
+    let names = map string_bytes c.args.parts.fields.now in
+    let many : length c.args.parts.tries.now ≡ length names = c.args.parts.one_each ∙ sym (length-map c.args.parts.fields.now string_bytes) in
+    let sorted = c.in_ok-write_tries.ensures.written in
+    let tries = members_by_name names c.args.parts.tries.now c.in_ok-tries.tries.entries sorted.0 many c.args.parts.distinct c.in_ok-tries.ensures sorted.2 sorted.1 in
+    tries.3
+
 pub returns-clause-written : goal.returns-clause-written
 returns-clause-written g c =
     let names = map string_bytes c.args.parts.fields.now in

@@ -15,6 +15,6 @@ returns-clause-written g c =
     let count = c.len.ensures.len ∙ sym (len_postings es c.len.ensures.ordered) in
     let all = sym (sorted_entries es c.len.ensures.ordered) in
     let end = ap (λ rest. g.W.Tokens.written c.loop-doc_ref.out ++ tokens_of (frequencies (bytes_of rest))) c.in-None.ensures.steps.0 in
-    c.in_ok-token-4.ensures.ok ∙ sym end ∙ c.loop-doc_ref.invariant.0 ∙ ap (λ ts. ts ++ tokens_of (frequencies (bytes_of es))) start
+    c.in_ok-token-4.ensures.ok ∙ sym end ∙ c.loop-doc_ref.invariant ∙ ap (λ ts. ts ++ tokens_of (frequencies (bytes_of es))) start
     ∙ append_assoc old _ _
     ∙ ap (λ ts. old ++ ts) (λ i. Token.key (codes "df") ∷ Token.number (decimal (count i)) ∷ Token.key (codes "docs") ∷ Token.begin_object ∷ tokens_of (frequencies (all i)))

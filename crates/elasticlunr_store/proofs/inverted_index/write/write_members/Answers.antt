@@ -17,4 +17,4 @@ loop-left-preserved g c =
     let step = c.in_ok-write_next.ensures.written in
     let written = g.W.Tokens.written c.loop-left.out in
     let left = stack_tokens nodes c.write_next.new.stack.items in
-    (ap (λ ts. ts ++ left) step.2 ∙ append_assoc written step.0 left ∙ ap (λ ts. written ++ ts) (sym (top ∙ step.3)) ∙ c.loop-left.invariant.0, c.write_next.ensures.before ∙ c.loop-left.invariant.1)
+    ap (λ ts. ts ++ left) step.2 ∙ append_assoc written step.0 left ∙ ap (λ ts. written ++ ts) (sym (top ∙ step.3)) ∙ c.loop-left.invariant

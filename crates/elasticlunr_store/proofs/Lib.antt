@@ -16,7 +16,6 @@ pub mod Bounds
 pub mod OneValue
 pub mod Rising
 pub mod Printed
-pub mod SmallTokens
 pub mod Printing
 pub mod Reading
 pub mod Refusing

@@ -27,7 +27,6 @@ pub fn index_json(alloc: Global, parts: Parts<'_>) -> Result<String, IndexError>
 /// The indented text of the value of an index with these parts: a line for each item and each member.
 pub fn index_json_pretty(alloc: Global, parts: Parts<'_>) -> Result<String, IndexError>
     ensures text { IfOk result (λ text. (v : Data) × IsPrinted parts.entry v × (string_bytes text ≡ pretty_text v) × IsReadAs (string_bytes text) v) }
-    ensures tables { OnOk result (All IsTable parts.entry.tries.now) }
     ensures memory { IsOkUnless result Memory }
 {
     let mut out = PrettyText::new(alloc);

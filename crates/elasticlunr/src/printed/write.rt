@@ -64,7 +64,7 @@ fn write_tries<W: Tokens>(
     tries: &BTreeMap<&str, &InvertedIndex>,
     out: &mut W,
 ) -> Result<(), AllocError>
-    ensures written { OnOk result (WritesTries tries.now (W.Tokens.written out.old) (W.Tokens.written out.new)) }
+    ensures { OnOk result (WritesTries tries.now (W.Tokens.written out.old) (W.Tokens.written out.new)) }
 {
     out.token(Token::BeginObject)?;
     for (name, trie) in tries.iter() {
@@ -77,7 +77,7 @@ fn write_tries<W: Tokens>(
 
 // Writes the array of some names.
 fn write_names<W: Tokens>(names: &[String], out: &mut W) -> Result<(), AllocError>
-    ensures written { OnOk result (W.Tokens.written out.new ≡ W.Tokens.written out.old ++ json_tokens (outline (array (texts (map string_bytes names.now))))) }
+    ensures { OnOk result (W.Tokens.written out.new ≡ W.Tokens.written out.old ++ json_tokens (outline (array (texts (map string_bytes names.now))))) }
 {
     out.token(Token::BeginArray)?;
     for name in names {

@@ -11,7 +11,7 @@ pub loop-name-preserved : goal.loop-name-preserved
 loop-name-preserved g c rest are =
     let name = c.in-Some.name.now.now in
     let value = c.in_ok-write.ensures.written in
-    let both = joined _ _ _ _ _ c.in_ok-token-2.ensures.ok value.2 in
+    let both = joined _ _ _ _ _ c.in_ok-token-2.ensures value.2 in
     let all = c.loop-name.invariant (member name value.0 rest) (subst (λ es. AreMembersOf es (member name value.0 rest)) (sym c.in-Some.ensures.steps) (refl, value.1, c.write.ensures.table, are)) in (
       all.0,
       all.1,
@@ -20,7 +20,7 @@ loop-name-preserved g c rest are =
           ∙ all.2,
     )
 
-pub returns-clause-written : goal.returns-clause-written
-returns-clause-written g c =
+pub returns : goal.returns
+returns g c =
     let all = c.loop-name.invariant no_members (subst (λ es. AreMembersOf es no_members) (sym c.in-None.ensures.steps.0) tt) in
-    (all.0, all.1, c.iter-name-items.ensures.ordered, joined _ _ _ _ _ c.in_ok-token.ensures.ok (c.in_ok-token-3.ensures.ok ∙ all.2))
+    (all.0, all.1, c.iter-name-items.ensures.ordered, joined _ _ _ _ _ c.in_ok-token.ensures (c.in_ok-token-3.ensures ∙ all.2))

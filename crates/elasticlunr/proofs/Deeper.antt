@@ -21,28 +21,28 @@ chained f g (Some a) p more then b e = ap (option_and_then g) (more a refl) ∙ 
 module _ (p q : Parse Json) (deeper : Extends p q) where
   item_turn : (m n : Parse Items) → Extends m n → (ts : List Token) (o : Option (List Token)) → Gives (items_step p m ts o) (items_step q n ts o)
   item_turn m n more ts (Some rest) a e = e
-  item_turn m n more ts None = chained _ _ (p ts) (q ts) (deeper ts) (λ r. mapped (item r.0) (m r.1) (n r.1) (more r.1))
+  item_turn m n more ts None a e = chained _ _ (p ts) (q ts) (deeper ts) (λ r. mapped (item r.0) (m r.1) (n r.1) (more r.1)) a e
 
   items_deeper : (n : ℕ) → Extends (items p n) (items q n)
   unfolding items
   items_deeper zero ts a e = absurd (cc)
-  items_deeper (suc n) ts = item_turn (items p n) (items q n) (items_deeper n) ts (after_end_array ts)
+  items_deeper (suc n) ts a e = item_turn (items p n) (items q n) (items_deeper n) ts (after_end_array ts) a e
 
   member_turn : (m n : Parse Members) → Extends m n → (o : Option (Option (List ℕ) × List Token)) → Gives (option_and_then (λ r. members_step p m r.0 r.1) o) (option_and_then (λ r. members_step q n r.0 r.1) o)
   member_turn m n more None a e = e
   member_turn m n more (Some (None, ts)) a e = e
-  member_turn m n more (Some (Some k, ts)) = chained _ _ (p ts) (q ts) (deeper ts) (λ r. mapped (member k r.0) (m r.1) (n r.1) (more r.1))
+  member_turn m n more (Some (Some k, ts)) a e = chained _ _ (p ts) (q ts) (deeper ts) (λ r. mapped (member k r.0) (m r.1) (n r.1) (more r.1)) a e
 
   members_deeper : (n : ℕ) → Extends (members p n) (members q n)
   unfolding members
   members_deeper zero ts a e = absurd (cc)
-  members_deeper (suc n) ts = member_turn (members p n) (members q n) (members_deeper n) (read_key ts)
+  members_deeper (suc n) ts a e = member_turn (members p n) (members q n) (members_deeper n) (read_key ts) a e
 
 one_level : (a b : Parse Items) (o p : Parse Members) → Extends a b → Extends o p → Extends (value_with a o) (value_with b p)
 one_level a b o p arrays objects [] r e = e
-one_level a b o p arrays objects (Token.begin_object ∷ ts) = mapped object (o ts) (p ts) (objects ts)
+one_level a b o p arrays objects (Token.begin_object ∷ ts) r e = mapped object (o ts) (p ts) (objects ts) r e
 one_level a b o p arrays objects (Token.end_object ∷ ts) r e = e
-one_level a b o p arrays objects (Token.begin_array ∷ ts) = mapped array (a ts) (b ts) (arrays ts)
+one_level a b o p arrays objects (Token.begin_array ∷ ts) r e = mapped array (a ts) (b ts) (arrays ts) r e
 one_level a b o p arrays objects (Token.end_array ∷ ts) r e = e
 one_level a b o p arrays objects (Token.key s ∷ ts) r e = e
 one_level a b o p arrays objects (Token.string s ∷ ts) r e = e
@@ -51,11 +51,14 @@ one_level a b o p arrays objects (Token.boolean c ∷ ts) r e = e
 one_level a b o p arrays objects (Token.null ∷ ts) r e = e
 one_level a b o p arrays objects (Token.bad ∷ ts) r e = e
 
+nothing_read : {A : Type 0} (q : Parse A) → Extends (λ ts. None) q
+nothing_read q ts a e = absurd (cc)
+
 -- what is read at most d deep is read at most e deep, too
 pub value_deeper : (d e : ℕ) → d ≤ e → Extends (value d) (value e)
 unfolding value
-value_deeper zero zero h = one_level _ _ _ _ (λ ts a e. e) (λ ts a e. e)
-value_deeper zero (suc e) h = one_level _ _ _ _ (λ ts a e. absurd (cc)) (λ ts a e. absurd (cc))
+value_deeper zero zero h = λ ts a e. e
+value_deeper zero (suc e) h = one_level _ _ _ _ (nothing_read _) (nothing_read _)
 value_deeper (suc d) zero h = absurd (omega arith)
 value_deeper (suc d) (suc e) h =
     let deeper = value_deeper d e (omega arith) in

@@ -1,16 +1,16 @@
 -- The value of an index is plain.
-use Rattle.std.proofs.Common.{◌≡◌, inl, inr, ℕ, List, [], ◌∷◌, ◌++◌, Some, codes, refl, sym, ap, subst, ◌∙◌}
+use Rattle.std.proofs.Common.{◌≡◌, inl, inr, List, [], ◌∷◌, ◌++◌, Some, codes, refl, sym, ap, subst, ◌∙◌}
 use Rattle.std.specs.List.{zip}
 use Rattle.std.specs.FinMap as map
 use Rattle.elasticlunr_text.specs.Text.{Text, Bytes}
-use Rattle.elasticlunr_store.specs.Table.{Table, postings}
+use Rattle.elasticlunr_store.specs.Table.{Table, Postings, postings}
 use Rattle.elasticlunr_store.specs.Tree.{IsTree, AreParts, IsTrieValue, frequency, frequencies}
 use Rattle.elasticlunr_store.specs.Contents.{Contents, store_value}
 use Rattle.elasticlunr_store.specs.Maps.{keyed, count}
 use Rattle.serde_json.specs.Data.{Data, null, boolean, number, string, array, object, unsigned, Members, no_members, member}
 use Rattle.serde_json.specs.Find.{get_member}
 use Rattle.elasticlunr.specs.Standing.{Plan}
-use Rattle.elasticlunr.specs.Printed.{texts, AreTrieValues, trie, IsValueOf}
+use Rattle.elasticlunr.specs.Printed.{texts, AreTrieValues, trie, index_pairs, IsValueOf}
 use Rattle.elasticlunr.proofs.Members.{AreFound, all_found}
 use Rattle.elasticlunr.proofs.Plain.{IsPlain, ArePlainItems, ArePlain, keyed_plain, AllPlain, object_plain}
 
@@ -22,7 +22,7 @@ module _ (T : Table) where
   AllWillBePlain no_members = Unit {0}
   AllWillBePlain (member k d ms) = WillBePlain d × AllWillBePlain ms
 
-  frequencies_plain : (P : map.FinMap _ ℕ) → IsPlain (object (frequencies (map.entries P)))
+  frequencies_plain : (P : Postings) → IsPlain (object (frequencies (map.entries P)))
   frequencies_plain P = keyed_plain frequency (λ n. ((tt, tt), (tt, tt))) P
 
   parts_plain : (p : Text) (all ms : Members) → get_member (codes "docs") all ≡ Some (object (frequencies (map.entries (postings T p))))
@@ -80,4 +80,4 @@ pub value_plain : (plan : Plan) (tables : List Table) (contents : Contents) (val
 value_plain plan tables contents value is =
     let documents : IsPlain is.documents = subst IsPlain (sym is.store) (store_plain contents) in
     let tries = object_plain (zip plan.fields is.tries) (tries_plain plan.fields tables is.tries is.each_trie) in
-    subst IsPlain (sym is.whole) (object_plain _ (documents, (texts_plain plan.fields, (tries, (tt, (texts_plain plan.stages, (tt, (tt, tt))))))))
+    subst IsPlain (sym is.whole) (object_plain (index_pairs plan is.tries is.documents) (documents, (texts_plain plan.fields, (tries, (tt, (texts_plain plan.stages, (tt, (tt, tt))))))))

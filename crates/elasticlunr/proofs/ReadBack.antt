@@ -114,7 +114,7 @@ module _ (j : json.Json) (ts : List Token) (are : ts ≡ json_tokens j) where
   only_json (Some (k, t ∷ more)) w is e = absurd (cc)
   only_json (Some (k, [])) w is e =
       let n : ℕ = max_depth + tree.depth j in
-      let both : Some (k, []) ≡ Some (j, []) = sym (value_deeper max_depth n (omega arith) ts (k, []) is) ∙ deep_enough n (omega arith) in
+      let both = sym (value_deeper max_depth n (omega arith) ts (k, []) is) ∙ deep_enough n (omega arith) in
       let same : k ≡ j = cc in
       ap of_json (sym same) ∙ e
 

@@ -32,9 +32,9 @@ pub data AreTrieValues : List Table → List Data → Type 0 where
   no_tries : AreTrieValues [] []
   trie : {table : Table} {value : Data} {tables : List Table} {values : List Data} → IsTrieValue table value → AreTrieValues tables values → AreTrieValues (table ∷ tables) (value ∷ values)
 
--- the object of these parts
-abbrev pub index_object : Plan → List Data → Data → Data
-index_object plan tries documents = object_of (
+-- the seven parts, each under its key
+abbrev pub index_pairs : Plan → List Data → Data → List (Bytes × Data)
+index_pairs plan tries documents =
     (codes "documentStore", documents)
     ∷ (codes "fields", array (texts plan.fields))
     ∷ (codes "index", object_of (zip plan.fields tries))
@@ -42,7 +42,11 @@ index_object plan tries documents = object_of (
     ∷ (codes "pipeline", array (texts plan.stages))
     ∷ (codes "ref", string plan.reference_field)
     ∷ (codes "version", string (codes "0.9.5"))
-    ∷ [])
+    ∷ []
+
+-- the object of these parts
+abbrev pub index_object : Plan → List Data → Data → Data
+index_object plan tries documents = object_of (index_pairs plan tries documents)
 
 -- the value of these tables and these contents
 pub record IsValueOf (plan : Plan) (tables : List Table) (contents : Contents) (value : Data) : Type 0 where

@@ -33,6 +33,10 @@ fn print_tables(rt: &HostRuntime) -> io::Result<()> {
         counts.right, counts.wrong
     )?;
 
+    let tokens = fs::read_to_string(rt, "tokens.tsv")?;
+    let counts = tables::tokens(rt.alloc(), tokens.as_str())?;
+    println!(rt; "tokens: {} right, {} wrong", counts.right, counts.wrong)?;
+
     let roots = fs::read_to_string(rt, "roots.tsv")?;
     let counts = tables::roots(roots.as_str());
     println!(rt; "roots: {} right, {} wrong", counts.right, counts.wrong)

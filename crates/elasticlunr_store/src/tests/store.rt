@@ -20,7 +20,10 @@ fn check_text(
     assert_eq!(rt; out.into_string().as_str(), text);
     let mut out = PrettyText::new(alloc);
     store.write(&mut out)?;
-    assert_eq!(rt; out.into_string().as_str(), value.to_string_pretty(alloc)?.as_str());
+    assert_eq!(rt;
+        out.into_string().as_str(),
+        value.to_string_pretty(alloc)?.as_str()
+    );
     assert!(rt; DocumentStore::from_value(alloc, &value)? == *store);
     assert!(rt; store.clone()? == *store);
     Ok(())

@@ -27,7 +27,10 @@ fn check_text(
     assert_eq!(rt; out.into_string().as_str(), text);
     let mut out = PrettyText::new(alloc);
     trie.write(&mut out)?;
-    assert_eq!(rt; out.into_string().as_str(), value.to_string_pretty(alloc)?.as_str());
+    assert_eq!(rt;
+        out.into_string().as_str(),
+        value.to_string_pretty(alloc)?.as_str()
+    );
     let again = InvertedIndex::from_value(alloc, &value)?;
     assert!(rt; again == *trie);
     Ok(())

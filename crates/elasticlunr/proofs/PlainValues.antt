@@ -14,6 +14,9 @@ use Rattle.elasticlunr.specs.Printed.{texts, AreTrieValues, trie, index_pairs, I
 use Rattle.elasticlunr.proofs.Members.{AreFound, all_found}
 use Rattle.elasticlunr.proofs.Plain.{IsPlain, ArePlainItems, ArePlain, keyed_plain, AllPlain, object_plain}
 
+frequencies_plain : (P : Postings) → IsPlain (object (frequencies (map.entries P)))
+frequencies_plain P = keyed_plain frequency (λ n. ((tt, tt), (tt, tt))) P
+
 module _ (T : Table) where
   abbrev WillBePlain : Data → Type 0
   WillBePlain d = (p : Text) → IsTree T p d → IsPlain d
@@ -21,9 +24,6 @@ module _ (T : Table) where
   abbrev AllWillBePlain : Members → Type 0
   AllWillBePlain no_members = Unit {0}
   AllWillBePlain (member k d ms) = WillBePlain d × AllWillBePlain ms
-
-  frequencies_plain : (P : Postings) → IsPlain (object (frequencies (map.entries P)))
-  frequencies_plain P = keyed_plain frequency (λ n. ((tt, tt), (tt, tt))) P
 
   parts_plain : (p : Text) (all ms : Members) → get_member (codes "docs") all ≡ Some (object (frequencies (map.entries (postings T p))))
       → get_member (codes "df") all ≡ Some (number (unsigned (map.len (postings T p)))) → AllWillBePlain ms → AreFound all ms → AreParts T p ms → ArePlain ms

@@ -5,5 +5,5 @@ use Rattle.elasticlunr_vectors.proofs.tests.own_parts.DropEmptyPipelineFn.filter
 pub returns-then-is_empty : goal.returns-then-is_empty
 returns-then-is_empty c = rw (is_not_empty-text_of c.args.token, sym c.is_empty.ensures ∙ c.if-is_empty.true) refl
 
-pub returns-else-is_empty : goal.returns-else-is_empty
-returns-else-is_empty c = rw (is_not_empty-text_of c.args.token, sym c.is_empty.ensures ∙ c.if-is_empty.false) refl
+pub returns : goal.returns
+returns c = rw (is_not_empty-text_of c.args.token, sym c.is_empty.ensures ∙ c.if-is_empty.false) refl

@@ -189,8 +189,12 @@ CALLS.update(
 # Tries: ab and ac have a posting, ad is known without one
 
 
-def small_trie(ab={"1": 3}, ac={"2": 4}, below_ab={}, **beside):
-    return trie(a=node(b=node(ab, **below_ab), c=node(ac), d=node()), **beside)
+AB = {"1": 3}
+AC = {"2": 4}
+
+
+def small_trie(ab=AB, ac=AC, below_ab=None, **beside):
+    return trie(a=node(b=node(ab, **(below_ab or {})), c=node(ac), d=node()), **beside)
 
 
 TRIE = small_trie()
@@ -203,7 +207,7 @@ CALLS.update(
         "InvertedIndex::get_docs": keeps({"1": 3}, TRIE, "Memory"),
         "InvertedIndex::get_docs of an unknown token": keeps(None, TRIE, "Memory", needs=False),
         "InvertedIndex::to_value": keeps(TRIE, TRIE, "Memory"),
-        "InvertedIndex::compacted": keeps(trie(a=node(b=node({"1": 3}), c=node({"2": 4}))), TRIE, "Memory"),
+        "InvertedIndex::compacted": keeps(trie(a=node(b=node(AB), c=node(AC))), TRIE, "Memory"),
         "InvertedIndex::look-ups": keeps([True, 3, 1], TRIE, None),
         "InvertedIndex::eq": gives(True, None),
         "InvertedIndex::add_token": changes(TRIE, small_trie(**path("bée", {"3": 6})), "Memory"),
@@ -234,7 +238,7 @@ CALLS.update(
         "DocumentStore::get_doc of an unknown reference": keeps(None, STORE, "Memory", needs=False),
         "DocumentStore::clone": keeps(STORE, STORE, "Memory"),
         "DocumentStore::to_value": keeps(STORE, STORE, "Memory"),
-        # how many documents, by four ways but the last, which counts 9 too; the lengths of 1 and of 9, which is not there
+        # `len`, `length` and the texts count 1 alone, the lengths count 9 too; a length of 1, and of 9, which is not there
         "DocumentStore::look-ups": keeps([[1, 1, 1, 2, 1, 0], False, True, False], STORE, None),
         "DocumentStore::eq": gives(True, None),
         "DocumentStore::add_doc": changes(STORE, store({"1": MOON, "2": SUN}, LENGTHS), "Memory"),
@@ -303,6 +307,7 @@ CALLS.update(
         "IndexBuilder::add_fields of a name that stands twice": refuses("DuplicateField"),
         "IndexBuilder::set_ref": gives(index(["body"], ref="key"), "Memory"),
         "IndexBuilder::save_docs": gives(index(["body"], save=False), None),
+        "IndexBuilder::with_pipeline": gives(index(["body"], stages=["all"]), None),
         "IndexBuilder::build": gives(index(["body"]), "Memory"),
         "IndexBuilder::build of own stages": gives(index(["body"], stages=["all"]), "Memory"),
     }

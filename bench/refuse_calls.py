@@ -6,13 +6,13 @@ The built program `elasticlunr_vectors` prepares a call, makes it and tells of i
     before: what stood before it      answer: what it answered      after: what stands after it
 
 or `prepare: no memory` and `print: no memory`, where memory was wanting before the call was made or
-after it had answered. A refused request may also end the program with nothing printed, where it
-came before the program had read which call it is to make.
+after it had answered. A refused request may also end the program with status 1 and nothing printed,
+where it came before the program had read which call it is to make.
 
 A call passes if each of its runs ends well and either tells of want of memory beside the call, or
 answers want of memory and leaves what it must, or gives the whole answer; if the run that meets no
 refusal gives the whole answer; and if a request of its own was refused where it must make one. The
-calls and their answers stand in calls.py.
+calls and their answers stand in calls.py. With -v each call has a line.
 """
 import json
 import sys
@@ -51,7 +51,7 @@ def part_refused(call, run, number):
         if run.requests < number:
             return "no answer, though no request was refused"
         part = BESIDE[run.out]
-        return part if (run.status != 0) == (part == STARTING) else f"status {run.status}"
+        return part if run.status == (1 if part == STARTING else 0) else f"status {run.status}"
     if run.status != 0:
         return f"status {run.status}"
     lines = told(run.out)

@@ -17,12 +17,7 @@ pub fn call(alloc: Global, method: &str) -> Result<Report, Stop> {
         "new" => told(IndexBuilder::<English>::new(alloc)),
         "with_language" => told(IndexBuilder::with_language(alloc, Danish::new())),
         "add_field_with_tokenizer" => with_tokenizer(alloc),
-        "build of own stages" => {
-            let name = String::from_str(alloc, "all")?;
-            let queue = vec![in alloc; Stage::Keep(name)]?;
-            let builder = IndexBuilder::<English>::new(alloc)?.add_field("body")?;
-            told_index(builder.with_pipeline(Pipeline { queue }).build())
-        }
+        "with_pipeline" | "build of own stages" => own_stages(alloc, method),
         _ => step(
             IndexBuilder::<English>::new(alloc)?.add_field("body")?,
             method,
@@ -30,7 +25,20 @@ pub fn call(alloc: Global, method: &str) -> Result<Report, Stop> {
     }
 }
 
-/// A call that the builder takes itself away by.
+/// A call of a builder with a pipeline of one stage.
+fn own_stages(alloc: Global, method: &str) -> Result<Report, Stop> {
+    let name = String::from_str(alloc, "all")?;
+    let queue = vec![in alloc; Stage::Keep(name)]?;
+    let builder = IndexBuilder::<English>::new(alloc)?
+        .add_field("body")?
+        .with_pipeline(Pipeline { queue });
+    match method {
+        "with_pipeline" => told(Ok(builder)),
+        _ => told_index(builder.build()),
+    }
+}
+
+/// A call that takes the builder.
 fn step(builder: IndexBuilder<English>, method: &str) -> Result<Report, Stop> {
     match method {
         "add_field" => told(builder.add_field("title")),

@@ -37,7 +37,12 @@ fn a_document_is_printed(rt: HostRuntime) -> Result<(), Fail> {
 fn fields_are_printed_in_the_order_of_their_names(rt: HostRuntime) -> Result<(), Fail> {
     let mut index = Index::new(rt.alloc(), &["title", "body"])?;
     index.add_doc("\"1\"", &["a \"title\"\n", "\u{1F}"])?;
-    assert!(rt; index.to_json()?.as_str().contains(r#""fields":["title","body"],"index":{"body":"#));
+    assert!(rt;
+        index
+            .to_json()?
+            .as_str()
+            .contains(r#""fields":["title","body"],"index":{"body":"#)
+    );
     check_texts(&rt, rt.alloc(), &index)
 }
 

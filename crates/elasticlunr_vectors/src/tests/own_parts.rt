@@ -1,8 +1,10 @@
 //! A stage, a language and a tokenizer of the user's own, as README shows them.
-ghost use Rattle.std.specs.Prelude.{◌≡◌, ◌∷◌, [], IfOk};
+ghost use Rattle.std.specs.Prelude.{◌≡◌, ◌∷◌, [], ℕ, List, IfOk, Ok, Vec, String};
+ghost use Rattle.std.specs.Borrow.{Bor};
+ghost use Rattle.std.specs.declared.alloc.Global.{Global};
 ghost use Rattle.elasticlunr_text.specs.Text.{bytes_of};
 
-use elasticlunr::lang::tokenize_whitespace;
+use elasticlunr::lang::{English, tokenize_whitespace};
 use elasticlunr::pipeline::{Pipeline, PipelineFn, Stage};
 use elasticlunr::{IndexBuilder, IndexError, Language};
 use std::alloc::{AllocError, Global};
@@ -69,8 +71,27 @@ impl Language for Plain {
     }
 }
 
+/// The text of an index of trimmed words.
+pub fn index_of_words(alloc: Global) -> Result<String, IndexError> {
+    let own: Box<dyn PipelineFn> = Box::new(alloc, DropEmpty {})?;
+    let queue = vec![in alloc; Stage::EnglishTrimmer, Stage::Own(own)]?;
+    index_with_pipeline(alloc, Pipeline { queue })
+}
+
+fn index_with_pipeline(alloc: Global, pipeline: Pipeline) -> Result<String, IndexError> {
+    let mut index = IndexBuilder::with_language(alloc, Plain {})?
+        .with_pipeline(pipeline)
+        .add_field("about")?
+        .build()?;
+    index.add_doc("1", &["The \"Big Apple\" ..."])?;
+    index.to_json()
+}
+
+/// What makes tokens of a field's text.
+pub type Tokenize = Box<dyn Fn(Global, &str) -> Result<Vec<String>, AllocError>>;
+
 /// A tokenizer: the text is one token.
-fn whole(alloc: Global, text: &str) -> Result<Vec<String>, AllocError>
+pub fn whole(alloc: Global, text: &str) -> Result<Vec<String>, AllocError>
     ensures { IfOk result (λ tokens. bytes_of tokens.items ≡ text.now ∷ []) }
 {
     let mut tokens = Vec::new(alloc);
@@ -78,17 +99,19 @@ fn whole(alloc: Global, text: &str) -> Result<Vec<String>, AllocError>
     Ok(tokens)
 }
 
-/// An index of places: their names as they stand, and the trimmed words of their descriptions.
-pub fn index_of_places(alloc: Global) -> Result<String, IndexError> {
-    let own: Box<dyn PipelineFn> = Box::new(alloc, DropEmpty {})?;
-    let queue = vec![in alloc; Stage::EnglishTrimmer, Stage::Own(own)]?;
-    let tokenizer: Box<dyn Fn(Global, &str) -> Result<Vec<String>, AllocError>> =
-        Box::new(alloc, whole)?;
-    let mut index = IndexBuilder::with_language(alloc, Plain {})?
-        .with_pipeline(Pipeline { queue })
-        .add_field_with_tokenizer("place", tokenizer)?
-        .add_field("about")?
+/// The text of an index of titles as they stand, and of the words of bodies.
+pub fn index_with_tokenizer(
+    builder: IndexBuilder<English>,
+    tokenizer: Tokenize,
+) -> Result<String, IndexError>
+    requires callable { Tokenize.IsAlwaysCallable tokenizer }
+    requires one_answer { (a b : Global) (s t : Bor (List ℕ)) (v w : Vec (String Global) Global) → s.now ≡ t.now
+        → Tokenize.post tokenizer a s (Ok v) → Tokenize.post tokenizer b t (Ok w) → bytes_of v.items ≡ bytes_of w.items }
+{
+    let mut index = builder
+        .add_field_with_tokenizer("title", tokenizer)?
+        .add_field("body")?
         .build()?;
-    index.add_doc("1", &["New York", "The \"Big Apple\" ..."])?;
+    index.add_doc("1", &["New York", "New York"])?;
     index.to_json()
 }

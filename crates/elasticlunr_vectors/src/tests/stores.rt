@@ -99,7 +99,10 @@ fn a_document_has_all_its_texts(rt: HostRuntime) -> Result<(), Fail> {
     let texts = store.get_doc("3")?.ok_or("3")?;
     assert_eq!(rt; texts.len(), 2);
     assert_eq!(rt; texts.get("title").ok_or("title")?.as_str(), "owls");
-    assert_eq!(rt; texts.get("body").ok_or("body")?.as_str(), "Owls hunt at night");
+    assert_eq!(rt;
+        texts.get("body").ok_or("body")?.as_str(),
+        "Owls hunt at night"
+    );
     assert_eq!(rt; store.get_field_length("3", "title"), 1);
     assert_eq!(rt; store.get_field_length("3", "body"), 10);
     assert!(rt; store.get_doc("4")?.is_none());

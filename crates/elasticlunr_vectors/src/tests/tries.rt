@@ -92,7 +92,10 @@ fn each_token_has_its_own_postings(rt: HostRuntime) -> Result<(), Fail> {
     assert_eq!(rt; docs(alloc, &trie, "foo")?.as_str(), "123=1;");
     trie.add_token("234", "foo", 100)?;
     trie.add_token("345", "foo", 101)?;
-    assert_eq!(rt; docs(alloc, &trie, "foo")?.as_str(), "123=1;234=100;345=101;");
+    assert_eq!(rt;
+        docs(alloc, &trie, "foo")?.as_str(),
+        "123=1;234=100;345=101;"
+    );
     for (token, frequency) in [
         ("foo", 3),
         ("boo", 1),
@@ -113,7 +116,11 @@ fn each_token_has_its_own_postings(rt: HostRuntime) -> Result<(), Fail> {
         ("foo", "12", 0),
         ("123", "fo", 0),
     ] {
-        assert_eq!(rt; trie.get_term_frequency(doc_ref, token), frequency, "{token}");
+        assert_eq!(rt;
+            trie.get_term_frequency(doc_ref, token),
+            frequency,
+            "{token}"
+        );
     }
     Ok(())
 }

@@ -3,7 +3,7 @@ PREFIX ?= /usr/local
 PROGRAM = crates/elasticlunr_index/out/elasticlunr_index
 EXAMPLE = examples/job.json
 
-.PHONY: run build test install
+.PHONY: run build calls test install
 
 # A job on standard input, or the example where standard input is a terminal or empty.
 run: build
@@ -14,8 +14,12 @@ run: build
 build:
 	@cd crates/elasticlunr_index && rt run < ../../$(EXAMPLE) > /dev/null
 
-# `rt ci` (proves every crate from nothing, tries the wrong bodies, runs the tests and the programs), then the built
-# program on the table of jobs and with each request for memory refused.
+# The program that makes one call of the library alone.
+calls:
+	@cd crates/elasticlunr_vectors && echo root | rt run > /dev/null
+
+# `rt ci` (proves every crate from nothing, tries the wrong bodies, runs the tests and the programs), then the checks of
+# bench/ on the built program.
 test:
 	@bench/test.sh
 

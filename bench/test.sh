@@ -1,5 +1,5 @@
 #!/usr/bin/env bash
-# Passes the tests: the gate of the crates, then the built program on the table of jobs and with its memory refused.
+# Passes the tests: the gate of the crates, then the checks of bench/ on the program that it built.
 # The last line counts all of them.
 set -u
 cd "$(dirname "$0")/.."
@@ -7,10 +7,11 @@ log=$(mktemp)
 rt ci 2>&1 | tee "$log"
 status=${PIPESTATUS[0]}
 if [ "$status" -eq 0 ]; then
-    # the gate leaves the program that it proved and built
+    # the gate leaves the programs that it proved and built
     [ -x crates/elasticlunr_index/out/elasticlunr_index ] || make --silent build >"$log.build" 2>&1 || { tail -n 20 "$log.build"; status=1; }
-    for check in bench/check_jobs.py bench/refuse_memory.py; do
-        python3 "$check" | tee -a "$log"
+    [ -x crates/elasticlunr_vectors/out/elasticlunr_vectors ] || make --silent calls >"$log.build" 2>&1 || { tail -n 20 "$log.build"; status=1; }
+    for check in check_readme check_jobs refuse_memory refuse_calls compare_by_chance long_inputs; do
+        python3 "bench/$check.py" | tee -a "$log"
         [ "${PIPESTATUS[0]}" -eq 0 ] || status=1
     done
 fi

@@ -1,5 +1,5 @@
 -- What a builder was given, field by field.
-use Rattle.std.proofs.Common.{◌≡◌, ◌≢◌, ℕ, zero, suc, List, [], ◌∷◌, ◌++◌, ◌+◌, ◌<◌, length, take, get_or, arith, map, Bool, true, false, true≢false, not, ◌&&◌, ◌||◌, Option, None, Some, IfOk, Result, Ok, Err, bytes_eq, refl, sym, ap, subst, ◌∙◌, append_assoc}
+use Rattle.std.proofs.Common.{◌≡◌, ◌≢◌, ℕ, zero, suc, List, [], ◌∷◌, ◌++◌, ◌+◌, ◌<◌, length, take, get_or, arith, map, Bool, true, false, true≢false, not, ◌&&◌, ◌||◌, Option, None, Some, bytes_eq, refl, sym, ap, subst, ◌∙◌, append_assoc}
 use Rattle.std.proofs.lemmas.Slice.Eq.{bytes_eq-Decides}
 use Rattle.std.proofs.lemmas.List.{take_more}
 use Rattle.std.specs.Borrow.{Bor}

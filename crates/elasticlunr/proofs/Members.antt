@@ -30,7 +30,7 @@ get_other q k d ms apart = elim (text_cmp q k) as (λ o. text_cmp q k ≡ o → 
   | Greater ↦ λ e. refl
 ] refl
 
-turned : (k l : Bytes) → text_cmp k l ≡ Less → text_cmp l k ≡ Greater
+pub turned : (k l : Bytes) → text_cmp k l ≡ Less → text_cmp l k ≡ Greater
 turned k l e = nat_list_cmp_total.antisymm l k ∙ ap ordering_reverse e
 
 turned_back : (k l : Bytes) → text_cmp k l ≡ Greater → text_cmp l k ≡ Less

@@ -1,5 +1,5 @@
 -- What is read by the language alone.
-use Rattle.std.proofs.Common.{◌≡◌, ◌≢◌, ℕ, List, [], ◌∷◌, Option, None, Some, IsTrue, String, Global, string_bytes, refl, ap, subst, sym, filter_map}
+use Rattle.std.proofs.Common.{◌≡◌, ◌≢◌, ℕ, List, [], ◌∷◌, Option, None, Some, IsTrue, String, Global, string_bytes, refl, subst, filter_map}
 use Rattle.std.specs.List.{slice_get, AllZip, AllByRecursion}
 use Rattle.std.specs.Str.{chars, all_scalars}
 use Rattle.std.proofs.lemmas.Str.{scalars-chars, IsUtf8-string_bytes}

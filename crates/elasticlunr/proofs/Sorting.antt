@@ -2,13 +2,14 @@
 use Rattle.std.proofs.Common.{◌≡◌, inl, inr, List, [], ◌∷◌, length, arith, Bool, true, false, cond, not, ◌&&◌, ◌||◌, true≢false, Option, Some, None, option_map, map, String, Global, string_bytes, bytes_eq, refl, sym, ap, subst, ◌∙◌, Less, Equal, Greater, Ordering}
 use Rattle.std.proofs.lemmas.Slice.Eq.{bytes_eq-Decides}
 use Rattle.std.specs.Borrow.{Bor}
-use Rattle.std.specs.List.{zip, AllByRecursion}
+use Rattle.std.specs.List.{zip, All, AllByRecursion}
+use Rattle.std.proofs.lemmas.List.Elements.{All-cons, All-nil}
 use Rattle.std.specs.List.Sorted.{IsStrictlySortedBy}
 use Rattle.std.specs.Map.{keys_of, lookup}
 use Rattle.std.specs.BTreeMap.{is_at}
 use Rattle.std.specs.Ordering.{match_ordering, is_eq}
 use Rattle.elasticlunr_text.specs.Text.{Bytes, text_cmp}
-use Rattle.elasticlunr_store.specs.Table.{Table}
+use Rattle.elasticlunr_store.specs.Table.{Table, IsTable}
 use Rattle.elasticlunr_store.specs.Tree.{IsTrieValue, IsBelow, HasKeysInOrder}
 use Rattle.serde_json.specs.Data.{Data, Members, no_members, member, put}
 use Rattle.serde_json.specs.Find.{get_member}
@@ -26,25 +27,25 @@ below_all : (k : Bytes) (es : Entries) (ms : Members) → AllByRecursion (λ l. 
 below_all k [] no_members h are = tt
 below_all k [] (member l d ms) h are = absurd are
 below_all k (e ∷ es) no_members h are = absurd are
-below_all k (e ∷ es) (member l d ms) h are = (subst (λ q. text_cmp k q ≡ Less) (sym are.0) h.0, below_all k es ms h.1 are.2)
+below_all k (e ∷ es) (member l d ms) h are = (subst (λ q. text_cmp k q ≡ Less) (sym are.0) h.0, below_all k es ms h.1 are.3)
 
 in_order : (es : Entries) (ms : Members) → IsStrictlySortedBy (λ k l. text_cmp k.now l.now) (keys_of es) → AreMembersOf es ms → HasKeysInOrder ms
 unfolding IsStrictlySortedBy
 in_order [] no_members h are = tt
 in_order [] (member l d ms) h are = absurd are
 in_order (e ∷ es) no_members h are = absurd are
-in_order (e ∷ es) (member l d ms) h are = (subst (λ q. IsBelow q ms) (sym are.0) (below_all e.0.now es ms h.0 are.2), in_order es ms h.1 are.2)
+in_order (e ∷ es) (member l d ms) h are = (subst (λ q. IsBelow q ms) (sym are.0) (below_all e.0.now es ms h.0 are.3), in_order es ms h.1 are.3)
 
 -- nothing is found where there is no table, and its trie value where there is one
 abbrev Finds : Option Table → Option Data → Type 0
 Finds None found = found ≡ None
-Finds (Some table) found = (d : Data) × (found ≡ Some d) × IsTrieValue table d
+Finds (Some table) found = (d : Data) × (found ≡ Some d) × IsTrieValue table d × IsTable table
 
-found_at : (o : Ordering) (table : Bor Table) (d : Data) (rest : Option (Bor Table)) (later : Option Data) → IsTrieValue table.now d → Finds (option_map (λ t. t.now) rest) later
+found_at : (o : Ordering) (table : Bor Table) (d : Data) (rest : Option (Bor Table)) (later : Option Data) → IsTrieValue table.now d → IsTable table.now → Finds (option_map (λ t. t.now) rest) later
     → Finds (option_map (λ t. t.now) (cond (is_eq o) (Some table) rest)) (match_ordering o later (Some d) later)
-found_at Less table d rest later is more = more
-found_at Equal table d rest later is more = (d, refl, is)
-found_at Greater table d rest later is more = more
+found_at Less table d rest later is whole more = more
+found_at Equal table d rest later is whole more = (d, refl, is, whole)
+found_at Greater table d rest later is whole more = more
 
 finds : (q : Bytes) (es : Entries) (ms : Members) → AreMembersOf es ms → Finds (option_map (λ t. t.now) (lookup (is_at (λ k. text_cmp q k.now)) es)) (get_member q ms)
 finds q [] no_members are = refl
@@ -52,7 +53,7 @@ finds q [] (member l d ms) are = absurd are
 finds q (e ∷ es) no_members are = absurd are
 finds q (e ∷ es) (member l d ms) are =
     subst (λ k. Finds (option_map (λ t. t.now) (lookup (is_at (λ x. text_cmp q x.now)) (e ∷ es))) (get_member q (member k d ms))) (sym are.0)
-    (found_at (text_cmp q e.0.now) e.1 d (lookup (is_at (λ k. text_cmp q k.now)) es) (get_member q ms) are.1 (finds q es ms are.2))
+    (found_at (text_cmp q e.0.now) e.1 d (lookup (is_at (λ k. text_cmp q k.now)) es) (get_member q ms) are.1 are.2 (finds q es ms are.3))
 
 -- pairs under other names change nothing
 last_skips : (q : Bytes) (given : Option Table) (names : List Bytes) (tables : List Table) → has_name q names ≡ false → last_under q given (zip names tables) ≡ given
@@ -75,8 +76,8 @@ module _ (ms : Members) where
   -- where names differ, each has one table, whose trie value is found
   values_at : (names : List Bytes) (tables : List Table) → length tables ≡ length names → all_differ names ≡ true
       → ((q : Bytes) → has_name q names ≡ true → Finds (last_under q None (zip names tables)) (get_member q ms))
-      → (values : List Data) × AreTrieValues tables values × AreAt ms (zip names values)
-  values_at [] [] many differ found = ([], no_tries, tt)
+      → (values : List Data) × AreTrieValues tables values × AreAt ms (zip names values) × All IsTable tables
+  values_at [] [] many differ found = ([], no_tries, tt, All-nil IsTable)
   values_at [] (table ∷ tables) many differ found = absurd (omega arith)
   values_at (name ∷ names) [] many differ found = absurd (omega arith)
   values_at (name ∷ names) (table ∷ tables) many differ found =
@@ -88,7 +89,7 @@ module _ (ms : Members) where
         | true ↦ λ e. absurd (true≢false (sym there ∙ ap (λ x. has_name x names) (sym ((bytes_eq-Decides name q).0 e)) ∙ parts.0))
         | false ↦ λ e. subst (λ b. Finds (last_under q (cond b (Some table) None) (zip names tables)) (get_member q ms)) e (found q (either (bytes_eq name q) (has_name q names) there))
       ] refl) in
-      (here.0 ∷ rest.0, trie here.2 rest.1, (here.1, rest.2))
+      (here.0 ∷ rest.0, trie here.2 rest.1, (here.1, rest.2), All-cons IsTable table tables here.3 rest.3)
     where
       both_true : (a b : Bool) → (not a && b) ≡ true → (a ≡ false) × (b ≡ true)
       both_true true b e = absurd (true≢false (sym e))
@@ -135,7 +136,7 @@ as_many (table ∷ tables) (value ∷ values) (trie is are) = let more = as_many
 pub members_by_name : (names : List Bytes) (tables : List Table) (es : Entries) (ms : Members) → length tables ≡ length names → all_differ names ≡ true
     → ((q : Bytes) → option_map (λ t. t.now) (lookup (is_at (λ k. text_cmp q k.now)) es) ≡ last_under q None (zip names tables))
     → IsStrictlySortedBy (λ k l. text_cmp k.now l.now) (keys_of es) → AreMembersOf es ms
-    → (values : List Data) × AreTrieValues tables values × (ms ≡ members_after no_members (zip names values))
+    → (values : List Data) × AreTrieValues tables values × (ms ≡ members_after no_members (zip names values)) × All IsTable tables
 members_by_name names tables es ms many differ by_name sorted are =
     let found = λ (q : Bytes). subst (λ o. Finds o (get_member q ms)) (by_name q) (finds q es ms are) in
     let values = values_at ms names tables many differ (λ q there. found q) in
@@ -147,6 +148,7 @@ members_by_name names tables es ms many differ by_name sorted are =
             | true ↦ λ e. after_name ms q names values.0 no_members length_values e values.2
             | false ↦ λ e. after_all ms q (zip names values.0) no_members values.2 (sym (subst (λ o. Finds o (get_member q ms)) (last_skips q None names tables e) (found q)))
           ] refl)),
+      values.3,
     )
 
 -- one more table is put under its name

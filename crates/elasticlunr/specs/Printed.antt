@@ -1,11 +1,12 @@
 -- The JSON value of an index.
-use Rattle.std.specs.Prelude.{◌≡◌, ℕ, List, [], ◌∷◌, codes}
+use Rattle.std.specs.Prelude.{◌≡◌, ◌≤◌, ℕ, List, [], ◌∷◌, Some, codes}
 use Rattle.std.specs.List.{zip}
 use Rattle.elasticlunr_text.specs.Text.{Bytes}
 use Rattle.elasticlunr_store.specs.Table.{Table}
 use Rattle.elasticlunr_store.specs.Tree.{IsTrieValue}
 use Rattle.elasticlunr_store.specs.Contents.{Contents, IsStoreValue}
-use Rattle.serde_json.specs.Data.{Data, string, array, object, Items, no_items, item, Members, no_members, put}
+use Rattle.serde_json.specs.Data.{Data, string, array, object, Items, no_items, item, Members, no_members, put, depth}
+use Rattle.serde_json.specs.Read.{read, max_depth}
 use Rattle.json.specs.Layout.{pretty}
 use Rattle.json.specs.Tree.{json_tokens}
 use Rattle.serde_json.specs.Written.{outline}
@@ -31,9 +32,9 @@ pub data AreTrieValues : List Table → List Data → Type 0 where
   no_tries : AreTrieValues [] []
   trie : {table : Table} {value : Data} {tables : List Table} {values : List Data} → IsTrieValue table value → AreTrieValues tables values → AreTrieValues (table ∷ tables) (value ∷ values)
 
--- the object of these parts
-abbrev pub index_object : Plan → List Data → Data → Data
-index_object plan tries documents = object_of (
+-- the seven parts, each under its key
+abbrev pub index_pairs : Plan → List Data → Data → List (Bytes × Data)
+index_pairs plan tries documents =
     (codes "documentStore", documents)
     ∷ (codes "fields", array (texts plan.fields))
     ∷ (codes "index", object_of (zip plan.fields tries))
@@ -41,7 +42,11 @@ index_object plan tries documents = object_of (
     ∷ (codes "pipeline", array (texts plan.stages))
     ∷ (codes "ref", string plan.reference_field)
     ∷ (codes "version", string (codes "0.9.5"))
-    ∷ [])
+    ∷ []
+
+-- the object of these parts
+abbrev pub index_object : Plan → List Data → Data → Data
+index_object plan tries documents = object_of (index_pairs plan tries documents)
 
 -- the value of these tables and these contents
 pub record IsValueOf (plan : Plan) (tables : List Table) (contents : Contents) (value : Data) : Type 0 where
@@ -68,3 +73,8 @@ pub record PrintAlike (plan other : Plan) : Type 0 where
 -- the text of a value without floats, with a line for each item and member
 abbrev pub pretty_text : Data → List ℕ
 pretty_text value = pretty (json_tokens (outline value))
+
+-- `serde_json` reads the text as this value, unless that is nested too deep for it, and as no other
+pub record IsReadAs (text : List ℕ) (value : Data) : Type 0 where
+  pub reads : depth value ≤ max_depth → read text ≡ Some value
+  pub no_other : (other : Data) → read text ≡ Some other → other ≡ value

@@ -9,7 +9,7 @@ use Rattle.json.specs.Tree.{json_tokens}
 use Rattle.serde_json.specs.Data.{object, Members, no_members, member}
 use Rattle.serde_json.specs.Written.{outline}
 use Rattle.elasticlunr_text.specs.Text.{Bytes, text_cmp}
-use Rattle.elasticlunr_store.specs.Table.{Table}
+use Rattle.elasticlunr_store.specs.Table.{Table, IsTable}
 use Rattle.elasticlunr_store.specs.Tree.{IsTrieValue}
 
 -- the last table under the name in these pairs, and else the one that is given
@@ -26,7 +26,7 @@ abbrev pub AreMembersOf : List (Bor Bytes × Bor Table) → Members → Type 0
 AreMembersOf [] no_members = Unit {0}
 AreMembersOf [] (member k d ms) = ⊥
 AreMembersOf (e ∷ es) no_members = ⊥
-AreMembersOf (e ∷ es) (member k d ms) = (k ≡ e.0.now) × IsTrieValue e.1.now d × AreMembersOf es ms
+AreMembersOf (e ∷ es) (member k d ms) = (k ≡ e.0.now) × IsTrieValue e.1.now d × IsTable e.1.now × AreMembersOf es ms
 
 -- the new tokens are those of an object that has the trie values of the map
 abbrev pub WritesTries : BTreeMap (Bor Bytes) (Bor Table) → List Token → List Token → Type 0

@@ -10,6 +10,7 @@ pub mod Finished
 pub mod Reading
 pub mod Same
 pub mod Printed
+pub mod Tokens
 pub mod Compact
 pub mod Options
 pub mod EqualOptions

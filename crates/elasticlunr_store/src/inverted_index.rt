@@ -148,7 +148,7 @@ impl InvertedIndex {
 
     /// The JSON value of the trie: an object with the key `root`, under which each node has `docs`, `df` and a key for each of its children's characters.
     ///
-    /// It takes more than a thousand bytes a posting: to print, use `write`.
+    /// It takes more than a thousand bytes a posting: to print, use `write`. A value is dropped by the machine's stack, a step for each character of a token: 8 MB are enough for tokens of 20,000 characters.
     pub fn to_value(&self) -> Result<Value, IndexError>
         ensures tree { IfOk result (λ v. IsTrieValue self.now (view v)) }
         ensures table { IsTable self.now }

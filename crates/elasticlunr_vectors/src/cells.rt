@@ -13,6 +13,21 @@ pub fn text(alloc: Global, cell: &str) -> Result<Option<String>, AllocError> {
     }
 }
 
+/// The texts that a cell holds as a JSON array, `None` where it holds none.
+pub fn texts(alloc: Global, cell: &str) -> Result<Option<Vec<String>>, AllocError> {
+    let Ok(Value::Array(values)) = Value::from_str(alloc, cell) else {
+        return Ok(None);
+    };
+    let mut texts = Vec::with_capacity(alloc, values.len())?;
+    for value in values {
+        let Value::String(text) = value else {
+            return Ok(None);
+        };
+        texts.push(text)?;
+    }
+    Ok(Some(texts))
+}
+
 /// The number that a cell holds in decimal digits, `None` where it holds none.
 pub fn number(cell: &str) -> Option<u64> {
     cell.parse().ok()

@@ -1,6 +1,7 @@
 //! The tables: each line is compared with what the library answers.
 use crate::cells;
 use elasticlunr::lang::en::{self, Stemmer};
+use elasticlunr::lang::tokenize_whitespace;
 use elasticlunr::root;
 use std::alloc::{AllocError, Global};
 
@@ -75,6 +76,26 @@ fn has_answers(alloc: Global, line: &str) -> Result<bool, AllocError> {
                 .zip(found)
                 .all(|(digit, holds)| (digit == '1') == holds),
     )
+}
+
+/// A text and its words in each line.
+pub fn tokens(alloc: Global, table: &str) -> Result<Counts, AllocError> {
+    let mut counts = Counts::new();
+    for line in table.lines() {
+        counts.add(has_tokens(alloc, line)?);
+    }
+    Ok(counts)
+}
+
+fn has_tokens(alloc: Global, line: &str) -> Result<bool, AllocError> {
+    let Some((text, tokens)) = line.split_once('\t') else {
+        return Ok(false);
+    };
+    let (Some(text), Some(tokens)) = (cells::text(alloc, text)?, cells::texts(alloc, tokens)?)
+    else {
+        return Ok(false);
+    };
+    Ok(tokenize_whitespace(alloc, text.as_str())? == tokens)
 }
 
 /// A count and its root in each line.

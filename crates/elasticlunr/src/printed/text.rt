@@ -1,33 +1,35 @@
 //! The JSON text of an index.
-ghost use Rattle.std.specs.Prelude.{◌≡◌, string_bytes, IfOk, IsOkUnless};
+ghost use Rattle.std.specs.Prelude.{◌≡◌, All, string_bytes, IfOk, OnOk, IsOkUnless};
 ghost use Rattle.elasticlunr_text.specs.declared.error.IndexError.TheVariants.{Memory};
+ghost use Rattle.elasticlunr_store.specs.Table.{IsTable};
 ghost use Rattle.elasticlunr.specs.Parts.{IsPrinted};
-ghost use Rattle.elasticlunr.specs.Printed.{pretty_text};
+ghost use Rattle.elasticlunr.specs.Printed.{pretty_text, IsReadAs};
 ghost use Rattle.serde_json.specs.Data.{Data};
 ghost use Rattle.serde_json.specs.Written.{compact_text};
 
 use super::Parts;
 use super::write::write_index;
+use elasticlunr_store::{CompactText, PrettyText};
 use elasticlunr_text::IndexError;
-use json::{Pretty, Writer};
 use std::alloc::Global;
 
 /// The compact text of the value of an index with these parts.
 pub fn index_json(alloc: Global, parts: Parts<'_>) -> Result<String, IndexError>
-    ensures text { IfOk result (λ text. (v : Data) × IsPrinted parts.entry v × (string_bytes text ≡ compact_text v)) }
+    ensures text { IfOk result (λ text. (v : Data) × IsPrinted parts.entry v × (string_bytes text ≡ compact_text v) × IsReadAs (string_bytes text) v) }
+    ensures tables { OnOk result (All IsTable parts.entry.tries.now) }
     ensures memory { IsOkUnless result Memory }
 {
-    let mut out = Writer::new(Vec::with_capacity(alloc, 128)?);
+    let mut out = CompactText::new(alloc)?;
     write_index(alloc, parts, &mut out)?;
-    Ok(unsafe { String::from_utf8_unchecked(out.into_inner()) })
+    Ok(out.into_string())
 }
 
 /// The indented text of the value of an index with these parts: a line for each item and each member.
 pub fn index_json_pretty(alloc: Global, parts: Parts<'_>) -> Result<String, IndexError>
-    ensures text { IfOk result (λ text. (v : Data) × IsPrinted parts.entry v × (string_bytes text ≡ pretty_text v)) }
+    ensures text { IfOk result (λ text. (v : Data) × IsPrinted parts.entry v × (string_bytes text ≡ pretty_text v) × IsReadAs (string_bytes text) v) }
     ensures memory { IsOkUnless result Memory }
 {
-    let mut out = Pretty::new(alloc);
+    let mut out = PrettyText::new(alloc);
     write_index(alloc, parts, &mut out)?;
-    Ok(unsafe { String::from_utf8_unchecked(out.into_inner()) })
+    Ok(out.into_string())
 }

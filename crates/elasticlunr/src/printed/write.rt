@@ -1,8 +1,9 @@
 //! The JSON tokens of an index, with no JSON value built.
-ghost use Rattle.std.specs.Prelude.{◌≡◌, ℕ, List, [], ◌∷◌, ◌++◌, map, length, string_bytes, OnOk, IfOk};
+ghost use Rattle.std.specs.Prelude.{◌≡◌, ℕ, List, [], ◌∷◌, ◌++◌, map, length, string_bytes, All, OnOk, IfOk};
 ghost use Rattle.json.specs.Tree.{json_tokens};
 ghost use Rattle.serde_json.specs.Data.{Data, array, object};
 ghost use Rattle.serde_json.specs.Written.{outline};
+ghost use Rattle.elasticlunr_store.specs.Table.{IsTable};
 ghost use Rattle.elasticlunr.specs.Printed.{texts};
 ghost use Rattle.elasticlunr.specs.Parts.{IsPrinted};
 ghost use Rattle.elasticlunr.specs.Sorted.{IsByName, WritesTries};
@@ -20,7 +21,7 @@ pub fn write_index<W: Tokens>(
     out: &mut W,
 ) -> Result<(), AllocError>
     ensures written { OnOk result ((v : Data) × IsPrinted parts.entry v × (W.Tokens.written out.new ≡ W.Tokens.written out.old ++ json_tokens (outline v))) }
-    ensures before { W.Tokens.before out.new ≡ W.Tokens.before out.old }
+    ensures tables { OnOk result (All IsTable parts.entry.tries.now) }
 {
     let tries = by_name(alloc, parts.fields, parts.tries)?;
     out.token(Token::BeginObject)?;
@@ -63,8 +64,7 @@ fn write_tries<W: Tokens>(
     tries: &BTreeMap<&str, &InvertedIndex>,
     out: &mut W,
 ) -> Result<(), AllocError>
-    ensures written { OnOk result (WritesTries tries.now (W.Tokens.written out.old) (W.Tokens.written out.new)) }
-    ensures before { W.Tokens.before out.new ≡ W.Tokens.before out.old }
+    ensures { OnOk result (WritesTries tries.now (W.Tokens.written out.old) (W.Tokens.written out.new)) }
 {
     out.token(Token::BeginObject)?;
     for (name, trie) in tries.iter() {
@@ -77,8 +77,7 @@ fn write_tries<W: Tokens>(
 
 // Writes the array of some names.
 fn write_names<W: Tokens>(names: &[String], out: &mut W) -> Result<(), AllocError>
-    ensures written { OnOk result (W.Tokens.written out.new ≡ W.Tokens.written out.old ++ json_tokens (outline (array (texts (map string_bytes names.now))))) }
-    ensures before { W.Tokens.before out.new ≡ W.Tokens.before out.old }
+    ensures { OnOk result (W.Tokens.written out.new ≡ W.Tokens.written out.old ++ json_tokens (outline (array (texts (map string_bytes names.now))))) }
 {
     out.token(Token::BeginArray)?;
     for name in names {

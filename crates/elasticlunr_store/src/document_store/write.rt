@@ -15,8 +15,7 @@ use std::collections::BTreeMap;
 impl DocumentStore {
     /// Writes the JSON value of the store, without making it.
     pub fn write<W: Tokens>(&self, out: &mut W) -> Result<(), AllocError>
-        ensures written { OnOk result (W.Tokens.written out.new ≡ W.Tokens.written out.old ++ json_tokens (outline (store_value self.now))) }
-        ensures before { W.Tokens.before out.new ≡ W.Tokens.before out.old }
+        ensures { OnOk result (W.Tokens.written out.new ≡ W.Tokens.written out.old ++ json_tokens (outline (store_value self.now))) }
     {
         out.token(Token::BeginObject)?;
         out.token(Token::Key("docInfo"))?;
@@ -34,8 +33,7 @@ impl DocumentStore {
 
 // Writes an object of texts.
 fn write_texts<W: Tokens>(texts: &BTreeMap<String, String>, out: &mut W) -> Result<(), AllocError>
-    ensures written { OnOk result (W.Tokens.written out.new ≡ W.Tokens.written out.old ++ json_tokens (outline (keyed string (text_map texts.now.entries)))) }
-    ensures before { W.Tokens.before out.new ≡ W.Tokens.before out.old }
+    ensures { OnOk result (W.Tokens.written out.new ≡ W.Tokens.written out.old ++ json_tokens (outline (keyed string (text_map texts.now.entries)))) }
 {
     out.token(Token::BeginObject)?;
     for (field, text) in texts.iter() {
@@ -51,8 +49,7 @@ fn write_lengths<W: Tokens>(
     lengths: &BTreeMap<String, usize>,
     out: &mut W,
 ) -> Result<(), AllocError>
-    ensures written { OnOk result (W.Tokens.written out.new ≡ W.Tokens.written out.old ++ json_tokens (outline (keyed count (length_map lengths.now.entries)))) }
-    ensures before { W.Tokens.before out.new ≡ W.Tokens.before out.old }
+    ensures { OnOk result (W.Tokens.written out.new ≡ W.Tokens.written out.old ++ json_tokens (outline (keyed count (length_map lengths.now.entries)))) }
 {
     out.token(Token::BeginObject)?;
     for (field, length) in lengths.iter() {
@@ -68,8 +65,7 @@ fn write_documents<W: Tokens>(
     docs: &BTreeMap<String, BTreeMap<String, String>>,
     out: &mut W,
 ) -> Result<(), AllocError>
-    ensures written { OnOk result (W.Tokens.written out.new ≡ W.Tokens.written out.old ++ json_tokens (outline (keyed (keyed string) (document_texts docs.now.entries)))) }
-    ensures before { W.Tokens.before out.new ≡ W.Tokens.before out.old }
+    ensures { OnOk result (W.Tokens.written out.new ≡ W.Tokens.written out.old ++ json_tokens (outline (keyed (keyed string) (document_texts docs.now.entries)))) }
 {
     out.token(Token::BeginObject)?;
     for (doc_ref, texts) in docs.iter() {
@@ -85,8 +81,7 @@ fn write_document_lengths<W: Tokens>(
     doc_info: &BTreeMap<String, BTreeMap<String, usize>>,
     out: &mut W,
 ) -> Result<(), AllocError>
-    ensures written { OnOk result (W.Tokens.written out.new ≡ W.Tokens.written out.old ++ json_tokens (outline (keyed (keyed count) (document_lengths doc_info.now.entries)))) }
-    ensures before { W.Tokens.before out.new ≡ W.Tokens.before out.old }
+    ensures { OnOk result (W.Tokens.written out.new ≡ W.Tokens.written out.old ++ json_tokens (outline (keyed (keyed count) (document_lengths doc_info.now.entries)))) }
 {
     out.token(Token::BeginObject)?;
     for (doc_ref, lengths) in doc_info.iter() {

@@ -27,7 +27,6 @@ impl InvertedIndex {
     /// Writes the JSON value of the trie, without making it. Takes a few bytes of memory a level, beside what is written.
     pub fn write<W: Tokens>(&self, out: &mut W) -> Result<(), AllocError>
         ensures written { OnOk result ((v : Data) × IsTrieValue self.now v × (W.Tokens.written out.new ≡ W.Tokens.written out.old ++ json_tokens (outline v))) }
-        ensures before { W.Tokens.before out.new ≡ W.Tokens.before out.old }
         ensures table { IsTable self.now }
     {
         let alloc = *self.nodes.allocator();
@@ -43,8 +42,7 @@ fn write_trie<W: Tokens>(
     out: &mut W,
 ) -> Result<(), AllocError>
     requires { IsTrie root.now nodes.now }
-    ensures written { OnOk result ((v : Data) × IsTrieValue (table_of root.now nodes.now) v × (W.Tokens.written out.new ≡ W.Tokens.written out.old ++ json_tokens (outline v))) }
-    ensures before { W.Tokens.before out.new ≡ W.Tokens.before out.old }
+    ensures { OnOk result ((v : Data) × IsTrieValue (table_of root.now nodes.now) v × (W.Tokens.written out.new ≡ W.Tokens.written out.old ++ json_tokens (outline v))) }
 {
     out.token(Token::BeginObject)?;
     out.token(Token::Key("root"))?;
@@ -62,8 +60,7 @@ fn write_members<W: Tokens>(
     out: &mut W,
 ) -> Result<(), AllocError>
     requires { HasTrees nodes.now }
-    ensures written { OnOk result (W.Tokens.written out.new ≡ W.Tokens.written out.old ++ tokens_of (place_members (part nodes.now) (postings_of []) root.now)) }
-    ensures before { W.Tokens.before out.new ≡ W.Tokens.before out.old }
+    ensures { OnOk result (W.Tokens.written out.new ≡ W.Tokens.written out.old ++ tokens_of (place_members (part nodes.now) (postings_of []) root.now)) }
 {
     let mut stack = Vec::new(alloc);
     stack.push(Left::WithPostings(Place::Root, root))?;
@@ -81,8 +78,7 @@ fn write_next<'a, W: Tokens>(
     out: &mut W,
 ) -> Result<(), AllocError>
     requires { HasTrees nodes.now }
-    ensures written { OnOk result (Advances (W.Tokens.written out.old) (tokens_of (left_members nodes.now left.entry) ++ stack_tokens nodes.now stack.old.items) (W.Tokens.written out.new) (stack_tokens nodes.now stack.new.items)) }
-    ensures before { W.Tokens.before out.new ≡ W.Tokens.before out.old }
+    ensures { OnOk result (Advances (W.Tokens.written out.old) (tokens_of (left_members nodes.now left.entry) ++ stack_tokens nodes.now stack.old.items) (W.Tokens.written out.new) (stack_tokens nodes.now stack.new.items)) }
 {
     match left {
         Left::WithPostings(place, children) => match children.split_first() {
@@ -120,7 +116,6 @@ fn open_child<'a, W: Tokens>(
     out: &mut W,
 ) -> Result<(), AllocError>
     ensures written { OnOk result (W.Tokens.written out.new ≡ W.Tokens.written out.old ++ key (encode_utf8 c) ∷ begin_object ∷ []) }
-    ensures before { W.Tokens.before out.new ≡ W.Tokens.before out.old }
     ensures left { OnOk result (stack_tokens nodes.now stack.new.items ≡ tokens_of (node_members nodes.now k) ++ stack_tokens nodes.now stack.old.items) }
 {
     write_child_key(c, out)?;
@@ -130,8 +125,7 @@ fn open_child<'a, W: Tokens>(
 
 // Writes the key of a child, and the beginning of its object.
 fn write_child_key<W: Tokens>(c: char, out: &mut W) -> Result<(), AllocError>
-    ensures written { OnOk result (W.Tokens.written out.new ≡ W.Tokens.written out.old ++ key (encode_utf8 c) ∷ begin_object ∷ []) }
-    ensures before { W.Tokens.before out.new ≡ W.Tokens.before out.old }
+    ensures { OnOk result (W.Tokens.written out.new ≡ W.Tokens.written out.old ++ key (encode_utf8 c) ∷ begin_object ∷ []) }
 {
     let mut buffer = [0; 4];
     out.token(Token::Key(c.encode_utf8(&mut buffer)))?;
@@ -141,8 +135,7 @@ fn write_child_key<W: Tokens>(c: char, out: &mut W) -> Result<(), AllocError>
 
 // Writes `df` and `docs` of a place.
 fn write_postings<W: Tokens>(nodes: &[Node], place: Place, out: &mut W) -> Result<(), AllocError>
-    ensures written { OnOk result (W.Tokens.written out.new ≡ W.Tokens.written out.old ++ postings_tokens (postings_of (entries_at [] nodes.now place))) }
-    ensures before { W.Tokens.before out.new ≡ W.Tokens.before out.old }
+    ensures { OnOk result (W.Tokens.written out.new ≡ W.Tokens.written out.old ++ postings_tokens (postings_of (entries_at [] nodes.now place))) }
 {
     match place {
         Place::Root => write_no_postings(out),
@@ -154,8 +147,7 @@ fn write_postings<W: Tokens>(nodes: &[Node], place: Place, out: &mut W) -> Resul
 }
 
 fn write_no_postings<W: Tokens>(out: &mut W) -> Result<(), AllocError>
-    ensures written { OnOk result (W.Tokens.written out.new ≡ W.Tokens.written out.old ++ postings_tokens (postings_of [])) }
-    ensures before { W.Tokens.before out.new ≡ W.Tokens.before out.old }
+    ensures { OnOk result (W.Tokens.written out.new ≡ W.Tokens.written out.old ++ postings_tokens (postings_of [])) }
 {
     out.token(Token::Key("df"))?;
     out.number(0)?;
@@ -166,8 +158,7 @@ fn write_no_postings<W: Tokens>(out: &mut W) -> Result<(), AllocError>
 }
 
 fn write_docs<W: Tokens>(postings: &BTreeMap<String, u64>, out: &mut W) -> Result<(), AllocError>
-    ensures written { OnOk result (W.Tokens.written out.new ≡ W.Tokens.written out.old ++ postings_tokens (postings_of postings.now.entries)) }
-    ensures before { W.Tokens.before out.new ≡ W.Tokens.before out.old }
+    ensures { OnOk result (W.Tokens.written out.new ≡ W.Tokens.written out.old ++ postings_tokens (postings_of postings.now.entries)) }
 {
     out.token(Token::Key("df"))?;
     out.number(postings.len() as u64)?;
@@ -182,8 +173,7 @@ fn write_docs<W: Tokens>(postings: &BTreeMap<String, u64>, out: &mut W) -> Resul
 
 // Writes a reference and its frequency.
 fn write_posting<W: Tokens>(doc_ref: &str, term_freq: u64, out: &mut W) -> Result<(), AllocError>
-    ensures written { OnOk result (W.Tokens.written out.new ≡ W.Tokens.written out.old ++ key doc_ref.now ∷ begin_object ∷ key (codes "tf") ∷ number (decimal term_freq) ∷ end_object ∷ []) }
-    ensures before { W.Tokens.before out.new ≡ W.Tokens.before out.old }
+    ensures { OnOk result (W.Tokens.written out.new ≡ W.Tokens.written out.old ++ key doc_ref.now ∷ begin_object ∷ key (codes "tf") ∷ number (decimal term_freq) ∷ end_object ∷ []) }
 {
     out.token(Token::Key(doc_ref))?;
     out.token(Token::BeginObject)?;

@@ -10,6 +10,3 @@ pub(crate) use class::Class;
 pub(crate) use class_text::letters_of;
 pub use stop_words::StopWordFilter;
 pub use trimmer::RegexTrimmer;
-
-#[cfg(test)]
-mod tests;

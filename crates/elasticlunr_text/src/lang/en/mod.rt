@@ -3,8 +3,6 @@ mod blocks;
 mod endings;
 mod stemmer;
 mod steps;
-#[cfg(test)]
-mod tests;
 mod trim;
 
 pub use self::blocks::{has_vowel, is_short, m_above_0, m_above_1, m_is_1};

@@ -4,7 +4,8 @@ use Rattle.serde_json.specs.declared.value.Value.{Object}
 use Rattle.serde_json.proofs.Views.{view-Object}
 use Rattle.elasticlunr.specs.Parts.{plan_of_parts}
 use Rattle.elasticlunr.proofs.Values.{seven_members}
-use Rattle.elasticlunr.proofs.Whole.{value_whole}
+use Rattle.elasticlunr.proofs.Plain.{no_float}
+use Rattle.elasticlunr.proofs.PlainValues.{value_plain}
 use Rattle.elasticlunr.proofs.printed.value.index_value.Goals as goal
 
 pub returns-clause-value : goal.returns-clause-value
@@ -22,4 +23,4 @@ returns-clause-value c =
     }
 
 pub returns-clause-whole : goal.returns-clause-whole
-returns-clause-whole c = value_whole (plan_of_parts c.args.parts) c.args.parts.tries.now c.args.parts.store.now (view (Object c.put_member-7.new.members)) (returns-clause-value c)
+returns-clause-whole c = no_float _ (value_plain (plan_of_parts c.args.parts) c.args.parts.tries.now c.args.parts.store.now (view (Object c.put_member-7.new.members)) (returns-clause-value c))

@@ -7,5 +7,4 @@ use Rattle.elasticlunr.proofs.printed.write.write_names.Given as goal
 -- what was written, and the names that are left
 abbrev pub invariant-loop-name : goal.invariant-loop-name
 invariant-loop-name g l =
-    (g.W.Tokens.written l.out ++ items_tokens (items_outline (texts (map string_bytes (drop l.name-index l.names)))) ≡ g.W.Tokens.written l.initial.out ++ items_tokens (items_outline (texts (map string_bytes l.names))))
-    × (g.W.Tokens.before l.out ≡ g.W.Tokens.before l.fn.out)
+    g.W.Tokens.written l.out ++ items_tokens (items_outline (texts (map string_bytes (drop l.name-index l.names)))) ≡ g.W.Tokens.written l.initial.out ++ items_tokens (items_outline (texts (map string_bytes l.names)))

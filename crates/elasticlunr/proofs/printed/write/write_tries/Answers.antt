@@ -8,22 +8,19 @@ use Rattle.elasticlunr.proofs.Writing.{joined}
 use Rattle.elasticlunr.proofs.printed.write.write_tries.Goals as goal
 
 pub loop-name-preserved : goal.loop-name-preserved
-loop-name-preserved g c =
+loop-name-preserved g c rest are =
     let name = c.in-Some.name.now.now in
     let value = c.in_ok-write.ensures.written in
-    let both = joined _ _ _ _ _ c.in_ok-token-2.ensures.ok value.2 in (
-      λ rest are.
-          let all = c.loop-name.invariant.0 (member name value.0 rest) (subst (λ es. AreMembersOf es (member name value.0 rest)) (sym c.in-Some.ensures.steps) (refl, value.1, are)) in (
-            all.0,
-            all.1,
-            ap (λ ts. ts ++ members_tokens (members_outline rest)) both
-                ∙ append_assoc (g.W.Tokens.written c.loop-name.out) (key name ∷ json_tokens (outline value.0)) (members_tokens (members_outline rest))
-                ∙ all.2,
-          ),
-      c.in_ok-write.ensures.before ∙ c.in_ok-token-2.ensures.before ∙ c.loop-name.invariant.1,
+    let both = joined _ _ _ _ _ c.in_ok-token-2.ensures value.2 in
+    let all = c.loop-name.invariant (member name value.0 rest) (subst (λ es. AreMembersOf es (member name value.0 rest)) (sym c.in-Some.ensures.steps) (refl, value.1, c.write.ensures.table, are)) in (
+      all.0,
+      all.1,
+      ap (λ ts. ts ++ members_tokens (members_outline rest)) both
+          ∙ append_assoc (g.W.Tokens.written c.loop-name.out) (key name ∷ json_tokens (outline value.0)) (members_tokens (members_outline rest))
+          ∙ all.2,
     )
 
-pub returns-clause-written : goal.returns-clause-written
-returns-clause-written g c =
-    let all = c.loop-name.invariant.0 no_members (subst (λ es. AreMembersOf es no_members) (sym c.in-None.ensures.steps.0) tt) in
-    (all.0, all.1, c.iter-name-items.ensures.ordered, joined _ _ _ _ _ c.in_ok-token.ensures.ok (c.in_ok-token-3.ensures.ok ∙ all.2))
+pub returns : goal.returns
+returns g c =
+    let all = c.loop-name.invariant no_members (subst (λ es. AreMembersOf es no_members) (sym c.in-None.ensures.steps.0) tt) in
+    (all.0, all.1, c.iter-name-items.ensures.ordered, joined _ _ _ _ _ c.in_ok-token.ensures (c.in_ok-token-3.ensures ∙ all.2))

@@ -8,6 +8,5 @@ use Rattle.elasticlunr.proofs.printed.write.write_tries.Given as goal
 -- whatever members the tries that are left have, with them the members of all will be written
 abbrev pub invariant-loop-name : goal.invariant-loop-name
 invariant-loop-name g l =
-    ((rest : Members) → AreMembersOf l.name-iterator rest → (ms : Members) × AreMembersOf l.tries.entries ms
-    × (g.W.Tokens.written l.out ++ members_tokens (members_outline rest) ≡ g.W.Tokens.written l.initial.out ++ members_tokens (members_outline ms)))
-    × (g.W.Tokens.before l.out ≡ g.W.Tokens.before l.fn.out)
+    (rest : Members) → AreMembersOf l.name-iterator rest → (ms : Members) × AreMembersOf l.tries.entries ms
+    × (g.W.Tokens.written l.out ++ members_tokens (members_outline rest) ≡ g.W.Tokens.written l.initial.out ++ members_tokens (members_outline ms))

@@ -7,5 +7,4 @@ use Rattle.elasticlunr_store.proofs.inverted_index.write.write_docs.Given as goa
 -- what was written, and the entries that are left
 abbrev pub invariant-loop-doc_ref : goal.invariant-loop-doc_ref
 invariant-loop-doc_ref g l =
-    (g.W.Tokens.written l.out ++ tokens_of (frequencies (bytes_of l.doc_ref-iterator)) ≡ g.W.Tokens.written l.initial.out ++ tokens_of (frequencies (bytes_of l.postings.entries)))
-    × (g.W.Tokens.before l.out ≡ g.W.Tokens.before l.fn.out)
+    g.W.Tokens.written l.out ++ tokens_of (frequencies (bytes_of l.doc_ref-iterator)) ≡ g.W.Tokens.written l.initial.out ++ tokens_of (frequencies (bytes_of l.postings.entries))

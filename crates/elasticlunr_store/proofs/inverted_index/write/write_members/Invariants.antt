@@ -6,8 +6,7 @@ use Rattle.elasticlunr_store.proofs.inverted_index.write.write_members.Given as 
 -- what was written, and what is left
 abbrev pub invariant-loop-left : goal.invariant-loop-left
 invariant-loop-left g l =
-    (g.W.Tokens.written l.out ++ stack_tokens l.nodes l.stack.items ≡ g.W.Tokens.written l.fn.out ++ tokens_of (place_members (part l.nodes) (postings_of []) l.root))
-    × (g.W.Tokens.before l.out ≡ g.W.Tokens.before l.fn.out)
+    g.W.Tokens.written l.out ++ stack_tokens l.nodes l.stack.items ≡ g.W.Tokens.written l.fn.out ++ tokens_of (place_members (part l.nodes) (postings_of []) l.root)
 
 abbrev pub decreases-loop-left : goal.decreases-loop-left
 decreases-loop-left g l = length (stack_tokens l.nodes l.stack.items)

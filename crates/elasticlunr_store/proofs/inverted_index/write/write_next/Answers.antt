@@ -9,8 +9,8 @@ use Rattle.elasticlunr_store.proofs.inverted_index.write.write_next.Goals as goa
 use Rattle.elasticlunr_store.proofs.inverted_index.write.write_next.Goals.{in_default-via-in-Some+else-c-le100, in_default-via-in_default}
 
 -- a child up to `d`
-pub returns-in_ok-open_child-in-Some-clause-written : goal.returns-in_ok-open_child-in-Some-clause-written
-returns-in_ok-open_child-in-Some-clause-written g c =
+pub returns-in_ok-open_child-in-Some : goal.returns-in_ok-open_child-in-Some
+returns-in_ok-open_child-in-Some g c =
     let nodes = c.args.nodes.now in
     let stack = c.args.stack.now.items in
     let P = postings_of (entries_at [] nodes c.in-WithPostings.place) in
@@ -26,8 +26,8 @@ returns-in_ok-open_child-in-Some-clause-written g c =
     )
 
 -- `df` and `docs`
-pub returns-in_ok-push-in_default-clause-written : goal.returns-in_ok-push-in_default-clause-written
-returns-in_ok-push-in_default-clause-written g c =
+pub returns-in_ok-push-in_default : goal.returns-in_ok-push-in_default
+returns-in_ok-push-in_default g c =
     let nodes = c.args.nodes.now in
     let stack = c.args.stack.now.items in
     let P = postings_of (entries_at [] nodes c.in-WithPostings.place) in
@@ -44,16 +44,16 @@ returns-in_ok-push-in_default-clause-written g c =
     ]) in (
       _,
       omega arith,
-      c.in_ok-write_postings-in_default.ensures.written,
+      c.in_ok-write_postings-in_default.ensures,
       ap (λ l. tokens_of (left_members nodes l) ++ stack_tokens nodes stack) c.in-WithPostings.is
           ∙ ap (λ ms. tokens_of ms ++ stack_tokens nodes stack) now
           ∙ postings_first_more nodes P stack (WithoutPostings es) _ c.in_ok-push-in_default.ensures.items,
     )
 
 -- a child above `d`
-pub returns-in_ok-open_child-in-Some-split_first-clause-written :
-    goal.returns-in_ok-open_child-in-Some-split_first-clause-written
-returns-in_ok-open_child-in-Some-split_first-clause-written g c =
+pub returns-in_ok-open_child-in-Some-split_first :
+    goal.returns-in_ok-open_child-in-Some-split_first
+returns-in_ok-open_child-in-Some-split_first g c =
     let nodes = c.args.nodes.now in
     let stack = c.args.stack.now.items in
     let first = c.in-Some-split_first.field-0-0.now in

@@ -9,12 +9,12 @@ use Rattle.elasticlunr_store.proofs.inverted_index.write.write_trie.Goals as goa
 pub write_members-requires : goal.write_members-requires
 write_members-requires g c = has_trees c.args.root.now c.args.nodes.now c.requires
 
-pub returns-clause-written : goal.returns-clause-written
-returns-clause-written g c =
+pub returns : goal.returns
+returns g c =
     let root = c.args.root.now in
     let nodes = c.args.nodes.now in
     let ms = place_members (part nodes) (postings_of []) root in (
       object (member (codes "root") (object ms) no_members),
       (object ms, refl, root_tree root nodes c.requires),
-      framed (g.W.Tokens.written c.args.out.now) _ _ _ _ _ (tokens_of ms) _ _ _ _ c.in_ok-token.ensures.ok c.in_ok-token-2.ensures.ok c.in_ok-token-3.ensures.ok c.in_ok-write_members.ensures.written c.in_ok-token-4.ensures.ok,
+      framed (g.W.Tokens.written c.args.out.now) _ _ _ _ _ (tokens_of ms) _ _ _ _ c.in_ok-token.ensures c.in_ok-token-2.ensures c.in_ok-token-3.ensures c.in_ok-write_members.ensures c.in_ok-token-4.ensures,
     )

@@ -1,0 +1,48 @@
+"""Runs a built program with one of its requests for memory refused."""
+import os
+import subprocess
+import tempfile
+from typing import NamedTuple
+
+HERE = os.path.dirname(os.path.abspath(__file__))
+TOP = os.path.dirname(HERE)
+
+
+def program(crate):
+    """The program of a crate, as the gate leaves it."""
+    return os.path.join(TOP, "crates", crate, "out", crate)
+
+
+class Run(NamedTuple):
+    out: str
+    status: int
+    requests: int  # how many requests for memory it made, the refused one among them
+
+
+class Refusing:
+    """Holds the shim that refuses a request, built into a folder of its own."""
+
+    def __enter__(self):
+        self.folder = tempfile.TemporaryDirectory()
+        self.shim = os.path.join(self.folder.name, "refuse_memory.so")
+        source = os.path.join(HERE, "refuse_memory.c")
+        subprocess.run(["cc", "-O1", "-shared", "-fPIC", "-o", self.shim, source, "-ldl"], check=True)
+        self.counts = os.path.join(self.folder.name, "requests")
+        return self
+
+    def __exit__(self, *_):
+        self.folder.cleanup()
+
+    def run(self, path, given, number):
+        """Runs the program on the given input, and refuses the request of this number, from 1."""
+        environment = dict(os.environ, LD_PRELOAD=self.shim, REFUSE_REQUEST=str(number), REFUSE_COUNT_FILE=self.counts)
+        ended = subprocess.run(
+            [path], input=given.encode(), stdout=subprocess.PIPE, stderr=subprocess.DEVNULL, env=environment
+        )
+        try:
+            with open(self.counts) as file:
+                requests = int(file.read())
+            os.remove(self.counts)
+        except FileNotFoundError:  # it was killed
+            requests = number
+        return Run(ended.stdout.decode(errors="replace"), ended.returncode, requests)

@@ -1,3 +1,0 @@
-mod options;
-mod store;
-mod trie;

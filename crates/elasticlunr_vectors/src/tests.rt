@@ -1,0 +1,20 @@
+//! Worked examples of the definitions, and the cases of the original's tests, by topic.
+mod arabic;
+mod classes;
+mod documents;
+mod failing;
+mod languages;
+mod options;
+mod own;
+mod own_language;
+mod own_parts;
+mod pipelines;
+mod refusals;
+mod scripts;
+mod settings;
+mod shortest;
+mod stems;
+mod stores;
+mod texts;
+mod tries;
+mod words;

@@ -14,6 +14,7 @@ fn words_of_texts(rt: HostRuntime) -> Result<(), Fail> {
         ("this is a simple string", "this;is;a;simple;string;"),
         ("  foo    bar  ", "foo;bar;"),
         ("Solve for A - B", "solve;for;a;b;"),
+        (" 한글 사랑 ", "한글;사랑;"),
         ("", ""),
         ("İZMİR-ÇAĞ", "i\u{307}zmi\u{307}r;çağ;"),
         ("a\u{A0}b\u{2028}c\u{3000}d-\u{2010}e", "a;b;c;d;\u{2010}e;"),

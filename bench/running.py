@@ -1,0 +1,45 @@
+"""Runs a built program, and gives up on it after a time.
+
+A run that crashes, does not end or can't be started is an answer as any other, with a status that
+no program has: the script that asked counts it as a failure and goes on.
+"""
+import os
+import subprocess
+from typing import NamedTuple
+
+HERE = os.path.dirname(os.path.abspath(__file__))
+TOP = os.path.dirname(HERE)
+SECONDS = 20  # that a run may take, unless the script says otherwise
+
+
+def program(crate):
+    """The built program of a crate; FORGED_PROGRAM has the path of one to be tried in its place (forgeries.py)."""
+    return os.environ.get("FORGED_PROGRAM") or os.path.join(TOP, "crates", crate, "out", crate)
+
+
+class Ended(NamedTuple):
+    out: bytes
+    err: bytes
+    status: object  # a number, or why there is none
+
+
+def run(command, given=b"", seconds=SECONDS, **options):
+    """What a command writes of its input, and its status."""
+    try:
+        ended = subprocess.run(command, input=given, capture_output=True, timeout=seconds, **options)
+    except subprocess.TimeoutExpired as late:
+        return Ended(late.stdout or b"", late.stderr or b"", f"no answer in {seconds} seconds")
+    except OSError as error:
+        return Ended(b"", b"", f"not started: {error.strerror}")
+    if ended.returncode < 0:
+        return Ended(ended.stdout, ended.stderr, f"killed by signal {-ended.returncode}")
+    return Ended(ended.stdout, ended.stderr, ended.returncode)
+
+
+def told(check, passed, failed):
+    """Says how many passed, and gives the status of the script: no test at all is a failure."""
+    if passed + failed == 0:
+        print(f"{check}: nothing was tried")
+        failed = 1
+    print(f"{check}: {passed} passed, {failed} failed", flush=True)
+    return 1 if failed else 0

@@ -1,27 +1,29 @@
-# The two commands: `make run` proves, builds and runs the program, `make test` passes the tests.
+# The two commands: `make run` proves, builds and runs the program, `make test` passes the tests. A third, `make compare`,
+# compares the program with the original crate.
 PREFIX ?= /usr/local
 PROGRAM = crates/elasticlunr_index/out/elasticlunr_index
-EXAMPLE = examples/job.json
 
-.PHONY: run build calls test install
+.PHONY: run build calls test compare install
 
-# A job on standard input, or the example where standard input is a terminal or empty.
+# A job on standard input, or an example where standard input is a terminal or empty.
 run: build
-	@if [ -t 0 ]; then job=$(EXAMPLE); \
-	else job=$$(mktemp); cat > "$$job"; [ -s "$$job" ] || job=$(EXAMPLE); fi; \
-	$(PROGRAM) < "$$job"
+	@python3 bench/run.py
 
 build:
-	@cd crates/elasticlunr_index && rt run < ../../$(EXAMPLE) > /dev/null
+	@python3 bench/build.py elasticlunr_index
 
-# The program that makes one call of the library alone.
+# The program that runs the tables of vectors and makes one call of the library alone.
 calls:
-	@cd crates/elasticlunr_vectors && echo root | rt run > /dev/null
+	@python3 bench/build.py elasticlunr_vectors
 
 # `rt ci` (proves every crate from nothing, tries the wrong bodies, runs the tests and the programs), then the checks of
 # bench/ on the built program.
 test:
 	@bench/test.sh
+
+# Replays documents made by chance on the original crate, and prints speed and memory of both.
+compare: build
+	@bench/compare/compare.sh
 
 install: build
 	@install -d "$(DESTDIR)$(PREFIX)/bin"

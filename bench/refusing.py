@@ -4,18 +4,14 @@ import subprocess
 import tempfile
 from typing import NamedTuple
 
-HERE = os.path.dirname(os.path.abspath(__file__))
-TOP = os.path.dirname(HERE)
+from running import HERE, program, run
 
-
-def program(crate):
-    """The program of a crate, as the gate leaves it."""
-    return os.path.join(TOP, "crates", crate, "out", crate)
+__all__ = ["Refusing", "Run", "program"]
 
 
 class Run(NamedTuple):
     out: str
-    status: int
+    status: object  # a number, or why there is none
     requests: int  # how many requests for memory it made, the refused one among them
 
 
@@ -36,13 +32,11 @@ class Refusing:
     def run(self, path, given, number):
         """Runs the program on the given input, and refuses the request of this number, from 1."""
         environment = dict(os.environ, LD_PRELOAD=self.shim, REFUSE_REQUEST=str(number), REFUSE_COUNT_FILE=self.counts)
-        ended = subprocess.run(
-            [path], input=given.encode(), stdout=subprocess.PIPE, stderr=subprocess.DEVNULL, env=environment
-        )
+        ended = run([path], given.encode(), env=environment)
         try:
-            with open(self.counts) as file:
+            with open(self.counts, encoding="ascii") as file:
                 requests = int(file.read())
             os.remove(self.counts)
-        except FileNotFoundError:  # it was killed
+        except (FileNotFoundError, ValueError):  # it was killed
             requests = number
-        return Run(ended.stdout.decode(errors="replace"), ended.returncode, requests)
+        return Run(ended.out.decode(errors="replace"), ended.status, requests)

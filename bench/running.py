@@ -10,6 +10,8 @@ from typing import NamedTuple
 HERE = os.path.dirname(os.path.abspath(__file__))
 TOP = os.path.dirname(HERE)
 SECONDS = 20  # that a run may take, unless the script says otherwise
+PATIENCE = 3  # runs without an answer; those after them are not even started
+late = []
 
 
 def program(crate):
@@ -25,10 +27,13 @@ class Ended(NamedTuple):
 
 def run(command, given=b"", seconds=SECONDS, **options):
     """What a command writes of its input, and its status."""
+    if len(late) >= PATIENCE:
+        return Ended(b"", b"", f"not started, since {PATIENCE} runs had no answer")
     try:
         ended = subprocess.run(command, input=given, capture_output=True, timeout=seconds, **options)
-    except subprocess.TimeoutExpired as late:
-        return Ended(late.stdout or b"", late.stderr or b"", f"no answer in {seconds} seconds")
+    except subprocess.TimeoutExpired as error:
+        late.append(command)
+        return Ended(error.stdout or b"", error.stderr or b"", f"no answer in {seconds} seconds")
     except OSError as error:
         return Ended(b"", b"", f"not started: {error.strerror}")
     if ended.returncode < 0:

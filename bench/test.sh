@@ -1,21 +1,31 @@
 #!/usr/bin/env bash
-# Passes the tests: the gate of the crates, then the checks of bench/ on the program that it built.
-# The last line counts all of them.
+# Passes the tests: the gate of the crates, then the checks of bench/ on the programs that it built.
+# The last line counts all of them. What is said in full stands in out/test.log.
 set -u
 cd "$(dirname "$0")/.."
-log=$(mktemp)
-rt ci 2>&1 | tee "$log"
-status=${PIPESTATUS[0]}
+mkdir -p out
+log=out/test.log
+: >"$log"
+echo "Proves every crate from nothing, tries wrong bodies, runs the tests, and then the checks of bench/."
+echo "This takes about 56 minutes on four cores. All that is said goes to $log."
+python3 bench/gate.py "$log"
+status=$?
 if [ "$status" -eq 0 ]; then
-    # the gate leaves the programs that it proved and built
-    [ -x crates/elasticlunr_index/out/elasticlunr_index ] || make --silent build >"$log.build" 2>&1 || { tail -n 20 "$log.build"; status=1; }
-    [ -x crates/elasticlunr_vectors/out/elasticlunr_vectors ] || make --silent calls >"$log.build" 2>&1 || { tail -n 20 "$log.build"; status=1; }
-    for check in check_readme check_jobs refuse_memory refuse_calls compare_by_chance long_inputs; do
-        python3 "bench/$check.py" | tee -a "$log"
-        [ "${PIPESTATUS[0]}" -eq 0 ] || status=1
+    for program in elasticlunr_index elasticlunr_vectors; do
+        # the gate leaves the programs that it proved and built
+        if [ -x "crates/$program/out/$program" ]; then
+            python3 bench/build.py --proved "$program"
+        else
+            python3 bench/build.py "$program" || status=1
+        fi
+    done
+    for check in check_readme check_jobs refuse_memory refuse_calls compare_by_chance long_inputs forgeries; do
+        begun=$SECONDS
+        python3 "bench/$check.py" 2>&1 | tee -a "$log"
+        [ "${PIPESTATUS[0]}" -eq 0 ] || { status=1; echo "$check: FAILED" | tee -a "$log"; }
+        echo "  $check ($((SECONDS - begun)) s)"
     done
 fi
 awk '/^([a-z]+: )?[0-9]+ passed, [0-9]+ failed$/ { n = NF - 3; passed += $n; failed += $(n + 2) }
      END { printf "%d passed, %d failed\n", passed, failed }' "$log"
-rm -f "$log" "$log.build"
 exit "$status"

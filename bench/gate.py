@@ -1,0 +1,69 @@
+#!/usr/bin/env python3
+"""Runs `rt ci` and says how it gets on: a line for each crate as it is proved, with the seconds since the beginning.
+
+usage: gate.py LOG
+
+All that `rt ci` says goes to the log. What it says of a crate that is not proved, of an edit that was
+not refused or of a test that failed is shown, too. The last line counts as that of `rt ci` does.
+"""
+import os
+import re
+import subprocess
+import sys
+import time
+
+GIGABYTES_OF_ONE = 6  # that the greatest check was seen to take, and each one beside it
+GIGABYTES_OF_NEXT = 4
+GOOD = re.compile(r"rt: \w+(: its tests( are)?)? (proved|passed)$")
+RAN = re.compile(r"rt: (\w+) ran\b.*")
+TRYING = re.compile(r"rt: (\w+): trying its must-fail edits \((\d+)\)$")
+REFUSED = re.compile(r"rt: must-fail \S+: refused, as it must be")
+BAD = re.compile(r"rt: .*(NOT PROVED|NOT REFUSED|BAD EDIT|FAILED|not had ended|stopped by signal|is not what|killed)")
+
+
+def environment():
+    """As many checks at once as there are processors, where the machine's memory allows that; elsewhere rt decides."""
+    processors = len(os.sched_getaffinity(0))
+    gigabytes = os.sysconf("SC_PHYS_PAGES") * os.sysconf("SC_PAGE_SIZE") / 2**30
+    fits = gigabytes >= GIGABYTES_OF_ONE + GIGABYTES_OF_NEXT * (processors - 1)
+    return {**os.environ, "RT_JOBS": str(processors)} if fits and "RT_JOBS" not in os.environ else dict(os.environ)
+
+
+def main():
+    begun = time.monotonic()
+    refused = 0
+    said = []  # of the crate that is being told of, till it is known whether it is proved
+    last = ""
+    with open(sys.argv[1], "a", encoding="utf-8") as log:
+        gate = subprocess.Popen(
+            ["rt", "ci"], env=environment(), stdout=subprocess.PIPE, stderr=subprocess.STDOUT, text=True, errors="replace"
+        )
+        for line in gate.stdout:
+            log.write(line)
+            log.flush()
+            line = last = line.rstrip("\n")
+            seconds = f"({time.monotonic() - begun:.0f} s)"
+            if REFUSED.match(line):
+                refused += 1
+            elif BAD.match(line):
+                print("\n".join(said[-30:] + [line]), flush=True)
+                said = []
+            elif GOOD.match(line) or RAN.match(line):
+                print(f"  {line[4:]} {seconds}", flush=True)
+                said = []
+            elif TRYING.match(line):
+                print(f"  {line[4:]} {seconds}", flush=True)
+            else:
+                said.append(line)
+    if refused:
+        print(f"  {refused} wrong bodies were refused, each by the contract that it broke")
+    status = gate.wait()
+    if status:
+        print("\n".join(said[-30:]))
+    else:
+        print(last)
+    return status
+
+
+if __name__ == "__main__":
+    sys.exit(main())

@@ -6,14 +6,13 @@ to the stack would end the program.
 """
 import math
 import os
-import resource
-import subprocess
 import sys
 import tempfile
-import time
 
-TOP = os.path.dirname(os.path.dirname(os.path.abspath(__file__)))
-PROGRAM = os.path.join(TOP, "crates/elasticlunr_index/out/elasticlunr_index")
+from measure import measured
+from running import program, told
+
+PROGRAM = program("elasticlunr_index")
 STACK = 256 * 1024
 POSTED = '{"df":1,"docs":{"1":{"tf":1000000}}}'
 
@@ -62,29 +61,15 @@ def deep_text(depth):
     return "[" * depth + "]" * depth, lambda out: out == "refused: not JSON\n"
 
 
-def small_stack():
-    resource.setrlimit(resource.RLIMIT_STACK, (STACK, STACK))
-
-
-def run_one(job, out):
-    """What the program says of a file, as a line: its status, the seconds, and the megabytes at most."""
-    with open(job, "rb") as asked, open(out, "wb") as answered:
-        begun = time.monotonic()
-        program = subprocess.Popen([PROGRAM], stdin=asked, stdout=answered, preexec_fn=small_stack)
-        _, status, used = os.wait4(program.pid, 0)
-        print(os.waitstatus_to_exitcode(status), f"{time.monotonic() - begun:.2f}", used.ru_maxrss // 1024)
-
-
 def run(job, folder):
-    """Runs the program below a process of its own: memory is counted from the size of the one that starts it."""
+    """Runs the program on a job: what it printed, and its status, seconds and megabytes."""
     asked = os.path.join(folder, "job.json")
     answered = os.path.join(folder, "index.json")
     with open(asked, "w", encoding="utf-8") as file:
         file.write(job)
-    below = subprocess.run([sys.executable, __file__, asked, answered], stdout=subprocess.PIPE, check=True)
-    status, seconds, megabytes = below.stdout.split()
-    with open(answered, encoding="utf-8") as file:
-        return file.read(), int(status), float(seconds), int(megabytes)
+    ended = measured([PROGRAM], asked, answered, stack=STACK)
+    with open(answered, encoding="utf-8", errors="replace") as file:
+        return file.read(), ended
 
 
 def main():
@@ -100,18 +85,17 @@ def main():
     passed = 0
     folder = tempfile.TemporaryDirectory()
     for name, status, (job, is_right) in cases:
-        out, ended, seconds, megabytes = run(job, folder.name)
-        right = ended == status and is_right(out)
+        out, ended = run(job, folder.name)
+        right = ended.status == status and is_right(out)
         passed += right
         print(
-            f"long input, {name}: {len(job) / 1e6:.1f} MB in, {len(out) / 1e6:.1f} MB out, {seconds:.2f} s, {megabytes} MB at most"
-            + ("" if right else f": status {ended}, or another text"),
+            f"long input, {name}: {len(job) / 1e6:.1f} MB in, {len(out) / 1e6:.1f} MB out, {ended.seconds:.2f} s,"
+            f" {ended.megabytes} MB at most" + ("" if right else f": status {ended.status}, or another text"),
             flush=True,
         )
     folder.cleanup()
-    print(f"long: {passed} passed, {len(cases) - passed} failed")
-    return 0 if passed == len(cases) else 1
+    return told("long", passed, len(cases) - passed)
 
 
 if __name__ == "__main__":
-    sys.exit(run_one(*sys.argv[1:]) if len(sys.argv) == 3 else main())
+    sys.exit(main())

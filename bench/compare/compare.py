@@ -1,0 +1,177 @@
+#!/usr/bin/env python3
+"""Compares the built program with the original crate, elasticlunr-rs 3.0.2.
+
+usage: compare.py [--jobs N] [--seed N] [--runs N] [--only replay|speed] ORIGINAL
+
+ORIGINAL is the program that fetch.sh builds. First documents made by chance are indexed by both, in
+English, Arabic and Korean, and each posting, length and text is compared by the differences that
+docs/DIFFERENCES.md declares:
+
+- each index has one field, since the crate's counts run on from one field into the next, and each
+  reference one document, since the crate keeps the postings of a document that is added again;
+- a frequency of the crate is the square root of a count, and ours the same in millionths, rounded down;
+- the texts have no character whose small letter the two don't share, nor one of a newer Unicode;
+- the keys of an object are compared without their order.
+
+Then both are timed on large jobs, side by side, and the table of README is printed.
+"""
+import argparse
+import json
+import math
+import os
+import random
+import subprocess
+import sys
+import tempfile
+import unicodedata
+
+sys.path.insert(0, os.path.dirname(os.path.dirname(os.path.abspath(__file__))))
+
+import chance as make
+from measure import measured
+from model_tokens import LANGUAGES, lower
+from running import TOP, program, run, told
+
+PROGRAM = program("elasticlunr_index")
+COMPARED = ["English", "Arabic", "Korean"]  # the languages of Debian's package
+
+
+def is_shared(character):
+    """Whether both lower a character alike, and any version of Unicode that is in use knows it."""
+    return lower(character) == character.lower() and unicodedata.category(character) != "Cn" and character != "\u03a3"
+
+
+def a_job(chance):
+    lang = chance.choice(COMPARED)
+    words = [make.word(chance, LANGUAGES[lang].code) for _ in range(30)]
+    words = ["".join(filter(is_shared, word)) for word in words]
+    docs = [[f"{number}", make.text(chance, words)] for number in range(chance.randint(1, 8))]
+    return {"fields": ["body"], "docs": docs, "lang": lang}
+
+
+def counted(node):
+    """A node of the crate's trie with our frequencies in the place of its own, and how many there are."""
+    found = 0
+    made = {}
+    for key, held in node.items():
+        if key == "docs":
+            made[key] = {reference: {"tf": millionths(posting["tf"])} for reference, posting in held.items()}
+            found += len(held)
+        elif key == "df":
+            made[key] = held
+        else:
+            made[key], below = counted(held)
+            found += below
+    return made, found
+
+
+def millionths(frequency):
+    count = round(frequency * frequency)
+    if abs(math.sqrt(count) - frequency) > 1e-9:
+        raise ValueError(f"{frequency} is not the square root of a count")
+    return math.isqrt(count * 10**12)
+
+
+def replay(original, jobs, seed):
+    """How many postings, lengths and texts agree, and how many jobs don't."""
+    chance = random.Random(seed)
+    made = [a_job(chance) for _ in range(jobs)]
+    lines = "".join(json.dumps(job) + "\n" for job in made).encode()
+    theirs = run([original, "lines"], lines, seconds=600)
+    answers = theirs.out.splitlines()
+    if theirs.status != 0 or len(answers) != len(made):
+        print(f"replay: the original crate ended with status {theirs.status} after {len(answers)} jobs")
+        return 0, 1
+    docs = postings = lengths = texts = failed = 0
+    for number, (job, answer) in enumerate(zip(made, answers)):
+        expected = json.loads(answer)
+        trie = expected["index"]["body"]
+        trie["root"], found = counted(trie["root"])
+        ended = run([PROGRAM], json.dumps(job).encode())
+        if ended.status != 0 or json.loads(ended.out) != expected:
+            failed += 1
+            if failed <= 5:
+                print(f"replay: seed {seed}, job {number}: status {ended.status}, or another index: {json.dumps(job)}")
+        else:
+            store = expected["documentStore"]
+            docs += len(job["docs"])
+            postings += found
+            lengths += sum(len(fields) for fields in store["docInfo"].values())
+            texts += sum(len(fields) for fields in store["docs"].values())
+    print(f"replay: {docs} documents in {', '.join(COMPARED)}: {postings} postings, {lengths} lengths and {texts} texts agree")
+    return jobs - failed, failed
+
+
+# Speed
+
+
+def large_job(docs):
+    made = subprocess.run([sys.executable, os.path.join(TOP, "bench/make_job.py"), "--docs", str(docs)], stdout=subprocess.PIPE, check=True)
+    return json.loads(made.stdout)
+
+
+def speed_jobs():
+    """The name of each job, the job, whether the original does it, too, and with which of ours it is compared per document."""
+    english = large_job(2000)
+    yield "English, 2,000 documents", english, True, None
+    yield "the same in German, which has no stemmer here", dict(english, lang="German"), True, None
+    yield "1,000 documents", large_job(1000), True, None
+    yield "16,000 documents", large_job(16000), False, ("1,000 documents", 16)
+    yield "2,000 documents, each added twice", dict(english, docs=english["docs"] * 2), False, ("English, 2,000 documents", 1)
+    removed = [doc[0] for doc in english["docs"][::2]]
+    yield "2,000 documents, 1,000 references removed", dict(english, remove=removed), False, ("English, 2,000 documents", 1)
+
+
+def best(command, asked, answered, runs):
+    """The fastest of some runs; a run that fails decides."""
+    found = [measured(command, asked, answered) for _ in range(runs)]
+    return next((run for run in found if run.status != 0), min(found, key=lambda run: run.seconds))
+
+
+def told_run(run):
+    return f"{run.seconds:.2f} s, {run.megabytes:,} MB" if run.status == 0 else f"failed: {run.status}"
+
+
+def speed(original, runs):
+    """Prints the table; how many jobs were done, and how many failed."""
+    failed = 0
+    ours = {}
+    print(f"\n| Job | Here | The original | Time | Memory |\n|---|---|---|---|---|")
+    with tempfile.TemporaryDirectory() as folder:
+        asked = os.path.join(folder, "job.json")
+        answered = os.path.join(folder, "index.json")
+        for name, job, is_for_both, beside in speed_jobs():
+            with open(asked, "w", encoding="utf-8") as file:
+                json.dump(job, file, ensure_ascii=False)
+            mine = ours[name] = best([PROGRAM], asked, answered, runs)
+            theirs = best([original], asked, answered, runs) if is_for_both else None
+            failed += mine.status != 0 or bool(theirs and theirs.status != 0)
+            row = [name, told_run(mine), told_run(theirs) if theirs else "-"]
+            if theirs:
+                row += [f"{mine.seconds / theirs.seconds:.2f} of its", f"{mine.megabytes / theirs.megabytes:.2f} of its"]
+            elif beside:
+                other, times = beside
+                row += [f"{mine.seconds / ours[other].seconds / times:.2f} of `{other}`" + (" a document" if times > 1 else ""), "-"]
+            print("| " + " | ".join(row) + " |", flush=True)
+    print(f"\nThe fastest of {runs} runs each, with the most memory that it took.")
+    return len(ours) - failed, failed
+
+
+def main():
+    parser = argparse.ArgumentParser(description=__doc__, formatter_class=argparse.RawDescriptionHelpFormatter)
+    parser.add_argument("--jobs", type=int, default=1000)
+    parser.add_argument("--seed", type=int, default=1)
+    parser.add_argument("--runs", type=int, default=3)
+    parser.add_argument("--only", choices=["replay", "speed"])
+    parser.add_argument("original")
+    options = parser.parse_args()
+    counts = [0, 0]
+    if options.only != "speed":
+        counts = [a + b for a, b in zip(counts, replay(options.original, options.jobs, options.seed))]
+    if options.only != "replay":
+        counts = [a + b for a, b in zip(counts, speed(options.original, options.runs))]
+    return told("compare", *counts)
+
+
+if __name__ == "__main__":
+    sys.exit(main())

@@ -119,7 +119,8 @@ def build(name):
                     left = []
                     failed(crate, log)
                     continue
-                say(f"  {crate}: proved ({ended.result():.0f} s)")
+                # rt says nothing where nothing has changed
+                say(f"  {crate}: proved ({ended.result():.0f} s)" if os.path.getsize(log) else f"  {crate}: as it was")
                 proved.add(crate)
     return name in proved
 

@@ -77,8 +77,8 @@ def compared(chance, job, number):
         try:
             for law, holds in laws(chance, job):
                 yield "a law", None if holds else f"not so: {law}: {json.dumps(job)}"
-        except ValueError as error:
-            yield "a law", f"not printed: {error}: {json.dumps(job)}"
+        except (ValueError, LookupError, TypeError) as error:
+            yield "a law", f"not printed as an index: {error!r}: {json.dumps(job)}"
 
 
 def main():

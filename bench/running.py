@@ -9,7 +9,7 @@ from typing import NamedTuple
 
 HERE = os.path.dirname(os.path.abspath(__file__))
 TOP = os.path.dirname(HERE)
-SECONDS = 20  # that a run may take, unless the script says otherwise
+SECONDS = float(os.environ.get("RUN_SECONDS", "20"))  # that a run may take, unless the script says otherwise
 PATIENCE = 3  # runs without an answer; those after them are not even started
 late = []
 
@@ -33,7 +33,7 @@ def run(command, given=b"", seconds=SECONDS, **options):
         ended = subprocess.run(command, input=given, capture_output=True, timeout=seconds, **options)
     except subprocess.TimeoutExpired as error:
         late.append(command)
-        return Ended(error.stdout or b"", error.stderr or b"", f"no answer in {seconds} seconds")
+        return Ended(error.stdout or b"", error.stderr or b"", f"no answer in {seconds:g} seconds")
     except OSError as error:
         return Ended(b"", b"", f"not started: {error.strerror}")
     if ended.returncode < 0:

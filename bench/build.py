@@ -4,7 +4,8 @@
 usage: build.py [--check | --proved] NAME
 
 Each crate is proved once those that it stands on are; crates that don't stand on one another are
-proved side by side. What `rt` says goes to out/build.log, and is shown where a crate isn't proved.
+proved side by side. What `rt` says goes to out/build-CRATE.log; its end is shown where a crate isn't
+proved. A crate has a line, with its seconds, once it is.
 Where nothing has changed since the last build there is nothing to do and nothing is said.
 
 --check does nothing, and its status says whether there is nothing to do. --proved notes that the
@@ -20,8 +21,8 @@ from concurrent.futures import FIRST_COMPLETED, ThreadPoolExecutor, wait
 
 import room
 
-LOG = os.path.join(room.TOP, "out", "build.log")
-FIRST = "about 21 minutes on four cores"  # measured: what a build from nothing takes
+LOGS = os.path.join(room.TOP, "out")
+FIRST = {"elasticlunr_index": "about 21 minutes on four cores"}  # measured: what a build from nothing takes
 SHOWN = 40  # lines of the log that are shown where a crate isn't proved
 
 
@@ -102,15 +103,14 @@ def build(name):
     proved = set()
     running = {}
     processors = len(os.sched_getaffinity(0))
-    logs = os.path.dirname(LOG)
-    os.makedirs(logs, exist_ok=True)
+    os.makedirs(LOGS, exist_ok=True)
     with ThreadPoolExecutor() as pool:
         while left or running:
             ready = [crate for crate in left if proved.issuperset(room.below(crate))]
             jobs = max(1, processors // len(ready)) if len(ready) > 1 else None
             for crate in ready:
                 command = ["run"] if crate == name else ["lib"]
-                log = os.path.join(logs, f"build-{crate}.log")
+                log = os.path.join(LOGS, f"build-{crate}.log")
                 running[pool.submit(prove, crate, command, jobs, log, not running)] = crate, log
                 left.remove(crate)
             for ended in wait(running, return_when=FIRST_COMPLETED).done:
@@ -144,8 +144,8 @@ def main():
     if not shutil.which("rt"):
         say("build.py: there is no rt on the path: the Rattle kit has it")
         return 1
-    say(f"Proving and building {name} and the crates below it. The first time this takes {FIRST};")
-    say("after a change only what it touches is proved again, and without a change nothing is.")
+    say(f"Proving and building {name} and the crates below it: {' '.join(room.below(name))}.")
+    say(f"The first time this takes {FIRST.get(name, 'minutes')}; later only what changed is proved again.")
     begun = time.monotonic()
     if not build(name):
         return 1

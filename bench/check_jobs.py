@@ -15,6 +15,7 @@ from running import TOP, program, run, told
 from tables import JOBS, jobs, rows_missing
 
 PROGRAM = program("elasticlunr_index")
+SHOWN = 10  # wrong rows that have a line; the others are counted
 
 
 def main():
@@ -31,6 +32,8 @@ def main():
             passed += 1
         else:
             failed += 1
+            if failed > SHOWN:
+                continue
             print(f"job {number}: status {ended.status} in place of {job.status}, or another text")
     return told("jobs", passed, failed)
 

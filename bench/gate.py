@@ -56,7 +56,7 @@ def main():
             else:
                 said.append(line)
     if refused:
-        print(f"  {refused} wrong bodies were refused, each by the contract that it broke")
+        print(f"  {refused} wrong bodies tried and refused")
     status = gate.wait()
     if status:
         print("\n".join(said[-30:]))

@@ -1,10 +1,9 @@
 #!/usr/bin/env python3
 """Runs the built program on standard input, and ends with its status.
 
-Where standard input is a terminal the program gets a small example, to be printed in lines, and
-where it is empty the example as it stands.
+Where standard input is empty the program gets the example, and where it is a terminal a small one
+whose index is printed in lines.
 """
-import json
 import os
 import subprocess
 import sys
@@ -12,19 +11,22 @@ import sys
 from running import TOP, program
 
 EXAMPLE = os.path.join(TOP, "examples", "job.json")
+SMALL = os.path.join(TOP, "examples", "small.json")
+
+
+def content(path):
+    with open(path, "rb") as file:
+        return file.read()
 
 
 def main():
     path = program("elasticlunr_index")
-    given = b"" if sys.stdin.isatty() else sys.stdin.buffer.read()
-    if not given:
-        with open(EXAMPLE, "rb") as file:
-            given = file.read()
-    if sys.stdin.isatty():
-        given = json.dumps(dict(json.loads(given), pretty=True)).encode()
+    is_terminal = sys.stdin.isatty()
+    given = content(SMALL) if is_terminal else sys.stdin.buffer.read() or content(EXAMPLE)
     status = subprocess.run([path], input=given).returncode
-    if sys.stdin.isatty():
-        print(f"This is the index of {os.path.relpath(EXAMPLE)}, printed by {os.path.relpath(path)} < JOB", file=sys.stderr)
+    if is_terminal:
+        print(f"This is the index of {os.path.relpath(SMALL)}. The program reads a job from standard input:", file=sys.stderr)
+        print(f"    {os.path.relpath(path)} < {os.path.relpath(EXAMPLE)}", file=sys.stderr)
     return status if status >= 0 else 128 - status
 
 

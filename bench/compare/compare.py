@@ -111,7 +111,7 @@ def large_job(docs):
 
 
 def speed_jobs():
-    """The name of each job, the job, whether the original does it, too, and with which of ours it is compared per document."""
+    """The name of each job, the job, whether the original does it, too, or else beside which of ours it stands, of how many times less."""
     english = large_job(2000)
     yield "English, 2,000 documents", english, True, None
     yield "the same in German, which has no stemmer here", dict(english, lang="German"), True, None
@@ -132,11 +132,24 @@ def told_run(run):
     return f"{run.seconds:.2f} s, {run.megabytes:,} MB" if run.status == 0 else f"failed: {run.status}"
 
 
+def ratio_to(mine, theirs):
+    if mine.status != 0 or theirs.status != 0:
+        return "-"
+    return f"{mine.seconds / theirs.seconds:.2f} of its time, {mine.megabytes / theirs.megabytes:.2f} of its memory"
+
+
+def ratio_to_ours(mine, ours, other, times):
+    if mine.status != 0 or ours[other].status != 0:
+        return "-"
+    ratio = mine.seconds / ours[other].seconds / times
+    return f"{ratio:.2f} times the time {'per document ' if times > 1 else ''}of `{other}`"
+
+
 def speed(original, runs):
     """Prints the table; how many jobs were done, and how many failed."""
     failed = 0
     ours = {}
-    print(f"\n| Job | Here | The original | Time | Memory |\n|---|---|---|---|---|")
+    print("\n| Job | Here | The original | Ratio |\n|---|---|---|---|")
     with tempfile.TemporaryDirectory() as folder:
         asked = os.path.join(folder, "job.json")
         answered = os.path.join(folder, "index.json")
@@ -146,12 +159,8 @@ def speed(original, runs):
             mine = ours[name] = best([PROGRAM], asked, answered, runs)
             theirs = best([original], asked, answered, runs) if is_for_both else None
             failed += mine.status != 0 or bool(theirs and theirs.status != 0)
-            row = [name, told_run(mine), told_run(theirs) if theirs else "-"]
-            if theirs:
-                row += [f"{mine.seconds / theirs.seconds:.2f} of its", f"{mine.megabytes / theirs.megabytes:.2f} of its"]
-            elif beside:
-                other, times = beside
-                row += [f"{mine.seconds / ours[other].seconds / times:.2f} of `{other}`" + (" a document" if times > 1 else ""), "-"]
+            ratio = ratio_to(mine, theirs) if theirs else ratio_to_ours(mine, ours, *beside)
+            row = [name, told_run(mine), told_run(theirs) if theirs else "-", ratio]
             print("| " + " | ".join(row) + " |", flush=True)
     print(f"\nThe fastest of {runs} runs each, with the most memory that it took.")
     return len(ours) - failed, failed
@@ -159,7 +168,7 @@ def speed(original, runs):
 
 def main():
     parser = argparse.ArgumentParser(description=__doc__, formatter_class=argparse.RawDescriptionHelpFormatter)
-    parser.add_argument("--jobs", type=int, default=1000)
+    parser.add_argument("--jobs", type=int, default=2000)
     parser.add_argument("--seed", type=int, default=1)
     parser.add_argument("--runs", type=int, default=3)
     parser.add_argument("--only", choices=["replay", "speed"])

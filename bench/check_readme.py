@@ -1,16 +1,17 @@
 #!/usr/bin/env python3
-"""Takes the blocks out of README.md, and proves or runs each as it stands.
+"""Takes the blocks out of README.md, and holds each to what is proved or runs it, as it stands.
 
 usage: check_readme.py [README]
 
-- The line of crates.txt that README gives names a crate and what it stands on. Each block of Rust is
-  the `src/lib.rt` of such a crate, with the proofs that stand in blocks after it, and `rt check` must
-  prove it, beside the repository's libraries as they are built (room.py).
+- README gives lines of crates.txt, each of a crate that has one file of Rust. The blocks of Rust are
+  these files, in their order and letter for letter, and a block of proofs after one is the file of
+  that crate whose path it begins with: so `rt ci`, which proves every crate, has proved the blocks.
+  Such a crate holds nothing else.
 - Each command of a block of shell is run at the top of the repository and must end well. `make test`,
   of which this is a part, and `make compare` are only looked up, by `make -n`.
 - Each job in JSON must be answered by the built program as the definitions say (model.py).
 
-A block of another kind is for another check or none: it is counted aloud.
+A block of another kind is for another check or none: it is named.
 """
 import os
 import re
@@ -23,8 +24,8 @@ from running import TOP, program, run, told
 README = os.path.join(TOP, "README.md")
 PROGRAM = program("elasticlunr_index")
 LONG = re.compile(r"make (test|compare)\b")
-MINUTES = 15  # for the proof of one block
-KINDS = ("rust", "antt", "console", "json")
+MINUTES = 15  # that a command may take
+KINDS = ("rust", "antt", "console", "json", "text")
 
 
 def blocks(path):
@@ -35,39 +36,47 @@ def blocks(path):
         yield block[1], text.count("\n", 0, block.start()) + 2, block[2]
 
 
-def crate_line(found):
-    """The line of crates.txt that README gives."""
-    lines = [text for kind, _, text in found if kind == "text" and re.fullmatch(r"\w+:( \w+)+\n", text)]
-    return lines[0] if len(lines) == 1 else None
+def crate_lines(found):
+    """The lines of crates.txt that README gives."""
+    texts = [text for kind, _, text in found if kind == "text" and re.fullmatch(r"(\w+:( \w+)+\n)+", text)]
+    return texts[0].splitlines() if len(texts) == 1 else []
 
 
-def crates_of_rust(found):
-    """Each block of Rust with the blocks of proofs that follow it."""
+def files_of_rust(found):
+    """Each block of Rust with the blocks of proofs that follow it, by their paths in the crate."""
     crates = []
     for kind, line, text in found:
         if kind == "rust":
             crates.append((line, {"src/lib.rt": text}))
         elif kind == "antt" and crates:
-            path = re.match(r"-- (proofs/\S+\.antt)\n", text)
-            crates[-1][1][path[1] if path else "proofs/NoPath.antt"] = text
+            path, _, rest = text.partition("\n")
+            crates[-1][1][path.removeprefix("-- ")] = rest
     return crates
 
 
-def why_not_proved(line_of_crate, texts):
-    """What rt says of a crate with these files, or None where it is proved."""
-    name, _, libraries = line_of_crate.partition(":")
-    own = [library for library in libraries.split() if library in room.crates()]
-    shared = sorted({it for library in own for it in room.below(library) + [library]}, key=list(room.crates()).index)
-    with room.Room(shared, line_of_crate) as scratch:
-        at = os.path.join(scratch.path, "crates", name)
-        for path, text in texts.items():
-            os.makedirs(os.path.dirname(os.path.join(at, path)), exist_ok=True)
-            with open(os.path.join(at, path), "w", encoding="utf-8") as file:
-                file.write(text)
-        ended = run(["rt", "check"], seconds=60 * MINUTES, cwd=at)
-        said = (ended.out + ended.err).decode(errors="replace")
-        is_proved = ended.status == 0 and re.search(r"^logic=proved functions=[1-9]", said, re.MULTILINE)
-        return None if is_proved else f"status {ended.status}: " + said[-1500:]
+def files_of_crate(name):
+    """What a crate of the repository holds that `rt` reads."""
+    at = os.path.join(TOP, "crates", name)
+    texts = {}
+    for part in room.PARTS:
+        for folder, _, names in os.walk(os.path.join(at, part)):
+            for path in (os.path.join(folder, it) for it in names):
+                with open(path, encoding="utf-8") as file:
+                    texts[os.path.relpath(path, at)] = file.read()
+    return texts
+
+
+def why_not_a_crate(line_of_crate, texts):
+    """Why these texts are not a crate of the repository, or None."""
+    name = line_of_crate.partition(":")[0]
+    with open(os.path.join(TOP, "crates.txt"), encoding="utf-8") as file:
+        if line_of_crate not in file.read().splitlines():
+            return f"crates.txt has no line `{line_of_crate}`"
+    held = files_of_crate(name)
+    if set(held) != set(texts):
+        return f"crates/{name} holds {sorted(held)} in place of {sorted(texts)}"
+    other = [path for path in texts if texts[path] != held[path]]
+    return f"crates/{name}/{other[0]} is another text" if other else None
 
 
 def why_not_run(command):
@@ -93,22 +102,22 @@ def commands(text):
 def tried(path):
     """The name of each block, or of a part of one, and why it doesn't stand."""
     found = list(blocks(path))
-    line_of_crate = crate_line(found)
-    if line_of_crate is None:
-        yield "the line for crates.txt", "README has none, or two"
-    for line, texts in crates_of_rust(found):
-        if line_of_crate:
-            yield f"line {line}: Rust", why_not_proved(line_of_crate, texts)
+    lines = crate_lines(found)
+    crates = files_of_rust(found)
+    if not lines or len(lines) != len(crates):
+        yield "the lines of crates.txt", f"README has {len(lines)}, and {len(crates)} blocks of Rust"
+    for line_of_crate, (line, texts) in zip(lines, crates):
+        yield f"line {line}: Rust", why_not_a_crate(line_of_crate, texts)
     for kind, line, text in found:
         if kind == "console":
             for command in commands(text):
                 yield f"line {line}: {command}", why_not_run(command)
         if kind == "json":
             yield f"line {line}: a job", why_not_answered(text)
-    for kind in ("rust", "console", "json"):
+    for kind in ("console", "json"):
         if not any(it == kind for it, _, _ in found):
             yield f"blocks of {kind}", "README has none"
-    others = [f"{kind or 'no kind'} at line {line}" for kind, line, _ in found if kind not in KINDS and kind != "text"]
+    others = [f"{kind or 'no kind'} at line {line}" for kind, line, _ in found if kind not in KINDS]
     if others:
         print("readme: not tried here: " + ", ".join(others))
 

@@ -104,15 +104,18 @@ def forged_readmes(folder):
     with open(os.path.join(TOP, "README.md"), encoding="utf-8") as file:
         whole = file.read()
     rust = re.compile(r"^```(rust|antt)\n.*?^```\n", re.DOTALL | re.MULTILINE)
-    short = rust.sub("", whole)
-    broken = '```rust\n#![tactic(auto)]\n\npub fn one() -> u64\n    ensures { result ≡ 2 }\n{\n    1\n}\n```\n'
+    another = r"^README.md, line \d+: Rust: crates/elasticlunr_\w+/%s is another text"
+    numbers = "^README.md, the lines of crates.txt: README has %d, and %d blocks of Rust"
     forged = [
-        ("README with a block that isn't proved", short + broken, r"^README.md, line \d+: Rust: status 1"),
-        ("README without Rust", short, "^README.md, blocks of rust: README has none"),
-        ("README with a command that fails", short + "```console\n$ make no-such-thing\n```\n", "make no-such-thing: status 2"),
-        ("README with a command that there isn't", short.replace("$ make test", "$ make tests"), "make tests: status 2"),
-        ("README with a job that is none", short.replace('"docs": [\n', '"pages": [\n'), "a job: it is no job: refused: not a job"),
-        ("README without the line for crates.txt", short.replace("```text", "```"), "the line for crates.txt: README has none"),
+        ("README with another line of Rust", whole.replace('add_doc("1"', 'add_doc("2"', 1), another % "src/lib.rt"),
+        ("README with another proof", whole.replace("if-is_empty.true", "if-is_empty.false", 1), another % r"proofs/\S+"),
+        ("README with a block of Rust more", whole + "```rust\npub fn nothing() {}\n```\n", numbers % (2, 3)),
+        ("README without Rust", rust.sub("", whole), numbers % (2, 0)),
+        ("README without the lines of crates.txt", whole.replace("```text", "```"), numbers % (0, 2)),
+        ("README with another line of crates.txt", whole.replace("site: elasticlunr", "site: std"), "crates.txt has no line"),
+        ("README with a command that fails", whole + "```console\n$ make no-such-thing\n```\n", "make no-such-thing: status 2"),
+        ("README with a command that there isn't", whole.replace("$ make test", "$ make tests"), "make tests: status 2"),
+        ("README with a job that is none", whole.replace('"docs": [\n', '"pages": [\n'), "a job: it is no job: refused: not a job"),
     ]
     for name, text, names in forged:
         path = os.path.join(folder, name.replace(" ", "-") + ".md")

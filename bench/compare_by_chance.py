@@ -52,7 +52,8 @@ def laws(chance, job):
     value = json.loads(text)
     yield "lists that agree print alike", printed(dict(job, docs=in_another_order(chance, job["docs"]))) == text
     yield "a document that is added again changes nothing", printed(dict(job, docs=job["docs"] * 2)) == text
-    yield "a reference without a document is removed to no effect", printed(dict(job, remove=job.get("remove", []) + ["?"])) == text
+    unknown = job.get("remove", []) + ["?"]
+    yield "a reference without a document is removed to no effect", printed(dict(job, remove=unknown)) == text
     pretty = printed(dict(job, pretty=True))
     yield "both texts hold one value", json.loads(pretty) == value and pretty.count("\n") > 1
     fresh = {key: job[key] for key in job if key != "remove"}

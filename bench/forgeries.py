@@ -115,7 +115,7 @@ def forged_readmes(folder):
         ("README with another line of crates.txt", whole.replace("site: elasticlunr", "site: std"), "crates.txt has no line"),
         ("README with a command that fails", whole + "```console\n$ make no-such-thing\n```\n", "make no-such-thing: status 2"),
         ("README with a command that there isn't", whole.replace("$ make test", "$ make tests"), "make tests: status 2"),
-        ("README with a job that is none", whole.replace('"docs": [\n', '"pages": [\n'), "a job: it is no job: refused: not a job"),
+        ("README with a job that is none", whole.replace('"docs": [\n', '"pages": [\n'), "a job: it is no job: refused"),
     ]
     for name, text, names in forged:
         path = os.path.join(folder, name.replace(" ", "-") + ".md")

@@ -8,6 +8,7 @@ not refused or of a test that failed is shown, too. The last line counts as that
 """
 import os
 import re
+import shutil
 import subprocess
 import sys
 import time
@@ -18,7 +19,7 @@ GOOD = re.compile(r"rt: \w+(: its tests( are)?)? (proved|passed)$")
 RAN = re.compile(r"rt: (\w+) ran\b.*")
 TRYING = re.compile(r"rt: (\w+): trying its must-fail edits \((\d+)\)$")
 REFUSED = re.compile(r"rt: must-fail \S+: refused, as it must be")
-BAD = re.compile(r"rt: .*(NOT PROVED|NOT REFUSED|BAD EDIT|FAILED|not had ended|stopped by signal|is not what|killed)")
+BAD = re.compile(r"rt: .*(NOT PROVED|NOT REFUSED|BAD EDIT|FAILED|had not ended|stopped by signal|is not what|killed|only because)")
 
 
 def environment():
@@ -30,6 +31,9 @@ def environment():
 
 
 def main():
+    if not shutil.which("rt"):
+        print("gate.py: there is no rt on the path: the Rattle kit has it")
+        return 1
     begun = time.monotonic()
     refused = 0
     said = []  # of the crate that is being told of, till it is known whether it is proved
@@ -43,9 +47,8 @@ def main():
             log.flush()
             line = last = line.rstrip("\n")
             seconds = f"({time.monotonic() - begun:.0f} s)"
-            if REFUSED.match(line):
-                refused += 1
-            elif BAD.match(line):
+            refused += bool(REFUSED.match(line))
+            if BAD.match(line):
                 print("\n".join(said[-30:] + [line]), flush=True)
                 said = []
             elif GOOD.match(line) or RAN.match(line):
@@ -53,7 +56,7 @@ def main():
                 said = []
             elif TRYING.match(line):
                 print(f"  {line[4:]} {seconds}", flush=True)
-            else:
+            elif not REFUSED.match(line):
                 said.append(line)
     if refused:
         print(f"  {refused} wrong bodies tried and refused")

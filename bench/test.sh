@@ -11,7 +11,8 @@ echo "This takes about 56 minutes on four cores. All that is said goes to $log."
 python3 bench/gate.py "$log"
 status=$?
 if [ "$status" -eq 0 ]; then
-    for program in elasticlunr_index elasticlunr_vectors; do
+    for main in crates/*/src/main.rt; do
+        program=$(basename "${main%/src/main.rt}")
         # the gate leaves the programs that it proved and built
         if [ -x "crates/$program/out/$program" ]; then
             python3 bench/build.py --proved "$program"

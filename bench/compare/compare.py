@@ -106,12 +106,15 @@ def replay(original, jobs, seed):
 
 
 def large_job(docs):
-    made = subprocess.run([sys.executable, os.path.join(TOP, "bench/make_job.py"), "--docs", str(docs)], stdout=subprocess.PIPE, check=True)
-    return json.loads(made.stdout)
+    command = [sys.executable, os.path.join(TOP, "bench/make_job.py"), "--docs", str(docs)]
+    return json.loads(subprocess.run(command, stdout=subprocess.PIPE, check=True).stdout)
 
 
 def speed_jobs():
-    """The name of each job, the job, whether the original does it, too, or else beside which of ours it stands, of how many times less."""
+    """The name of each job, the job, whether the original does it, too, or else which of ours it stands beside.
+
+    The last comes with how many times as many documents the job has.
+    """
     english = large_job(2000)
     yield "English, 2,000 documents", english, True, None
     yield "the same in German, which has no stemmer here", dict(english, lang="German"), True, None

@@ -23,7 +23,12 @@ if [ "$status" -eq 0 ]; then
     for check in check_readme check_jobs refuse_memory refuse_calls compare_by_chance long_inputs forgeries; do
         begun=$SECONDS
         python3 "bench/$check.py" 2>&1 | tee -a "$log"
-        [ "${PIPESTATUS[0]}" -eq 0 ] || { status=1; echo "$check: FAILED" | tee -a "$log"; }
+        if [ "${PIPESTATUS[0]}" -ne 0 ]; then
+            status=1
+            echo "  $check FAILED"
+            # a check that broke off has no count of its own
+            tail -n 1 "$log" | grep -q ' passed, ' || echo "0 passed, 1 failed" | tee -a "$log"
+        fi
         echo "  $check ($((SECONDS - begun)) s)"
     done
 fi

@@ -1,9 +1,9 @@
 //! Laws over the definitions: each is the contract of a function that does nothing.
-ghost use Rattle.std.specs.Prelude.{◌≡◌, ◌≢◌, ◌↔◌, ◌++◌, ℕ, Bool, List, [], Some};
+ghost use Rattle.std.specs.Prelude.{◌≡◌, ◌≢◌, ◌↔◌, ◌++◌, ℕ, Bool, List, [], Option, Some};
 ghost use Rattle.elasticlunr_text.specs.Text.{Text};
 ghost use Rattle.elasticlunr_text.specs.Trimmed.{IsTrimmed, trimmed};
 ghost use Rattle.elasticlunr_text.specs.Trimmers.{keeps, cut_to_class};
-ghost use Rattle.elasticlunr_text.specs.Stages.{IsRun};
+ghost use Rattle.elasticlunr_text.specs.Stages.{MayLeaveAll, IsRun};
 ghost use Rattle.elasticlunr_text.specs.Stems.{Stem};
 ghost use Rattle.elasticlunr_text.specs.declared.lang.common.trimmer.RegexTrimmer.{RegexTrimmer};
 
@@ -33,4 +33,10 @@ pub fn a_run_of_two_lists(pipeline: &Pipeline)
 /// A run of one list of tokens leaves one list of texts.
 pub fn a_run_has_one_answer(pipeline: &Pipeline)
     ensures { (tokens texts others : List Text) → IsRun leaves pipeline.now tokens texts → IsRun leaves pipeline.now tokens others → texts ≡ others }
+{}
+
+/// The stages of a pipeline leave one answer of a token.
+pub fn a_token_has_one_answer(pipeline: &Pipeline)
+    ensures { (token : Text) (left other : Option Text) → MayLeaveAll leaves pipeline.now.queue.items token left
+        → MayLeaveAll leaves pipeline.now.queue.items token other → left ≡ other }
 {}

@@ -1,6 +1,7 @@
 //! A trimmer of a class of characters.
-ghost use Rattle.std.specs.Prelude.{◌≡◌, ◌⊎◌, ℕ, IfOk, IfErr, IsOkUnless, Err, string_bytes};
+ghost use Rattle.std.specs.Prelude.{◌≡◌, ◌⊎◌, ℕ, IfOk, IfErr, IsOk, IsOkUnless, Err, option_map, string_bytes};
 ghost use Rattle.std.specs.Str.{chars};
+ghost use Rattle.elasticlunr_text.specs.Text.{text_of};
 ghost use Rattle.elasticlunr_text.specs.ClassTexts.{Names, NamesNone};
 ghost use Rattle.elasticlunr_text.specs.Classes.{in_scripts};
 ghost use Rattle.elasticlunr_text.specs.Trimmers.{trimmer_name, keeps, cut_to_class};
@@ -80,9 +81,13 @@ impl PipelineFn for RegexTrimmer {
         self.name.clone()
     }
 
-    /// The token from its first to its last character of the class, `None` where there is none.
-    fn filter(&self, alloc: Global, token: String) -> Result<Option<String>, AllocError> {
-        let left = self.class.cut(alloc, token)?;
+    /// The token from its first to its last character of the class, `None` where there is none. It
+    /// is cut in its own buffer: no memory is requested.
+    fn filter(&self, _alloc: Global, token: String) -> Result<Option<String>, AllocError>
+        ensures left { IfOk result (λ left. option_map text_of left ≡ cut_to_class self.now (text_of token)) }
+        ensures always { IsOk result }
+    {
+        let left = self.class.cut(token);
         if left.is_empty() {
             return Ok(None);
         }

@@ -4,7 +4,7 @@ use Rattle.std.proofs.Math.Path.{fun_ext}
 use Rattle.std.specs.Str.{all_scalars}
 use Rattle.std.specs.declared.alloc.Global.{Global}
 use Rattle.std.specs.declared.dyn_box.DynBox.{DynBox}
-use Rattle.elasticlunr_text.specs.Text.{Text, is_listed}
+use Rattle.elasticlunr_text.specs.Text.{Text}
 use Rattle.elasticlunr_text.specs.StopWords.{HasWords, without}
 use Rattle.elasticlunr_text.specs.Trimmed.{trimmed, unless_empty, is_word_char}
 use Rattle.elasticlunr_text.specs.Trimmers.{keeps, cut_to_class}

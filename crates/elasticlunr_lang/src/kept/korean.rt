@@ -8,8 +8,8 @@ use crate::language::Language;
 use elasticlunr_text::pipeline::Pipeline;
 use std::alloc::{AllocError, Global};
 
-/// Korean: a trimmer of the characters of the Latin and Hangul scripts, stop words, and a stage that
-/// keeps every token.
+/// Korean: a trimmer of the characters of the Latin and Hangul scripts, stop words, and a stage
+/// that keeps every token.
 #[derive(Clone, Copy)]
 pub struct Korean {}
 

@@ -14,8 +14,8 @@ use crate::pipeline::PipelineFn;
 use std::alloc::{AllocError, Global};
 use unicode::properties::Script;
 
-/// Cuts off both ends of a token what is not of a class of characters; drops a token of which nothing
-/// is left.
+/// Cuts off both ends of a token what is not of a class of characters; drops a token of which
+/// nothing is left.
 #[derive(Drop)]
 pub struct RegexTrimmer {
     name: String,
@@ -26,8 +26,8 @@ impl RegexTrimmer {
     /// The trimmer of the characters that a class text names.
     ///
     /// A class text is one or more items: a range `x-y`, a character that no `-` follows, or
-    /// `\p{Name}`, the set that the crate `unicode` finds by that name. The characters of `\[]^-&~` stand
-    /// for themselves nowhere. Every other text is `BadClass`.
+    /// `\p{Name}`, the set that the crate `unicode` finds by that name. The characters of `\[]^-&~`
+    /// stand for themselves nowhere. Every other text is `BadClass`.
     pub fn new(alloc: Global, name: &str, word_chars: &str) -> Result<Self, IndexError>
         ensures name { IfOk result (λ trimmer. trimmer_name trimmer ≡ name.now) }
         ensures class { IfOk result (λ trimmer. Names (chars word_chars.now) (keeps trimmer)) }

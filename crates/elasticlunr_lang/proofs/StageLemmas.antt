@@ -1,11 +1,11 @@
 -- On what the stages of the kept languages leave.
-use Rattle.std.proofs.Common.{◌≡◌, ℕ, Bool, List, [], ◌∷◌, Option, Some, None, MatchOption, IsSomeAnd, IsTrue, ◌↔◌, if◌then◌else◌, option_and_then, String, refl, sym, ap, ◌∙◌, subst}
+use Rattle.std.proofs.Common.{◌≡◌, ℕ, Bool, List, [], ◌∷◌, ◌++◌, Option, Some, None, MatchOption, IsSomeAnd, IsTrue, ◌↔◌, if◌then◌else◌, option_and_then, String, refl, sym, ap, ◌∙◌, subst}
 use Rattle.std.proofs.Math.Path.{fun_ext}
 use Rattle.std.specs.Str.{all_scalars}
 use Rattle.std.specs.declared.alloc.Global.{Global}
 use Rattle.std.specs.declared.dyn_box.DynBox.{DynBox}
-use Rattle.elasticlunr_text.specs.Text.{Text, is_listed}
-use Rattle.elasticlunr_text.specs.StopWords.{has_word, without}
+use Rattle.elasticlunr_text.specs.Text.{Text}
+use Rattle.elasticlunr_text.specs.StopWords.{HasWords, without}
 use Rattle.elasticlunr_text.specs.Trimmed.{trimmed, unless_empty, is_word_char}
 use Rattle.elasticlunr_text.specs.Trimmers.{keeps, cut_to_class}
 use Rattle.elasticlunr_text.specs.Stems.{Stem}
@@ -17,10 +17,6 @@ use Rattle.elasticlunr_text.specs.declared.pipeline.stage.Stage.TheVariants.{Eng
 use Rattle.elasticlunr_text.proofs.ScalarLemmas.{scalars-trimmed}
 use Rattle.elasticlunr_lang.specs.Classes.{unless_listed, class_leaves}
 use Rattle.elasticlunr_lang.specs.Languages.{StemOf}
-
--- the filter has these words
-abbrev pub HasWords : StopWordFilter → List Text → Type 0
-HasWords filter words = (token : Text) → IsTrue (all_scalars token) → has_word filter token ≡ is_listed token words
 
 without-words : (filter : StopWordFilter) (words : List Text) (token : Text) → HasWords filter words → IsTrue (all_scalars token) → without filter token ≡ unless_listed words token
 without-words filter words token has scalar = ap (λ b. if b then None else Some token) (has token scalar)
@@ -41,21 +37,22 @@ Stemmed-StemOf (Some t) left = (there, back left)
     back None is = absurd is
     back (Some u) is = (Some u, is, refl)
 
--- stop words and stages behind them that keep every text
-module _ (Behind : Text → Option Text → Type 0) (keeps_all : (t : Text) (left : Option Text) → Behind t left ↔ (left ≡ Some t)) (filter : StopWordFilter) (words : List Text) (has : HasWords filter words) where
+-- a trimmer of a class, and stop words
+module _ (filter : StopWordFilter) (words : List Text) (has : HasWords filter words) where
+  -- what the filter leaves of a text is left
   abbrev Listed : Text → Option Text → Type 0
-  Listed t left = (kept : Option Text) × (kept ≡ without filter t) × MatchOption kept (left ≡ None) (λ u. Behind u left)
+  Listed t left = (kept : Option Text) × (kept ≡ without filter t) × MatchOption kept (left ≡ None) (λ u. left ≡ Some u)
 
-  behind : (kept left : Option Text) → MatchOption kept (left ≡ None) (λ u. Behind u left) ↔ (left ≡ kept)
-  behind None left = (λ e. e, λ e. e)
-  behind (Some u) left = keeps_all u left
+  last : (kept left : Option Text) → MatchOption kept (left ≡ None) (λ u. left ≡ Some u) ↔ (left ≡ kept)
+  last None left = (λ e. e, λ e. e)
+  last (Some u) left = (λ e. e, λ e. e)
 
   Listed-same : (t : Text) (left : Option Text) → IsTrue (all_scalars t) → Listed t left ↔ (left ≡ unless_listed words t)
   Listed-same t left scalar = (
     λ listed.
-        (behind (unless_listed words t) left).0
-        (subst (λ kept. MatchOption kept (left ≡ None) (λ u. Behind u left)) (listed.1 ∙ without-words filter words t has scalar) listed.2),
-    λ e. (unless_listed words t, sym (without-words filter words t has scalar), (behind (unless_listed words t) left).1 e),
+        (last (unless_listed words t) left).0
+        (subst (λ kept. MatchOption kept (left ≡ None) (λ u. left ≡ Some u)) (listed.1 ∙ without-words filter words t has scalar) listed.2),
+    λ e. (unless_listed words t, sym (without-words filter words t has scalar), (last (unless_listed words t) left).1 e),
   )
 
   cut-Listed : (t : Text) (left : Option Text) → IsTrue (all_scalars t) → MatchOption (unless_empty t) (left ≡ None) (λ u. Listed u left) ↔ (left ≡ option_and_then (unless_listed words) (unless_empty t))
@@ -101,12 +98,19 @@ module _ {f x p calls : _} (leaves : DynBox x Global p → Text → Option Text)
   -- a class and stop words
   pub class-leaves : (stages : List (Stage f x p calls)) (trimmer : RegexTrimmer) (filter : StopWordFilter) (in_class : ℕ → Bool) (words : List Text) → stages ≡ Class trimmer ∷ StopWords filter ∷ [] → ((c : ℕ) → keeps trimmer c ≡ in_class c) → HasWords filter words → (token : Text) (left : Option Text) → IsTrue (all_scalars token) → MayLeaveAll leaves stages token left ↔ class_leaves in_class words token left
   class-leaves stages trimmer filter in_class words e same has token left scalar =
-      rw e (class-Listed (λ t left. left ≡ Some t) (λ t left. (λ h. h, λ h. h)) filter words has trimmer in_class token left same scalar)
+      rw e (class-Listed filter words has trimmer in_class token left same scalar)
 
-  -- the same, and a stage that keeps every token
-  pub class_and_keep-leaves : (stages : List (Stage f x p calls)) (trimmer : RegexTrimmer) (filter : StopWordFilter) (name : String Global) (in_class : ℕ → Bool) (words : List Text) → stages ≡ Class trimmer ∷ StopWords filter ∷ Keep name ∷ [] → ((c : ℕ) → keeps trimmer c ≡ in_class c) → HasWords filter words → (token : Text) (left : Option Text) → IsTrue (all_scalars token) → MayLeaveAll leaves stages token left ↔ class_leaves in_class words token left
-  class_and_keep-leaves stages trimmer filter name in_class words e same has token left scalar =
-      rw e (class-Listed (λ t left. (kept : Option Text) × (kept ≡ Some t) × MatchOption kept (left ≡ None) (λ u. left ≡ Some u)) keep filter words has trimmer in_class token left same scalar)
-    where
-      keep : (t : Text) (left : Option Text) → ((kept : Option Text) × (kept ≡ Some t) × MatchOption kept (left ≡ None) (λ u. left ≡ Some u)) ↔ (left ≡ Some t)
-      keep t left = (λ all. subst (λ kept. MatchOption kept (left ≡ None) (λ u. left ≡ Some u)) all.1 all.2, λ h. (Some t, refl, h))
+  -- a last stage that keeps every token leaves what the stages before it leave
+  all-keep : (stages : List (Stage f x p calls)) (name : String Global) (token : Text) (left : Option Text) → MayLeaveAll leaves stages token left → MayLeaveAll leaves (stages ++ Keep name ∷ []) token left
+  all-keep [] name token left same = (Some token, refl, same)
+  all-keep (stage ∷ stages) name token left (None, one, others) = (None, one, others)
+  all-keep (stage ∷ stages) name token left (Some u, one, others) = (Some u, one, all-keep stages name u left others)
+
+  keep-all : (stages : List (Stage f x p calls)) (name : String Global) (token : Text) (left : Option Text) → MayLeaveAll leaves (stages ++ Keep name ∷ []) token left → MayLeaveAll leaves stages token left
+  keep-all [] name token left all = subst (λ kept. MatchOption kept (left ≡ None) (λ u. left ≡ Some u)) all.1 all.2
+  keep-all (stage ∷ stages) name token left (None, one, others) = (None, one, others)
+  keep-all (stage ∷ stages) name token left (Some u, one, others) = (Some u, one, keep-all stages name u left others)
+
+  pub keep-leaves : (stages more : List (Stage f x p calls)) (name : String Global) (R : Text → Option Text → Type 0) → more ≡ stages ++ Keep name ∷ [] → ((token : Text) (left : Option Text) → IsTrue (all_scalars token) → MayLeaveAll leaves stages token left ↔ R token left) → (token : Text) (left : Option Text) → IsTrue (all_scalars token) → MayLeaveAll leaves more token left ↔ R token left
+  keep-leaves stages more name R e same token left scalar =
+      rw e (λ all. (same token left scalar).0 (keep-all stages name token left all), λ holds. all-keep stages name token left ((same token left scalar).1 holds))

@@ -1,7 +1,9 @@
--- The stop words of the kept languages, as texts.
-use Rattle.std.specs.Prelude.{List, map}
+-- The stop words of the kept languages, as texts. A proof sees the words of a list only where it asks for them.
+use Rattle.std.specs.Prelude.{List, [], map}
 use Rattle.std.specs.Str.{chars}
 use Rattle.elasticlunr_text.specs.Text.{Text}
+use Rattle.elasticlunr_lang.specs.declared.any.AnyLanguage.{AnyLanguage}
+use Rattle.elasticlunr_lang.specs.declared.any.AnyLanguage.TheVariants.{English, Arabic, Danish, Dutch, Finnish, French, German, Italian, Korean, Norwegian, Portuguese, Romanian, Russian, Spanish, Swedish, Turkish}
 use Rattle.elasticlunr_lang.specs.declared.stop_words.en.TheConstants as en
 use Rattle.elasticlunr_lang.specs.declared.stop_words.da.TheConstants as da
 use Rattle.elasticlunr_lang.specs.declared.stop_words.du.TheConstants as du
@@ -18,47 +20,66 @@ use Rattle.elasticlunr_lang.specs.declared.stop_words.es.TheConstants as es
 use Rattle.elasticlunr_lang.specs.declared.stop_words.sv.TheConstants as sv
 use Rattle.elasticlunr_lang.specs.declared.stop_words.tr.TheConstants as tr
 
-abbrev pub english_stop_words : List Text
+unfoldable pub english_stop_words : List Text
 english_stop_words = map (λ word. chars word.now) en.STOP_WORDS
 
-abbrev pub danish_stop_words : List Text
+unfoldable pub danish_stop_words : List Text
 danish_stop_words = map (λ word. chars word.now) da.STOP_WORDS
 
-abbrev pub dutch_stop_words : List Text
+unfoldable pub dutch_stop_words : List Text
 dutch_stop_words = map (λ word. chars word.now) du.STOP_WORDS
 
-abbrev pub finnish_stop_words : List Text
+unfoldable pub finnish_stop_words : List Text
 finnish_stop_words = map (λ word. chars word.now) fi.STOP_WORDS
 
-abbrev pub french_stop_words : List Text
+unfoldable pub french_stop_words : List Text
 french_stop_words = map (λ word. chars word.now) fr.STOP_WORDS
 
-abbrev pub german_stop_words : List Text
+unfoldable pub german_stop_words : List Text
 german_stop_words = map (λ word. chars word.now) de.STOP_WORDS
 
-abbrev pub italian_stop_words : List Text
+unfoldable pub italian_stop_words : List Text
 italian_stop_words = map (λ word. chars word.now) it.STOP_WORDS
 
-abbrev pub korean_stop_words : List Text
+unfoldable pub korean_stop_words : List Text
 korean_stop_words = map (λ word. chars word.now) ko.STOP_WORDS
 
-abbrev pub norwegian_stop_words : List Text
+unfoldable pub norwegian_stop_words : List Text
 norwegian_stop_words = map (λ word. chars word.now) no.STOP_WORDS
 
-abbrev pub portuguese_stop_words : List Text
+unfoldable pub portuguese_stop_words : List Text
 portuguese_stop_words = map (λ word. chars word.now) pt.STOP_WORDS
 
-abbrev pub romanian_stop_words : List Text
+unfoldable pub romanian_stop_words : List Text
 romanian_stop_words = map (λ word. chars word.now) ro.STOP_WORDS
 
-abbrev pub russian_stop_words : List Text
+unfoldable pub russian_stop_words : List Text
 russian_stop_words = map (λ word. chars word.now) ru.STOP_WORDS
 
-abbrev pub spanish_stop_words : List Text
+unfoldable pub spanish_stop_words : List Text
 spanish_stop_words = map (λ word. chars word.now) es.STOP_WORDS
 
-abbrev pub swedish_stop_words : List Text
+unfoldable pub swedish_stop_words : List Text
 swedish_stop_words = map (λ word. chars word.now) sv.STOP_WORDS
 
-abbrev pub turkish_stop_words : List Text
+unfoldable pub turkish_stop_words : List Text
 turkish_stop_words = map (λ word. chars word.now) tr.STOP_WORDS
+
+-- the words that the pipeline of a language drops
+abbrev pub language_stop_words : AnyLanguage → List Text
+language_stop_words English = english_stop_words
+language_stop_words Arabic = []
+language_stop_words Danish = danish_stop_words
+language_stop_words Dutch = dutch_stop_words
+language_stop_words Finnish = finnish_stop_words
+language_stop_words French = french_stop_words
+language_stop_words German = german_stop_words
+language_stop_words Italian = italian_stop_words
+language_stop_words Korean = korean_stop_words
+language_stop_words Norwegian = norwegian_stop_words
+language_stop_words Portuguese = portuguese_stop_words
+language_stop_words Romanian = romanian_stop_words
+language_stop_words Russian = russian_stop_words
+language_stop_words Spanish = spanish_stop_words
+language_stop_words Swedish = swedish_stop_words
+language_stop_words Turkish = turkish_stop_words

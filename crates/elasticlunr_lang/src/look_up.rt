@@ -1,7 +1,6 @@
 //! The kept languages by name and by code.
-ghost use Rattle.std.specs.Prelude.{◌≡◌, ◌≢◌, All, map, IfSome, IsNone};
-ghost use Rattle.std.specs.Char.{to_ascii_lowercase};
-ghost use Rattle.elasticlunr_lang.specs.Known.{all_languages, language_name, language_code};
+ghost use Rattle.std.specs.Prelude.{◌≡◌, ◌≢◌, All, IfSome, IsNone};
+ghost use Rattle.elasticlunr_lang.specs.Known.{all_languages, language_name, language_code, SameCode};
 
 use crate::any::AnyLanguage;
 
@@ -44,8 +43,8 @@ pub fn from_name(name: &str) -> Option<AnyLanguage>
 
 /// The language whose code equals the text but for ASCII case, as `de`. Requests no memory.
 pub fn from_code(code: &str) -> Option<AnyLanguage>
-    ensures found { IfSome result (λ language. map to_ascii_lowercase (language_code language) ≡ map to_ascii_lowercase code.now) }
-    ensures none { IsNone result → All (λ language. map to_ascii_lowercase (language_code language) ≢ map to_ascii_lowercase code.now) all_languages }
+    ensures found { IfSome result (λ language. SameCode (language_code language) code.now) }
+    ensures none { IsNone result → All (λ language. ¬ (SameCode (language_code language) code.now)) all_languages }
 {
     for language in languages() {
         if language.as_code().eq_ignore_ascii_case(code) {

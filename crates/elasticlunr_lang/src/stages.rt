@@ -1,13 +1,13 @@
-//! The stages that the kept languages share. Their names and classes are good, so that memory alone
-//! can be wanting.
-ghost use Rattle.std.specs.Prelude.{◌≡◌, ◌∷◌, ◌++◌, [], ℕ, map, string_bytes, IfOk, IsTrue};
-ghost use Rattle.std.specs.Str.{chars, all_scalars};
-ghost use Rattle.elasticlunr_text.specs.Text.{Text, is_listed};
-ghost use Rattle.elasticlunr_text.specs.StopWords.{filter_name, has_word};
+//! The stages of the kept languages. Their names and classes are good, so that memory alone can be
+//! wanting.
+ghost use Rattle.std.specs.Prelude.{◌≡◌, ◌++◌, ℕ, string_bytes, IfOk};
+ghost use Rattle.elasticlunr_text.specs.Text.{word_texts};
+ghost use Rattle.elasticlunr_text.specs.StopWords.{filter_name, HasWords};
 ghost use Rattle.elasticlunr_text.specs.Classes.{in_scripts};
 ghost use Rattle.elasticlunr_text.specs.Trimmers.{trimmer_name, keeps};
 ghost use Rattle.elasticlunr_text.specs.Stages.{names_by, LeavesBy, HasKnownStages};
 ghost use Rattle.elasticlunr_lang.specs.Classes.{class_stages, class_leaves};
+ghost use Rattle.elasticlunr_lang.specs.Languages.{english_stages, stem_leaves, arabic_stages, arabic_leaves, keep_stages};
 
 use elasticlunr_text::lang::common::{RegexTrimmer, StopWordFilter};
 use elasticlunr_text::pipeline::{Pipeline, Stage};
@@ -15,13 +15,13 @@ use std::alloc::{AllocError, Global};
 use unicode::properties::Script;
 
 /// The filter of the stop words.
-pub fn stop_word_filter(
+fn stop_word_filter(
     alloc: Global,
     name: &str,
     stop_words: &[&str],
 ) -> Result<StopWordFilter, AllocError>
     ensures name { IfOk result (λ filter. filter_name filter ≡ name.now) }
-    ensures words { IfOk result (λ filter. (token : Text) → IsTrue (all_scalars token) → has_word filter token ≡ is_listed token (map (λ word. chars word.now) stop_words.now)) }
+    ensures words { IfOk result (λ filter. HasWords filter (word_texts stop_words.now)) }
 {
     match StopWordFilter::new(alloc, name, stop_words) {
         Ok(filter) => Ok(filter),
@@ -30,11 +30,7 @@ pub fn stop_word_filter(
 }
 
 /// The trimmer of the characters of the scripts.
-pub fn class_trimmer(
-    alloc: Global,
-    name: &str,
-    scripts: &[Script],
-) -> Result<RegexTrimmer, AllocError>
+fn class_trimmer(alloc: Global, name: &str, scripts: &[Script]) -> Result<RegexTrimmer, AllocError>
     ensures name { IfOk result (λ trimmer. trimmer_name trimmer ≡ name.now) }
     ensures class { IfOk result (λ trimmer. (c : ℕ) → keeps trimmer c ≡ in_scripts scripts.now c) }
 {
@@ -53,23 +49,75 @@ fn stage_name(alloc: Global, prefix: &str, code: &str) -> Result<String, AllocEr
     Ok(name)
 }
 
-/// The pipeline of a trimmer of one script and of stop words, for the language with the code.
+/// The pipeline of a trimmer of some scripts and of stop words, for the language with the code.
 pub fn class_pipeline(
     alloc: Global,
     code: &str,
-    script: Script,
+    scripts: &[Script],
     stop_words: &[&str],
     empty: Pipeline,
 ) -> Result<Pipeline, AllocError>
     ensures names { IfOk result (λ pipeline. names_by name_text pipeline ≡ class_stages code.now) }
-    ensures leaves { IfOk result (λ pipeline. LeavesBy leaves pipeline (class_leaves (in_scripts (script ∷ [])) (map (λ word. chars word.now) stop_words.now))) }
+    ensures leaves { IfOk result (λ pipeline. LeavesBy leaves pipeline
+        (class_leaves (in_scripts scripts.now) (word_texts stop_words.now))) }
     ensures known { IfOk result (λ pipeline. HasKnownStages pipeline) }
 {
     let mut pipeline = empty;
     let trimmer_name = stage_name(alloc, "trimmer-", code)?;
-    let trimmer = class_trimmer(alloc, trimmer_name.as_str(), &[script])?;
+    let trimmer = class_trimmer(alloc, trimmer_name.as_str(), scripts)?;
     let filter_name = stage_name(alloc, "stopWordFilter-", code)?;
     let filter = stop_word_filter(alloc, filter_name.as_str(), stop_words)?;
     pipeline.queue = vec![in alloc; Stage::Class(trimmer), Stage::StopWords(filter)]?;
+    Ok(pipeline)
+}
+
+/// The same with a last stage that keeps every token.
+pub fn class_and_keep_pipeline(
+    alloc: Global,
+    code: &str,
+    scripts: &[Script],
+    stop_words: &[&str],
+    empty: Pipeline,
+) -> Result<Pipeline, AllocError>
+    ensures names { IfOk result (λ pipeline. names_by name_text pipeline
+        ≡ class_stages code.now ++ keep_stages code.now) }
+    ensures leaves { IfOk result (λ pipeline. LeavesBy leaves pipeline
+        (class_leaves (in_scripts scripts.now) (word_texts stop_words.now))) }
+    ensures known { IfOk result (λ pipeline. HasKnownStages pipeline) }
+{
+    let name = stage_name(alloc, "stemmer-", code)?;
+    let mut pipeline = class_pipeline(alloc, code, scripts, stop_words, empty)?;
+    pipeline.queue.push(Stage::Keep(name))?;
+    Ok(pipeline)
+}
+
+/// The pipeline of the English trimmer, of stop words and of the English stemmer.
+pub fn english_pipeline(
+    alloc: Global,
+    stop_words: &[&str],
+    empty: Pipeline,
+) -> Result<Pipeline, AllocError>
+    ensures names { IfOk result (λ pipeline. names_by name_text pipeline ≡ english_stages) }
+    ensures leaves { IfOk result (λ pipeline. LeavesBy leaves pipeline (stem_leaves (word_texts stop_words.now))) }
+    ensures known { IfOk result (λ pipeline. HasKnownStages pipeline) }
+{
+    let mut pipeline = empty;
+    let filter = stop_word_filter(alloc, "stopWordFilter", stop_words)?;
+    pipeline.queue = vec![in alloc;
+        Stage::EnglishTrimmer,
+        Stage::StopWords(filter),
+        Stage::EnglishStemmer,
+    ]?;
+    Ok(pipeline)
+}
+
+/// The pipeline of the Arabic stemmer.
+pub fn arabic_pipeline(alloc: Global, empty: Pipeline) -> Result<Pipeline, AllocError>
+    ensures names { IfOk result (λ pipeline. names_by name_text pipeline ≡ arabic_stages) }
+    ensures leaves { IfOk result (λ pipeline. LeavesBy leaves pipeline arabic_leaves) }
+    ensures known { IfOk result (λ pipeline. HasKnownStages pipeline) }
+{
+    let mut pipeline = empty;
+    pipeline.queue = vec![in alloc; Stage::ArabicStemmer]?;
     Ok(pipeline)
 }

@@ -1,5 +1,5 @@
 -- On truth values and on lists of numbers.
-use Rattle.std.proofs.Common.{◌≡◌, ℕ, Bool, true, false, ◌&&◌, List, ◌∷◌, refl, sym, ◌∙◌}
+use Rattle.std.proofs.Common.{◌≡◌, ℕ, Bool, true, false, ◌&&◌, List, ◌∷◌, Option, Some, None, IfNone, refl, sym, ◌∙◌}
 
 -- both parts of a conjunction that holds
 pub and_first : (a b : Bool) → a && b ≡ true → a ≡ true
@@ -22,3 +22,8 @@ heads a b xs ys e = cc
 
 pub tails : (a b : ℕ) (xs ys : List ℕ) → a ∷ xs ≡ b ∷ ys → xs ≡ ys
 tails a b xs ys e = cc
+
+-- what holds, holds where there is nothing
+pub IfNone-always : {A P : Type 0} (o : Option A) → P → IfNone o P
+IfNone-always None p = p
+IfNone-always (Some a) p = tt

@@ -8,6 +8,7 @@ pub mod TrimmingLaws
 pub mod CutTextLemmas
 pub mod ScalarLemmas
 pub mod FirstLemmas
+pub mod FirstAtLemmas
 pub mod ItemLemmas
 pub mod TrimLemmas
 pub mod ClassTextLemmas

@@ -8,6 +8,7 @@ use Rattle.std.specs.List.{list_any}
 use Rattle.std.specs.Str.{chars}
 use Rattle.std.specs.declared.string.String.{String}
 use Rattle.std.specs.declared.alloc.Global.{Global}
+use Rattle.std.specs.Borrow.{Bor}
 
 -- a text that is cut or changed, as its characters
 abbrev pub Text : Type 0
@@ -32,6 +33,10 @@ text_of s = chars (string_bytes s)
 -- the characters of some strings
 abbrev pub texts_of : List (String Global) → List Text
 texts_of ss = map text_of ss
+
+-- the characters of some borrowed texts
+abbrev pub word_texts : List (Bor Bytes) → List Text
+word_texts words = map (λ word. chars word.now) words
 
 -- the bytes of some strings
 abbrev pub bytes_of : List (String Global) → List Bytes

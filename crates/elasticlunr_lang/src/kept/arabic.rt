@@ -1,11 +1,11 @@
 //! Arabic.
-ghost use Rattle.std.specs.Prelude.{◌≡◌, codes, ◌∷◌, []};
-ghost use Rattle.elasticlunr_text.specs.Arabic.{arabic_stem};
 ghost use Rattle.elasticlunr_lang.specs.Words.{words};
+ghost use Rattle.elasticlunr_lang.specs.Known.{language_name, language_code, language_stages, language_leaves};
+ghost use Rattle.elasticlunr_lang.specs.declared.any.AnyLanguage.TheVariants.{Arabic as arabic};
 
+use crate::any::AnyLanguage;
 use crate::language::Language;
-use crate::words::tokenize_whitespace;
-use elasticlunr_text::pipeline::{Pipeline, Stage};
+use elasticlunr_text::pipeline::Pipeline;
 use std::alloc::{AllocError, Global};
 
 /// Arabic: a stemmer alone.
@@ -20,31 +20,29 @@ impl Arabic {
 }
 
 impl Language for Arabic {
-    ghost name_of = { λ _. codes "Arabic" };
+    ghost name_of = { λ _. language_name arabic };
 
-    ghost code_of = { λ _. codes "ar" };
+    ghost code_of = { λ _. language_code arabic };
 
     ghost tokens_of = { λ _. words };
 
-    ghost stages_of = { λ _. codes "stemmer-ar" ∷ [] };
+    ghost stages_of = { λ _. language_stages arabic };
 
-    ghost leaves_of = { λ _ token left. left ≡ arabic_stem token };
+    ghost leaves_of = { λ _. language_leaves arabic };
 
     fn name(&self, alloc: Global) -> Result<String, AllocError> {
-        String::from_str(alloc, "Arabic")
+        AnyLanguage::Arabic.name(alloc)
     }
 
     fn code(&self, alloc: Global) -> Result<String, AllocError> {
-        String::from_str(alloc, "ar")
+        AnyLanguage::Arabic.code(alloc)
     }
 
     fn tokenize(&self, alloc: Global, text: &str) -> Result<Vec<String>, AllocError> {
-        tokenize_whitespace(alloc, text)
+        AnyLanguage::Arabic.tokenize(alloc, text)
     }
 
     fn make_pipeline(&self, alloc: Global, empty: Pipeline) -> Result<Pipeline, AllocError> {
-        let mut pipeline = empty;
-        pipeline.queue = vec![in alloc; Stage::ArabicStemmer]?;
-        Ok(pipeline)
+        AnyLanguage::Arabic.make_pipeline(alloc, empty)
     }
 }

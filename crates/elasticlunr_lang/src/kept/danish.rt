@@ -1,16 +1,12 @@
 //! Danish.
-ghost use Rattle.std.specs.Prelude.{codes};
 ghost use Rattle.elasticlunr_lang.specs.Words.{words};
-ghost use Rattle.elasticlunr_lang.specs.Classes.{class_stages, class_leaves, is_latin};
-ghost use Rattle.elasticlunr_lang.specs.StopWords.{danish_stop_words};
+ghost use Rattle.elasticlunr_lang.specs.Known.{language_name, language_code, language_stages, language_leaves};
+ghost use Rattle.elasticlunr_lang.specs.declared.any.AnyLanguage.TheVariants.{Danish as danish};
 
+use crate::any::AnyLanguage;
 use crate::language::Language;
-use crate::stages::class_pipeline;
-use crate::stop_words::da;
-use crate::words::tokenize_whitespace;
 use elasticlunr_text::pipeline::Pipeline;
 use std::alloc::{AllocError, Global};
-use unicode::properties::Script;
 
 /// Danish: a trimmer of the characters of the Latin script, and stop words.
 #[derive(Clone, Copy)]
@@ -24,29 +20,29 @@ impl Danish {
 }
 
 impl Language for Danish {
-    ghost name_of = { λ _. codes "Danish" };
+    ghost name_of = { λ _. language_name danish };
 
-    ghost code_of = { λ _. codes "da" };
+    ghost code_of = { λ _. language_code danish };
 
     ghost tokens_of = { λ _. words };
 
-    ghost stages_of = { λ _. class_stages (codes "da") };
+    ghost stages_of = { λ _. language_stages danish };
 
-    ghost leaves_of = { λ _. class_leaves is_latin danish_stop_words };
+    ghost leaves_of = { λ _. language_leaves danish };
 
     fn name(&self, alloc: Global) -> Result<String, AllocError> {
-        String::from_str(alloc, "Danish")
+        AnyLanguage::Danish.name(alloc)
     }
 
     fn code(&self, alloc: Global) -> Result<String, AllocError> {
-        String::from_str(alloc, "da")
+        AnyLanguage::Danish.code(alloc)
     }
 
     fn tokenize(&self, alloc: Global, text: &str) -> Result<Vec<String>, AllocError> {
-        tokenize_whitespace(alloc, text)
+        AnyLanguage::Danish.tokenize(alloc, text)
     }
 
     fn make_pipeline(&self, alloc: Global, empty: Pipeline) -> Result<Pipeline, AllocError> {
-        class_pipeline(alloc, "da", Script::Latin, &da::STOP_WORDS, empty)
+        AnyLanguage::Danish.make_pipeline(alloc, empty)
     }
 }

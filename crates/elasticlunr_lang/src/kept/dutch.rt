@@ -1,16 +1,12 @@
 //! Dutch.
-ghost use Rattle.std.specs.Prelude.{codes};
 ghost use Rattle.elasticlunr_lang.specs.Words.{words};
-ghost use Rattle.elasticlunr_lang.specs.Classes.{class_stages, class_leaves, is_latin};
-ghost use Rattle.elasticlunr_lang.specs.StopWords.{dutch_stop_words};
+ghost use Rattle.elasticlunr_lang.specs.Known.{language_name, language_code, language_stages, language_leaves};
+ghost use Rattle.elasticlunr_lang.specs.declared.any.AnyLanguage.TheVariants.{Dutch as dutch};
 
+use crate::any::AnyLanguage;
 use crate::language::Language;
-use crate::stages::class_pipeline;
-use crate::stop_words::du;
-use crate::words::tokenize_whitespace;
 use elasticlunr_text::pipeline::Pipeline;
 use std::alloc::{AllocError, Global};
-use unicode::properties::Script;
 
 /// Dutch: a trimmer of the characters of the Latin script, and stop words.
 #[derive(Clone, Copy)]
@@ -24,29 +20,29 @@ impl Dutch {
 }
 
 impl Language for Dutch {
-    ghost name_of = { λ _. codes "Dutch" };
+    ghost name_of = { λ _. language_name dutch };
 
-    ghost code_of = { λ _. codes "du" };
+    ghost code_of = { λ _. language_code dutch };
 
     ghost tokens_of = { λ _. words };
 
-    ghost stages_of = { λ _. class_stages (codes "du") };
+    ghost stages_of = { λ _. language_stages dutch };
 
-    ghost leaves_of = { λ _. class_leaves is_latin dutch_stop_words };
+    ghost leaves_of = { λ _. language_leaves dutch };
 
     fn name(&self, alloc: Global) -> Result<String, AllocError> {
-        String::from_str(alloc, "Dutch")
+        AnyLanguage::Dutch.name(alloc)
     }
 
     fn code(&self, alloc: Global) -> Result<String, AllocError> {
-        String::from_str(alloc, "du")
+        AnyLanguage::Dutch.code(alloc)
     }
 
     fn tokenize(&self, alloc: Global, text: &str) -> Result<Vec<String>, AllocError> {
-        tokenize_whitespace(alloc, text)
+        AnyLanguage::Dutch.tokenize(alloc, text)
     }
 
     fn make_pipeline(&self, alloc: Global, empty: Pipeline) -> Result<Pipeline, AllocError> {
-        class_pipeline(alloc, "du", Script::Latin, &du::STOP_WORDS, empty)
+        AnyLanguage::Dutch.make_pipeline(alloc, empty)
     }
 }

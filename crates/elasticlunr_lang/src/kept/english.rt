@@ -1,13 +1,11 @@
 //! English.
-ghost use Rattle.std.specs.Prelude.{codes};
 ghost use Rattle.elasticlunr_lang.specs.Words.{words};
-ghost use Rattle.elasticlunr_lang.specs.Languages.{english_stages, english_leaves};
+ghost use Rattle.elasticlunr_lang.specs.Known.{language_name, language_code, language_stages, language_leaves};
+ghost use Rattle.elasticlunr_lang.specs.declared.any.AnyLanguage.TheVariants.{English as english};
 
+use crate::any::AnyLanguage;
 use crate::language::Language;
-use crate::stages::stop_word_filter;
-use crate::stop_words::en;
-use crate::words::tokenize_whitespace;
-use elasticlunr_text::pipeline::{Pipeline, Stage};
+use elasticlunr_text::pipeline::Pipeline;
 use std::alloc::{AllocError, Global};
 
 /// English: trimmer, stop words, stemmer.
@@ -22,36 +20,29 @@ impl English {
 }
 
 impl Language for English {
-    ghost name_of = { λ _. codes "English" };
+    ghost name_of = { λ _. language_name english };
 
-    ghost code_of = { λ _. codes "en" };
+    ghost code_of = { λ _. language_code english };
 
     ghost tokens_of = { λ _. words };
 
-    ghost stages_of = { λ _. english_stages };
+    ghost stages_of = { λ _. language_stages english };
 
-    ghost leaves_of = { λ _. english_leaves };
+    ghost leaves_of = { λ _. language_leaves english };
 
     fn name(&self, alloc: Global) -> Result<String, AllocError> {
-        String::from_str(alloc, "English")
+        AnyLanguage::English.name(alloc)
     }
 
     fn code(&self, alloc: Global) -> Result<String, AllocError> {
-        String::from_str(alloc, "en")
+        AnyLanguage::English.code(alloc)
     }
 
     fn tokenize(&self, alloc: Global, text: &str) -> Result<Vec<String>, AllocError> {
-        tokenize_whitespace(alloc, text)
+        AnyLanguage::English.tokenize(alloc, text)
     }
 
     fn make_pipeline(&self, alloc: Global, empty: Pipeline) -> Result<Pipeline, AllocError> {
-        let mut pipeline = empty;
-        let filter = stop_word_filter(alloc, "stopWordFilter", &en::STOP_WORDS)?;
-        pipeline.queue = vec![in alloc;
-            Stage::EnglishTrimmer,
-            Stage::StopWords(filter),
-            Stage::EnglishStemmer,
-        ]?;
-        Ok(pipeline)
+        AnyLanguage::English.make_pipeline(alloc, empty)
     }
 }

@@ -1,16 +1,12 @@
 //! Finnish.
-ghost use Rattle.std.specs.Prelude.{codes};
 ghost use Rattle.elasticlunr_lang.specs.Words.{words};
-ghost use Rattle.elasticlunr_lang.specs.Classes.{class_stages, class_leaves, is_latin};
-ghost use Rattle.elasticlunr_lang.specs.StopWords.{finnish_stop_words};
+ghost use Rattle.elasticlunr_lang.specs.Known.{language_name, language_code, language_stages, language_leaves};
+ghost use Rattle.elasticlunr_lang.specs.declared.any.AnyLanguage.TheVariants.{Finnish as finnish};
 
+use crate::any::AnyLanguage;
 use crate::language::Language;
-use crate::stages::class_pipeline;
-use crate::stop_words::fi;
-use crate::words::tokenize_whitespace;
 use elasticlunr_text::pipeline::Pipeline;
 use std::alloc::{AllocError, Global};
-use unicode::properties::Script;
 
 /// Finnish: a trimmer of the characters of the Latin script, and stop words.
 #[derive(Clone, Copy)]
@@ -24,29 +20,29 @@ impl Finnish {
 }
 
 impl Language for Finnish {
-    ghost name_of = { λ _. codes "Finnish" };
+    ghost name_of = { λ _. language_name finnish };
 
-    ghost code_of = { λ _. codes "fi" };
+    ghost code_of = { λ _. language_code finnish };
 
     ghost tokens_of = { λ _. words };
 
-    ghost stages_of = { λ _. class_stages (codes "fi") };
+    ghost stages_of = { λ _. language_stages finnish };
 
-    ghost leaves_of = { λ _. class_leaves is_latin finnish_stop_words };
+    ghost leaves_of = { λ _. language_leaves finnish };
 
     fn name(&self, alloc: Global) -> Result<String, AllocError> {
-        String::from_str(alloc, "Finnish")
+        AnyLanguage::Finnish.name(alloc)
     }
 
     fn code(&self, alloc: Global) -> Result<String, AllocError> {
-        String::from_str(alloc, "fi")
+        AnyLanguage::Finnish.code(alloc)
     }
 
     fn tokenize(&self, alloc: Global, text: &str) -> Result<Vec<String>, AllocError> {
-        tokenize_whitespace(alloc, text)
+        AnyLanguage::Finnish.tokenize(alloc, text)
     }
 
     fn make_pipeline(&self, alloc: Global, empty: Pipeline) -> Result<Pipeline, AllocError> {
-        class_pipeline(alloc, "fi", Script::Latin, &fi::STOP_WORDS, empty)
+        AnyLanguage::Finnish.make_pipeline(alloc, empty)
     }
 }

@@ -1,16 +1,12 @@
 //! German.
-ghost use Rattle.std.specs.Prelude.{codes};
 ghost use Rattle.elasticlunr_lang.specs.Words.{words};
-ghost use Rattle.elasticlunr_lang.specs.Classes.{class_stages, class_leaves, is_latin};
-ghost use Rattle.elasticlunr_lang.specs.StopWords.{german_stop_words};
+ghost use Rattle.elasticlunr_lang.specs.Known.{language_name, language_code, language_stages, language_leaves};
+ghost use Rattle.elasticlunr_lang.specs.declared.any.AnyLanguage.TheVariants.{German as german};
 
+use crate::any::AnyLanguage;
 use crate::language::Language;
-use crate::stages::class_pipeline;
-use crate::stop_words::de;
-use crate::words::tokenize_whitespace;
 use elasticlunr_text::pipeline::Pipeline;
 use std::alloc::{AllocError, Global};
-use unicode::properties::Script;
 
 /// German: a trimmer of the characters of the Latin script, and stop words.
 #[derive(Clone, Copy)]
@@ -24,29 +20,29 @@ impl German {
 }
 
 impl Language for German {
-    ghost name_of = { λ _. codes "German" };
+    ghost name_of = { λ _. language_name german };
 
-    ghost code_of = { λ _. codes "de" };
+    ghost code_of = { λ _. language_code german };
 
     ghost tokens_of = { λ _. words };
 
-    ghost stages_of = { λ _. class_stages (codes "de") };
+    ghost stages_of = { λ _. language_stages german };
 
-    ghost leaves_of = { λ _. class_leaves is_latin german_stop_words };
+    ghost leaves_of = { λ _. language_leaves german };
 
     fn name(&self, alloc: Global) -> Result<String, AllocError> {
-        String::from_str(alloc, "German")
+        AnyLanguage::German.name(alloc)
     }
 
     fn code(&self, alloc: Global) -> Result<String, AllocError> {
-        String::from_str(alloc, "de")
+        AnyLanguage::German.code(alloc)
     }
 
     fn tokenize(&self, alloc: Global, text: &str) -> Result<Vec<String>, AllocError> {
-        tokenize_whitespace(alloc, text)
+        AnyLanguage::German.tokenize(alloc, text)
     }
 
     fn make_pipeline(&self, alloc: Global, empty: Pipeline) -> Result<Pipeline, AllocError> {
-        class_pipeline(alloc, "de", Script::Latin, &de::STOP_WORDS, empty)
+        AnyLanguage::German.make_pipeline(alloc, empty)
     }
 }

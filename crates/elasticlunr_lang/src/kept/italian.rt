@@ -1,16 +1,12 @@
 //! Italian.
-ghost use Rattle.std.specs.Prelude.{codes};
 ghost use Rattle.elasticlunr_lang.specs.Words.{words};
-ghost use Rattle.elasticlunr_lang.specs.Classes.{class_stages, class_leaves, is_latin};
-ghost use Rattle.elasticlunr_lang.specs.StopWords.{italian_stop_words};
+ghost use Rattle.elasticlunr_lang.specs.Known.{language_name, language_code, language_stages, language_leaves};
+ghost use Rattle.elasticlunr_lang.specs.declared.any.AnyLanguage.TheVariants.{Italian as italian};
 
+use crate::any::AnyLanguage;
 use crate::language::Language;
-use crate::stages::class_pipeline;
-use crate::stop_words::it;
-use crate::words::tokenize_whitespace;
 use elasticlunr_text::pipeline::Pipeline;
 use std::alloc::{AllocError, Global};
-use unicode::properties::Script;
 
 /// Italian: a trimmer of the characters of the Latin script, and stop words.
 #[derive(Clone, Copy)]
@@ -24,29 +20,29 @@ impl Italian {
 }
 
 impl Language for Italian {
-    ghost name_of = { λ _. codes "Italian" };
+    ghost name_of = { λ _. language_name italian };
 
-    ghost code_of = { λ _. codes "it" };
+    ghost code_of = { λ _. language_code italian };
 
     ghost tokens_of = { λ _. words };
 
-    ghost stages_of = { λ _. class_stages (codes "it") };
+    ghost stages_of = { λ _. language_stages italian };
 
-    ghost leaves_of = { λ _. class_leaves is_latin italian_stop_words };
+    ghost leaves_of = { λ _. language_leaves italian };
 
     fn name(&self, alloc: Global) -> Result<String, AllocError> {
-        String::from_str(alloc, "Italian")
+        AnyLanguage::Italian.name(alloc)
     }
 
     fn code(&self, alloc: Global) -> Result<String, AllocError> {
-        String::from_str(alloc, "it")
+        AnyLanguage::Italian.code(alloc)
     }
 
     fn tokenize(&self, alloc: Global, text: &str) -> Result<Vec<String>, AllocError> {
-        tokenize_whitespace(alloc, text)
+        AnyLanguage::Italian.tokenize(alloc, text)
     }
 
     fn make_pipeline(&self, alloc: Global, empty: Pipeline) -> Result<Pipeline, AllocError> {
-        class_pipeline(alloc, "it", Script::Latin, &it::STOP_WORDS, empty)
+        AnyLanguage::Italian.make_pipeline(alloc, empty)
     }
 }

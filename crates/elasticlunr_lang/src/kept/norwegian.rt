@@ -1,16 +1,12 @@
 //! Norwegian.
-ghost use Rattle.std.specs.Prelude.{codes};
 ghost use Rattle.elasticlunr_lang.specs.Words.{words};
-ghost use Rattle.elasticlunr_lang.specs.Classes.{class_stages, class_leaves, is_latin};
-ghost use Rattle.elasticlunr_lang.specs.StopWords.{norwegian_stop_words};
+ghost use Rattle.elasticlunr_lang.specs.Known.{language_name, language_code, language_stages, language_leaves};
+ghost use Rattle.elasticlunr_lang.specs.declared.any.AnyLanguage.TheVariants.{Norwegian as norwegian};
 
+use crate::any::AnyLanguage;
 use crate::language::Language;
-use crate::stages::class_pipeline;
-use crate::stop_words::no;
-use crate::words::tokenize_whitespace;
 use elasticlunr_text::pipeline::Pipeline;
 use std::alloc::{AllocError, Global};
-use unicode::properties::Script;
 
 /// Norwegian: a trimmer of the characters of the Latin script, and stop words.
 #[derive(Clone, Copy)]
@@ -24,29 +20,29 @@ impl Norwegian {
 }
 
 impl Language for Norwegian {
-    ghost name_of = { λ _. codes "Norwegian" };
+    ghost name_of = { λ _. language_name norwegian };
 
-    ghost code_of = { λ _. codes "no" };
+    ghost code_of = { λ _. language_code norwegian };
 
     ghost tokens_of = { λ _. words };
 
-    ghost stages_of = { λ _. class_stages (codes "no") };
+    ghost stages_of = { λ _. language_stages norwegian };
 
-    ghost leaves_of = { λ _. class_leaves is_latin norwegian_stop_words };
+    ghost leaves_of = { λ _. language_leaves norwegian };
 
     fn name(&self, alloc: Global) -> Result<String, AllocError> {
-        String::from_str(alloc, "Norwegian")
+        AnyLanguage::Norwegian.name(alloc)
     }
 
     fn code(&self, alloc: Global) -> Result<String, AllocError> {
-        String::from_str(alloc, "no")
+        AnyLanguage::Norwegian.code(alloc)
     }
 
     fn tokenize(&self, alloc: Global, text: &str) -> Result<Vec<String>, AllocError> {
-        tokenize_whitespace(alloc, text)
+        AnyLanguage::Norwegian.tokenize(alloc, text)
     }
 
     fn make_pipeline(&self, alloc: Global, empty: Pipeline) -> Result<Pipeline, AllocError> {
-        class_pipeline(alloc, "no", Script::Latin, &no::STOP_WORDS, empty)
+        AnyLanguage::Norwegian.make_pipeline(alloc, empty)
     }
 }

@@ -1,16 +1,12 @@
 //! Portuguese.
-ghost use Rattle.std.specs.Prelude.{codes};
 ghost use Rattle.elasticlunr_lang.specs.Words.{words};
-ghost use Rattle.elasticlunr_lang.specs.Classes.{class_stages, class_leaves, is_latin};
-ghost use Rattle.elasticlunr_lang.specs.StopWords.{portuguese_stop_words};
+ghost use Rattle.elasticlunr_lang.specs.Known.{language_name, language_code, language_stages, language_leaves};
+ghost use Rattle.elasticlunr_lang.specs.declared.any.AnyLanguage.TheVariants.{Portuguese as portuguese};
 
+use crate::any::AnyLanguage;
 use crate::language::Language;
-use crate::stages::class_pipeline;
-use crate::stop_words::pt;
-use crate::words::tokenize_whitespace;
 use elasticlunr_text::pipeline::Pipeline;
 use std::alloc::{AllocError, Global};
-use unicode::properties::Script;
 
 /// Portuguese: a trimmer of the characters of the Latin script, and stop words.
 #[derive(Clone, Copy)]
@@ -24,29 +20,29 @@ impl Portuguese {
 }
 
 impl Language for Portuguese {
-    ghost name_of = { λ _. codes "Portuguese" };
+    ghost name_of = { λ _. language_name portuguese };
 
-    ghost code_of = { λ _. codes "pt" };
+    ghost code_of = { λ _. language_code portuguese };
 
     ghost tokens_of = { λ _. words };
 
-    ghost stages_of = { λ _. class_stages (codes "pt") };
+    ghost stages_of = { λ _. language_stages portuguese };
 
-    ghost leaves_of = { λ _. class_leaves is_latin portuguese_stop_words };
+    ghost leaves_of = { λ _. language_leaves portuguese };
 
     fn name(&self, alloc: Global) -> Result<String, AllocError> {
-        String::from_str(alloc, "Portuguese")
+        AnyLanguage::Portuguese.name(alloc)
     }
 
     fn code(&self, alloc: Global) -> Result<String, AllocError> {
-        String::from_str(alloc, "pt")
+        AnyLanguage::Portuguese.code(alloc)
     }
 
     fn tokenize(&self, alloc: Global, text: &str) -> Result<Vec<String>, AllocError> {
-        tokenize_whitespace(alloc, text)
+        AnyLanguage::Portuguese.tokenize(alloc, text)
     }
 
     fn make_pipeline(&self, alloc: Global, empty: Pipeline) -> Result<Pipeline, AllocError> {
-        class_pipeline(alloc, "pt", Script::Latin, &pt::STOP_WORDS, empty)
+        AnyLanguage::Portuguese.make_pipeline(alloc, empty)
     }
 }

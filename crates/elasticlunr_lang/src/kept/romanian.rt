@@ -1,16 +1,12 @@
 //! Romanian.
-ghost use Rattle.std.specs.Prelude.{codes};
 ghost use Rattle.elasticlunr_lang.specs.Words.{words};
-ghost use Rattle.elasticlunr_lang.specs.Classes.{class_stages, class_leaves, is_latin};
-ghost use Rattle.elasticlunr_lang.specs.StopWords.{romanian_stop_words};
+ghost use Rattle.elasticlunr_lang.specs.Known.{language_name, language_code, language_stages, language_leaves};
+ghost use Rattle.elasticlunr_lang.specs.declared.any.AnyLanguage.TheVariants.{Romanian as romanian};
 
+use crate::any::AnyLanguage;
 use crate::language::Language;
-use crate::stages::class_pipeline;
-use crate::stop_words::ro;
-use crate::words::tokenize_whitespace;
 use elasticlunr_text::pipeline::Pipeline;
 use std::alloc::{AllocError, Global};
-use unicode::properties::Script;
 
 /// Romanian: a trimmer of the characters of the Latin script, and stop words.
 #[derive(Clone, Copy)]
@@ -24,29 +20,29 @@ impl Romanian {
 }
 
 impl Language for Romanian {
-    ghost name_of = { λ _. codes "Romanian" };
+    ghost name_of = { λ _. language_name romanian };
 
-    ghost code_of = { λ _. codes "ro" };
+    ghost code_of = { λ _. language_code romanian };
 
     ghost tokens_of = { λ _. words };
 
-    ghost stages_of = { λ _. class_stages (codes "ro") };
+    ghost stages_of = { λ _. language_stages romanian };
 
-    ghost leaves_of = { λ _. class_leaves is_latin romanian_stop_words };
+    ghost leaves_of = { λ _. language_leaves romanian };
 
     fn name(&self, alloc: Global) -> Result<String, AllocError> {
-        String::from_str(alloc, "Romanian")
+        AnyLanguage::Romanian.name(alloc)
     }
 
     fn code(&self, alloc: Global) -> Result<String, AllocError> {
-        String::from_str(alloc, "ro")
+        AnyLanguage::Romanian.code(alloc)
     }
 
     fn tokenize(&self, alloc: Global, text: &str) -> Result<Vec<String>, AllocError> {
-        tokenize_whitespace(alloc, text)
+        AnyLanguage::Romanian.tokenize(alloc, text)
     }
 
     fn make_pipeline(&self, alloc: Global, empty: Pipeline) -> Result<Pipeline, AllocError> {
-        class_pipeline(alloc, "ro", Script::Latin, &ro::STOP_WORDS, empty)
+        AnyLanguage::Romanian.make_pipeline(alloc, empty)
     }
 }

@@ -1,16 +1,12 @@
 //! Russian.
-ghost use Rattle.std.specs.Prelude.{codes};
 ghost use Rattle.elasticlunr_lang.specs.Words.{words};
-ghost use Rattle.elasticlunr_lang.specs.Classes.{class_stages, class_leaves, is_cyrillic};
-ghost use Rattle.elasticlunr_lang.specs.StopWords.{russian_stop_words};
+ghost use Rattle.elasticlunr_lang.specs.Known.{language_name, language_code, language_stages, language_leaves};
+ghost use Rattle.elasticlunr_lang.specs.declared.any.AnyLanguage.TheVariants.{Russian as russian};
 
+use crate::any::AnyLanguage;
 use crate::language::Language;
-use crate::stages::class_pipeline;
-use crate::stop_words::ru;
-use crate::words::tokenize_whitespace;
 use elasticlunr_text::pipeline::Pipeline;
 use std::alloc::{AllocError, Global};
-use unicode::properties::Script;
 
 /// Russian: a trimmer of the characters of the Cyrillic script, and stop words.
 #[derive(Clone, Copy)]
@@ -24,29 +20,29 @@ impl Russian {
 }
 
 impl Language for Russian {
-    ghost name_of = { λ _. codes "Russian" };
+    ghost name_of = { λ _. language_name russian };
 
-    ghost code_of = { λ _. codes "ru" };
+    ghost code_of = { λ _. language_code russian };
 
     ghost tokens_of = { λ _. words };
 
-    ghost stages_of = { λ _. class_stages (codes "ru") };
+    ghost stages_of = { λ _. language_stages russian };
 
-    ghost leaves_of = { λ _. class_leaves is_cyrillic russian_stop_words };
+    ghost leaves_of = { λ _. language_leaves russian };
 
     fn name(&self, alloc: Global) -> Result<String, AllocError> {
-        String::from_str(alloc, "Russian")
+        AnyLanguage::Russian.name(alloc)
     }
 
     fn code(&self, alloc: Global) -> Result<String, AllocError> {
-        String::from_str(alloc, "ru")
+        AnyLanguage::Russian.code(alloc)
     }
 
     fn tokenize(&self, alloc: Global, text: &str) -> Result<Vec<String>, AllocError> {
-        tokenize_whitespace(alloc, text)
+        AnyLanguage::Russian.tokenize(alloc, text)
     }
 
     fn make_pipeline(&self, alloc: Global, empty: Pipeline) -> Result<Pipeline, AllocError> {
-        class_pipeline(alloc, "ru", Script::Cyrillic, &ru::STOP_WORDS, empty)
+        AnyLanguage::Russian.make_pipeline(alloc, empty)
     }
 }

@@ -1,16 +1,12 @@
 //! Spanish.
-ghost use Rattle.std.specs.Prelude.{codes};
 ghost use Rattle.elasticlunr_lang.specs.Words.{words};
-ghost use Rattle.elasticlunr_lang.specs.Classes.{class_stages, class_leaves, is_latin};
-ghost use Rattle.elasticlunr_lang.specs.StopWords.{spanish_stop_words};
+ghost use Rattle.elasticlunr_lang.specs.Known.{language_name, language_code, language_stages, language_leaves};
+ghost use Rattle.elasticlunr_lang.specs.declared.any.AnyLanguage.TheVariants.{Spanish as spanish};
 
+use crate::any::AnyLanguage;
 use crate::language::Language;
-use crate::stages::class_pipeline;
-use crate::stop_words::es;
-use crate::words::tokenize_whitespace;
 use elasticlunr_text::pipeline::Pipeline;
 use std::alloc::{AllocError, Global};
-use unicode::properties::Script;
 
 /// Spanish: a trimmer of the characters of the Latin script, and stop words.
 #[derive(Clone, Copy)]
@@ -24,29 +20,29 @@ impl Spanish {
 }
 
 impl Language for Spanish {
-    ghost name_of = { λ _. codes "Spanish" };
+    ghost name_of = { λ _. language_name spanish };
 
-    ghost code_of = { λ _. codes "es" };
+    ghost code_of = { λ _. language_code spanish };
 
     ghost tokens_of = { λ _. words };
 
-    ghost stages_of = { λ _. class_stages (codes "es") };
+    ghost stages_of = { λ _. language_stages spanish };
 
-    ghost leaves_of = { λ _. class_leaves is_latin spanish_stop_words };
+    ghost leaves_of = { λ _. language_leaves spanish };
 
     fn name(&self, alloc: Global) -> Result<String, AllocError> {
-        String::from_str(alloc, "Spanish")
+        AnyLanguage::Spanish.name(alloc)
     }
 
     fn code(&self, alloc: Global) -> Result<String, AllocError> {
-        String::from_str(alloc, "es")
+        AnyLanguage::Spanish.code(alloc)
     }
 
     fn tokenize(&self, alloc: Global, text: &str) -> Result<Vec<String>, AllocError> {
-        tokenize_whitespace(alloc, text)
+        AnyLanguage::Spanish.tokenize(alloc, text)
     }
 
     fn make_pipeline(&self, alloc: Global, empty: Pipeline) -> Result<Pipeline, AllocError> {
-        class_pipeline(alloc, "es", Script::Latin, &es::STOP_WORDS, empty)
+        AnyLanguage::Spanish.make_pipeline(alloc, empty)
     }
 }

@@ -1,16 +1,12 @@
 //! Swedish.
-ghost use Rattle.std.specs.Prelude.{codes};
 ghost use Rattle.elasticlunr_lang.specs.Words.{words};
-ghost use Rattle.elasticlunr_lang.specs.Classes.{class_stages, class_leaves, is_latin};
-ghost use Rattle.elasticlunr_lang.specs.StopWords.{swedish_stop_words};
+ghost use Rattle.elasticlunr_lang.specs.Known.{language_name, language_code, language_stages, language_leaves};
+ghost use Rattle.elasticlunr_lang.specs.declared.any.AnyLanguage.TheVariants.{Swedish as swedish};
 
+use crate::any::AnyLanguage;
 use crate::language::Language;
-use crate::stages::class_pipeline;
-use crate::stop_words::sv;
-use crate::words::tokenize_whitespace;
 use elasticlunr_text::pipeline::Pipeline;
 use std::alloc::{AllocError, Global};
-use unicode::properties::Script;
 
 /// Swedish: a trimmer of the characters of the Latin script, and stop words.
 #[derive(Clone, Copy)]
@@ -24,29 +20,29 @@ impl Swedish {
 }
 
 impl Language for Swedish {
-    ghost name_of = { λ _. codes "Swedish" };
+    ghost name_of = { λ _. language_name swedish };
 
-    ghost code_of = { λ _. codes "sv" };
+    ghost code_of = { λ _. language_code swedish };
 
     ghost tokens_of = { λ _. words };
 
-    ghost stages_of = { λ _. class_stages (codes "sv") };
+    ghost stages_of = { λ _. language_stages swedish };
 
-    ghost leaves_of = { λ _. class_leaves is_latin swedish_stop_words };
+    ghost leaves_of = { λ _. language_leaves swedish };
 
     fn name(&self, alloc: Global) -> Result<String, AllocError> {
-        String::from_str(alloc, "Swedish")
+        AnyLanguage::Swedish.name(alloc)
     }
 
     fn code(&self, alloc: Global) -> Result<String, AllocError> {
-        String::from_str(alloc, "sv")
+        AnyLanguage::Swedish.code(alloc)
     }
 
     fn tokenize(&self, alloc: Global, text: &str) -> Result<Vec<String>, AllocError> {
-        tokenize_whitespace(alloc, text)
+        AnyLanguage::Swedish.tokenize(alloc, text)
     }
 
     fn make_pipeline(&self, alloc: Global, empty: Pipeline) -> Result<Pipeline, AllocError> {
-        class_pipeline(alloc, "sv", Script::Latin, &sv::STOP_WORDS, empty)
+        AnyLanguage::Swedish.make_pipeline(alloc, empty)
     }
 }

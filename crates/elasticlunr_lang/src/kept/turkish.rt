@@ -1,16 +1,12 @@
 //! Turkish.
-ghost use Rattle.std.specs.Prelude.{codes};
 ghost use Rattle.elasticlunr_lang.specs.Words.{words};
-ghost use Rattle.elasticlunr_lang.specs.Classes.{class_stages, class_leaves, is_latin};
-ghost use Rattle.elasticlunr_lang.specs.StopWords.{turkish_stop_words};
+ghost use Rattle.elasticlunr_lang.specs.Known.{language_name, language_code, language_stages, language_leaves};
+ghost use Rattle.elasticlunr_lang.specs.declared.any.AnyLanguage.TheVariants.{Turkish as turkish};
 
+use crate::any::AnyLanguage;
 use crate::language::Language;
-use crate::stages::class_pipeline;
-use crate::stop_words::tr;
-use crate::words::tokenize_whitespace;
 use elasticlunr_text::pipeline::Pipeline;
 use std::alloc::{AllocError, Global};
-use unicode::properties::Script;
 
 /// Turkish: a trimmer of the characters of the Latin script, and stop words.
 #[derive(Clone, Copy)]
@@ -24,29 +20,29 @@ impl Turkish {
 }
 
 impl Language for Turkish {
-    ghost name_of = { λ _. codes "Turkish" };
+    ghost name_of = { λ _. language_name turkish };
 
-    ghost code_of = { λ _. codes "tr" };
+    ghost code_of = { λ _. language_code turkish };
 
     ghost tokens_of = { λ _. words };
 
-    ghost stages_of = { λ _. class_stages (codes "tr") };
+    ghost stages_of = { λ _. language_stages turkish };
 
-    ghost leaves_of = { λ _. class_leaves is_latin turkish_stop_words };
+    ghost leaves_of = { λ _. language_leaves turkish };
 
     fn name(&self, alloc: Global) -> Result<String, AllocError> {
-        String::from_str(alloc, "Turkish")
+        AnyLanguage::Turkish.name(alloc)
     }
 
     fn code(&self, alloc: Global) -> Result<String, AllocError> {
-        String::from_str(alloc, "tr")
+        AnyLanguage::Turkish.code(alloc)
     }
 
     fn tokenize(&self, alloc: Global, text: &str) -> Result<Vec<String>, AllocError> {
-        tokenize_whitespace(alloc, text)
+        AnyLanguage::Turkish.tokenize(alloc, text)
     }
 
     fn make_pipeline(&self, alloc: Global, empty: Pipeline) -> Result<Pipeline, AllocError> {
-        class_pipeline(alloc, "tr", Script::Latin, &tr::STOP_WORDS, empty)
+        AnyLanguage::Turkish.make_pipeline(alloc, empty)
     }
 }

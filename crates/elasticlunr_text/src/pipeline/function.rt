@@ -3,6 +3,7 @@ ghost use Rattle.std.specs.Prelude.{◌≡◌, Option, String, Ok, option_map};
 ghost use Rattle.std.specs.declared.alloc.Global.{Global};
 ghost use Rattle.elasticlunr_text.specs.Text.{text_of};
 
+use crate::IndexError;
 use std::alloc::{AllocError, Global};
 
 /// A step of a pipeline: it keeps a token, changes it or drops it.
@@ -49,7 +50,7 @@ pub struct FnWrapper {
 }
 
 impl FnWrapper {
-    ghost use Rattle.std.specs.Prelude.{IfOk, string_bytes};
+    ghost use Rattle.std.specs.Prelude.{IfOk, IsOkUnless, string_bytes};
     ghost use Rattle.elasticlunr_text.specs.Answers.{MayAnswer};
 
     /// The name of the function.
@@ -60,9 +61,10 @@ impl FnWrapper {
     }
 
     /// The wrapper with the same name and the same function.
-    pub fn clone(&self, _alloc: Global) -> Result<Self, AllocError>
+    pub fn clone(&self, _alloc: Global) -> Result<Self, IndexError>
         ensures name { IfOk result (λ copy. string_bytes copy.name ≡ string_bytes self.now.name) }
         ensures function { IfOk result (λ copy. copy.function ≡ self.now.function) }
+        ensures memory { IsOkUnless result IndexError.Memory }
     {
         Ok(FnWrapper {
             name: self.name.clone()?,

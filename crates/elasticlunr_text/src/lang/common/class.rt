@@ -2,7 +2,7 @@
 ghost use Rattle.std.specs.Prelude.{◌≡◌, ℕ, IfOk};
 ghost use Rattle.std.specs.Str.{chars};
 ghost use Rattle.elasticlunr_text.specs.Text.{text_of};
-ghost use Rattle.elasticlunr_text.specs.Trimmed.{from_first, trimmed};
+ghost use Rattle.elasticlunr_text.specs.Trimmed.{from_first, up_to_last, trimmed};
 
 use super::ranges::Ranges;
 use super::word_chars::{has_script, is_word_char};
@@ -41,24 +41,39 @@ impl Class {
         text.trim_start_matches(|c| !self.contains(c))
     }
 
-    /// The text from its first to its last character in the class.
-    pub fn trim<'a>(&self, text: &'a str) -> &'a str
-        ensures { chars result.now ≡ trimmed (in_class self.now) (chars text.now) }
+    /// The text up to its last character in the class.
+    fn up_to_last<'a>(&self, text: &'a str) -> &'a str
+        ensures { chars result.now ≡ up_to_last (in_class self.now) (chars text.now) }
     {
-        self.from_first(text)
-            .trim_end_matches(|c| !self.contains(c))
+        text.trim_end_matches(|c| !self.contains(c))
     }
 
-    /// The token from its first to its last character in the class. A token of which nothing is cut
-    /// comes back itself, and no memory is requested.
-    pub fn cut(&self, alloc: Global, token: String) -> Result<String, AllocError>
-        ensures { IfOk result (λ left. text_of left ≡ trimmed (in_class self.now) (text_of token)) }
+    /// The token loses what stands before its first character in the class.
+    fn cut_beginning(&self, token: &mut String)
+        ensures { text_of token.new ≡ from_first (in_class self.now) (text_of token.old) }
     {
-        let kept = self.trim(token.as_str());
-        if kept.len() == token.len() {
-            return Ok(token);
-        }
-        String::from_str(alloc, kept)
+        let kept = self.from_first(token.as_str()).len();
+        let cut = token.len() - kept;
+        token.replace_range(..cut, "").unwrap();
+    }
+
+    /// The token loses what stands after its last character in the class.
+    fn cut_end(&self, token: &mut String)
+        ensures { text_of token.new ≡ up_to_last (in_class self.now) (text_of token.old) }
+    {
+        let kept = self.up_to_last(token.as_str()).len();
+        token.truncate(kept);
+    }
+
+    /// The token from its first to its last character in the class, cut in its own buffer: no
+    /// memory is requested. One pass from each end, up to the first character that stays.
+    pub fn cut(&self, token: String) -> String
+        ensures { text_of result ≡ trimmed (in_class self.now) (text_of token) }
+    {
+        let mut token = token;
+        self.cut_beginning(&mut token);
+        self.cut_end(&mut token);
+        token
     }
 
     /// A class with the same characters.

@@ -7,6 +7,5 @@ mod trimmer;
 mod word_chars;
 
 pub(crate) use class::Class;
-pub(crate) use class_text::letters_of;
 pub use stop_words::StopWordFilter;
 pub use trimmer::RegexTrimmer;

@@ -1,8 +1,7 @@
 //! A filter of stop words.
-ghost use Rattle.std.specs.Prelude.{◌≡◌, map, string_bytes, IfOk, IsOkUnless, IsOk, IsTrue, option_map};
-ghost use Rattle.std.specs.Str.{chars, all_scalars};
-ghost use Rattle.elasticlunr_text.specs.Text.{Text, text_of, is_listed};
-ghost use Rattle.elasticlunr_text.specs.StopWords.{filter_name, has_word, without};
+ghost use Rattle.std.specs.Prelude.{◌≡◌, string_bytes, IfOk, IsOkUnless, IsOk, option_map};
+ghost use Rattle.elasticlunr_text.specs.Text.{Text, text_of, texts_of, word_texts, is_listed};
+ghost use Rattle.elasticlunr_text.specs.StopWords.{filter_name, has_word, HasWords, without};
 
 use crate::IndexError;
 use crate::pipeline::PipelineFn;
@@ -20,7 +19,7 @@ impl StopWordFilter {
     /// The filter with the name and the stop words. A word that is listed twice counts once.
     pub fn new(alloc: Global, name: &str, stop_words: &[&str]) -> Result<Self, IndexError>
         ensures name { IfOk result (λ filter. filter_name filter ≡ name.now) }
-        ensures words { IfOk result (λ filter. (token : Text) → IsTrue (all_scalars token) → has_word filter token ≡ is_listed token (map (λ word. chars word.now) stop_words.now)) }
+        ensures words { IfOk result (λ filter. HasWords filter (word_texts stop_words.now)) }
         ensures memory { IsOkUnless result IndexError.Memory }
     {
         let mut words = HashSet::new(alloc);
@@ -31,6 +30,13 @@ impl StopWordFilter {
             name: String::from_str(alloc, name)?,
             stop_words: words,
         })
+    }
+
+    /// The stop words, each once, in no order of their own. No memory is requested.
+    pub fn stop_words(&self) -> &HashSet<String>
+        ensures { (token : Text) → has_word self.now token ≡ is_listed token (texts_of result.now.keys) }
+    {
+        &self.stop_words
     }
 
     /// A filter with the same name and the same words.

@@ -1,6 +1,7 @@
 //! A trimmer of a class of characters.
-ghost use Rattle.std.specs.Prelude.{◌≡◌, ◌⊎◌, ℕ, IfOk, IfErr, IsOkUnless, Err, string_bytes};
+ghost use Rattle.std.specs.Prelude.{◌≡◌, ◌⊎◌, ℕ, IfOk, IfErr, IsOk, IsOkUnless, Err, option_map, string_bytes};
 ghost use Rattle.std.specs.Str.{chars};
+ghost use Rattle.elasticlunr_text.specs.Text.{text_of};
 ghost use Rattle.elasticlunr_text.specs.ClassTexts.{Names, NamesNone};
 ghost use Rattle.elasticlunr_text.specs.Classes.{in_scripts};
 ghost use Rattle.elasticlunr_text.specs.Trimmers.{trimmer_name, keeps, cut_to_class};
@@ -13,8 +14,8 @@ use crate::pipeline::PipelineFn;
 use std::alloc::{AllocError, Global};
 use unicode::properties::Script;
 
-/// Cuts off both ends of a token what is not of a class of characters; drops a token of which nothing
-/// is left.
+/// Cuts off both ends of a token what is not of a class of characters; drops a token of which
+/// nothing is left.
 #[derive(Drop)]
 pub struct RegexTrimmer {
     name: String,
@@ -25,8 +26,8 @@ impl RegexTrimmer {
     /// The trimmer of the characters that a class text names.
     ///
     /// A class text is one or more items: a range `x-y`, a character that no `-` follows, or
-    /// `\p{Name}`, the set that the crate `unicode` finds by that name. The characters of `\[]^-&~` stand
-    /// for themselves nowhere. Every other text is `BadClass`.
+    /// `\p{Name}`, the set that the crate `unicode` finds by that name. The characters of `\[]^-&~`
+    /// stand for themselves nowhere. Every other text is `BadClass`.
     pub fn new(alloc: Global, name: &str, word_chars: &str) -> Result<Self, IndexError>
         ensures name { IfOk result (λ trimmer. trimmer_name trimmer ≡ name.now) }
         ensures class { IfOk result (λ trimmer. Names (chars word_chars.now) (keeps trimmer)) }
@@ -51,6 +52,13 @@ impl RegexTrimmer {
         Ok(RegexTrimmer { name, class })
     }
 
+    /// Whether the character is of the class, which is looked up by halves. No memory is requested.
+    pub fn contains(&self, c: char) -> bool
+        ensures { result ≡ keeps self.now c }
+    {
+        self.class.contains(c)
+    }
+
     /// A trimmer with the same name and the same class.
     pub fn clone(&self, alloc: Global) -> Result<Self, IndexError>
         ensures name { IfOk result (λ copy. trimmer_name copy ≡ trimmer_name self.now) }
@@ -73,9 +81,13 @@ impl PipelineFn for RegexTrimmer {
         self.name.clone()
     }
 
-    /// The token from its first to its last character of the class, `None` where there is none.
-    fn filter(&self, alloc: Global, token: String) -> Result<Option<String>, AllocError> {
-        let left = self.class.cut(alloc, token)?;
+    /// The token from its first to its last character of the class, `None` where there is none. It
+    /// is cut in its own buffer: no memory is requested.
+    fn filter(&self, _alloc: Global, token: String) -> Result<Option<String>, AllocError>
+        ensures left { IfOk result (λ left. option_map text_of left ≡ cut_to_class self.now (text_of token)) }
+        ensures always { IsOk result }
+    {
+        let left = self.class.cut(token);
         if left.is_empty() {
             return Ok(None);
         }

@@ -118,8 +118,8 @@ fn read(text: &str) -> Reading
 /// Whether the text is `[C] V C rest`: a C block or nothing, a V block, a C block and any rest.
 ///
 /// A C block has a first letter that is none of `aeiou`, and others that are none of `aeiouy`; a V
-/// block has a first letter that is one of `aeiouy`, and others that are each one of `aeiou`. A first
-/// `y` may open either: one split of the text is enough. One pass, no memory.
+/// block has a first letter that is one of `aeiouy`, and others that are each one of `aeiou`. A
+/// first `y` may open either: one split of the text is enough. One pass, no memory.
 pub fn m_above_0(text: &str) -> bool
     ensures { IsTrue result ↔ MAbove0 (chars text.now) }
 {
@@ -135,7 +135,8 @@ pub fn m_above_1(text: &str) -> bool
     vowel.is_m_above_1() || consonant.is_m_above_1()
 }
 
-/// Whether the text is `[C] V C` or `[C] V C V`, with the blocks of `m_above_0`. One pass, no memory.
+/// Whether the text is `[C] V C` or `[C] V C V`, with the blocks of `m_above_0`. One pass, no
+/// memory.
 pub fn m_is_1(text: &str) -> bool
     ensures { IsTrue result ↔ MIs1 (chars text.now) }
 {
@@ -181,8 +182,8 @@ fn read_short(text: &str) -> Short
     text.chars().fold(Short::Begun, |short, c| short.after(c))
 }
 
-/// Whether the text is a C block, one of `aeiouy`, and one last character that is none of `aeiouwxy`.
-/// One pass, no memory.
+/// Whether the text is a C block, one of `aeiouy`, and one last character that is none of
+/// `aeiouwxy`. One pass, no memory.
 pub fn is_short(text: &str) -> bool
     ensures { IsTrue result ↔ IsShort (chars text.now) }
 {

@@ -24,9 +24,7 @@ pub fn stem_before<'a>(word: &'a str, suffix: &str) -> Option<&'a str>
     ensures split { IfSome result (λ s. chars word.now ≡ chars s.now ++ suffix.now) }
     ensures none { IfNone result ((s : List ℕ) → IsStem s → chars word.now ≢ s ++ suffix.now) }
 {
-    let Some(stem) = word.strip_suffix(suffix) else {
-        return None;
-    };
+    let stem = word.strip_suffix(suffix)?;
     if is_stem(stem) { Some(stem) } else { None }
 }
 
@@ -37,9 +35,7 @@ pub fn split_last(text: &str) -> Option<(&str, char)>
     ensures none { IfNone result (chars text.now ≡ []) }
 {
     let mut letters = text.chars();
-    let Some(c) = letters.next_back() else {
-        return None;
-    };
+    let c = letters.next_back()?;
     Some((letters.as_str(), c))
 }
 
@@ -50,12 +46,8 @@ pub fn stem_and_letter_before<'a>(word: &'a str, suffix: &str) -> Option<(&'a st
     ensures split { IfSome result (λ p. chars word.now ≡ chars p.0.now ++ p.1 ∷ suffix.now) }
     ensures none { IfNone result ((s : List ℕ) (c : ℕ) → IsStem s → chars word.now ≢ s ++ c ∷ suffix.now) }
 {
-    let Some(front) = word.strip_suffix(suffix) else {
-        return None;
-    };
-    let Some((stem, c)) = split_last(front) else {
-        return None;
-    };
+    let front = word.strip_suffix(suffix)?;
+    let (stem, c) = split_last(front)?;
     if is_stem(stem) { Some((stem, c)) } else { None }
 }
 

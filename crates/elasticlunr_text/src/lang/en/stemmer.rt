@@ -24,8 +24,8 @@ impl Stemmer {
 
     /// The stem of the word, made in the word's own buffer: no memory is requested.
     ///
-    /// A word under 3 bytes comes back as it is. The stem is never longer in bytes than the word, keeps
-    /// its first character, and is empty only for the empty word; it need not be a word.
+    /// A word under 3 bytes comes back as it is. The stem is never longer in bytes than the word,
+    /// keeps its first character, and is empty only for the empty word; it need not be a word.
     pub fn stem(&self, w: String) -> Result<String, AllocError>
         ensures stem { IsOkAnd result (λ v. Stem (text_of w) (text_of v)) }
         ensures only { IsOkAnd result (λ v. (u : Text) → Stem (text_of w) u → u ≡ text_of v) }

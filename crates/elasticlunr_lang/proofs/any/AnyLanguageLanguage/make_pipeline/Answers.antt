@@ -1,46 +1,26 @@
+use Rattle.elasticlunr_lang.proofs.KnownLemmas.{language_stages-class, language_leaves-class}
 use Rattle.elasticlunr_lang.proofs.any.AnyLanguageLanguage.make_pipeline.Goals as goal
 
+pub returns-in-English-clause-leaves : goal.returns-in-English-clause-leaves
+returns-in-English-clause-leaves g c =
+    rw c.in-English.is (rw (c.stop_words-stop_words.ensures, c.in-English.is) at c.english_pipeline.ensures.leaves)
+
 pub returns-in-Arabic-clause-leaves : goal.returns-in-Arabic-clause-leaves
-returns-in-Arabic-clause-leaves g c = rw c.in-Arabic.is c.make_pipeline-in-Arabic.ensures.leaves
-
-pub returns-in-Danish-clause-leaves : goal.returns-in-Danish-clause-leaves
-returns-in-Danish-clause-leaves g c = rw c.in-Danish.is c.make_pipeline-in-Danish.ensures.leaves
-
-pub returns-in-Dutch-clause-leaves : goal.returns-in-Dutch-clause-leaves
-returns-in-Dutch-clause-leaves g c = rw c.in-Dutch.is c.make_pipeline-in-Dutch.ensures.leaves
-
-pub returns-in-Finnish-clause-leaves : goal.returns-in-Finnish-clause-leaves
-returns-in-Finnish-clause-leaves g c = rw c.in-Finnish.is c.make_pipeline-in-Finnish.ensures.leaves
-
-pub returns-in-French-clause-leaves : goal.returns-in-French-clause-leaves
-returns-in-French-clause-leaves g c = rw c.in-French.is c.make_pipeline-in-French.ensures.leaves
-
-pub returns-in-German-clause-leaves : goal.returns-in-German-clause-leaves
-returns-in-German-clause-leaves g c = rw c.in-German.is c.make_pipeline-in-German.ensures.leaves
-
-pub returns-in-Italian-clause-leaves : goal.returns-in-Italian-clause-leaves
-returns-in-Italian-clause-leaves g c = rw c.in-Italian.is c.make_pipeline-in-Italian.ensures.leaves
+returns-in-Arabic-clause-leaves g c = rw c.in-Arabic.is c.arabic_pipeline.ensures.leaves
 
 pub returns-in-Korean-clause-leaves : goal.returns-in-Korean-clause-leaves
-returns-in-Korean-clause-leaves g c = rw c.in-Korean.is c.make_pipeline-in-Korean.ensures.leaves
+returns-in-Korean-clause-leaves g c =
+    rw c.in-Korean.is
+    (rw (c.scripts.ensures, c.stop_words-stop_words.ensures, c.in-Korean.is) at c.class_and_keep_pipeline.ensures.leaves)
 
-pub returns-in-Norwegian-clause-leaves : goal.returns-in-Norwegian-clause-leaves
-returns-in-Norwegian-clause-leaves g c = rw c.in-Norwegian.is c.make_pipeline-in-Norwegian.ensures.leaves
-
-pub returns-in-Portuguese-clause-leaves : goal.returns-in-Portuguese-clause-leaves
-returns-in-Portuguese-clause-leaves g c = rw c.in-Portuguese.is c.make_pipeline-in-Portuguese.ensures.leaves
-
-pub returns-in-Romanian-clause-leaves : goal.returns-in-Romanian-clause-leaves
-returns-in-Romanian-clause-leaves g c = rw c.in-Romanian.is c.make_pipeline-in-Romanian.ensures.leaves
-
-pub returns-in-Russian-clause-leaves : goal.returns-in-Russian-clause-leaves
-returns-in-Russian-clause-leaves g c = rw c.in-Russian.is c.make_pipeline-in-Russian.ensures.leaves
-
-pub returns-in-Spanish-clause-leaves : goal.returns-in-Spanish-clause-leaves
-returns-in-Spanish-clause-leaves g c = rw c.in-Spanish.is c.make_pipeline-in-Spanish.ensures.leaves
-
-pub returns-in-Swedish-clause-leaves : goal.returns-in-Swedish-clause-leaves
-returns-in-Swedish-clause-leaves g c = rw c.in-Swedish.is c.make_pipeline-in-Swedish.ensures.leaves
-
-pub returns-in-Turkish-clause-leaves : goal.returns-in-Turkish-clause-leaves
-returns-in-Turkish-clause-leaves g c = rw c.in-Turkish.is c.make_pipeline-in-Turkish.ensures.leaves
+pub returns-in_default : goal.returns-in_default
+returns-in_default g c =
+    record {
+      names =
+          rw (language_stages-class c.args.self.now c.in_default.not-English c.in_default.not-Arabic c.in_default.not-Korean, ← c.as_code-in_default.ensures)
+          c.class_pipeline.ensures.names;
+      leaves =
+          rw (language_leaves-class c.args.self.now c.in_default.not-English c.in_default.not-Arabic, ← c.scripts-in_default.ensures, ← c.stop_words-stop_words.ensures)
+          c.class_pipeline.ensures.leaves;
+      known = c.class_pipeline.ensures.known;
+    }

@@ -46,13 +46,13 @@ put_part key None members = members
 put_part key (Some value) members = put key value members
 
 -- a member before others, if it is there
-abbrev pub part : {X : Type 0} → List ℕ → (X → Data) → Option X → Members → Members
-part key value None members = members
-part key value (Some x) members = member key (value x) members
+abbrev pub optional_member : {X : Type 0} → List ℕ → (X → Data) → Option X → Members → Members
+optional_member key value None members = members
+optional_member key value (Some x) members = member key (value x) members
 
 -- the value of the options of one field: the members for what is set, in the order of their keys
 abbrev pub field_value : SearchOptionsField → Data
-field_value field = object (part (codes "bool") bool_value field.bool (part (codes "boost") count field.boost (part (codes "expand") boolean field.expand no_members)))
+field_value field = object (optional_member (codes "bool") bool_value field.bool (optional_member (codes "boost") count field.boost (optional_member (codes "expand") boolean field.expand no_members)))
 
 abbrev pub options_object : Data → Data → Data → Data
 options_object bool expand fields = object (member (codes "bool") bool (member (codes "expand") expand (member (codes "fields") fields no_members)))
@@ -70,7 +70,6 @@ IsPart value found (Some x) = found ≡ Some (value x)
 pub record ReadsField (value : Data) (field : SearchOptionsField) : Type 0 where
   pub is_object : IsSome (as_object value)
   pub boost : IsPart count (get (codes "boost") value) field.boost
-  pub small : IfSome field.boost (λ n. n < 2 ^ 8)
   pub bool : IsPart bool_value (get (codes "bool") value) field.bool
   pub expand : IsPart boolean (get (codes "expand") value) field.expand
 

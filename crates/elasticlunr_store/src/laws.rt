@@ -8,7 +8,8 @@ ghost use Rattle.elasticlunr_text.specs.declared.error.IndexError.{IndexError};
 ghost use Rattle.elasticlunr_store.specs.Table.{Table, new_table, knows, postings, same_tables, IsPrefix, IsTable, Change, AreChanged, IsAdded};
 ghost use Rattle.elasticlunr_store.specs.Tree.{IsTrieValue};
 ghost use Rattle.elasticlunr_store.specs.Contents.{Contents, IsContents, IsStoreValue, same_contents};
-ghost use Rattle.elasticlunr_store.specs.Options.{Options, HasSmallBoosts, ReadsOptions, options_value, same_options, same_field};
+ghost use Rattle.elasticlunr_store.specs.Options.{Options, HasSmallBoosts, ReadsOptions, options_value, same_bool, same_options, same_field};
+ghost use Rattle.elasticlunr_store.specs.declared.config.SearchBool.{SearchBool};
 ghost use Rattle.elasticlunr_store.specs.declared.config.SearchOptionsField.{SearchOptionsField};
 ghost use Rattle.elasticlunr_store.specs.Refused.{IsRefused, IsAnswer};
 
@@ -64,7 +65,27 @@ pub fn equal_stores()
 
 /// What is written for options gives these options when it is read.
 pub fn written_options_are_read()
-    ensures { (options : Options) → HasSmallBoosts options → ReadsOptions (options_value options) options }
+    ensures { (options : Options) → ReadsOptions (options_value options) options }
+{}
+
+/// A value gives one search's options at most.
+pub fn one_options_a_value()
+    ensures { (a : Options) (b : Options) (v : Data) → ReadsOptions v a → ReadsOptions v b → a ≡ b }
+{}
+
+/// An answer that keeps the contract of `SearchOptions::from_value` on what is written for options is those options, or want of memory.
+pub fn written_options_are_read_back()
+    ensures { (options : Options) (answer : Result Options IndexError) → IfOk answer (ReadsOptions (options_value options)) → IfErr answer (IsRefused ((other : Options) → ¬ (ReadsOptions (options_value options) other))) → IsAnswer options answer }
+{}
+
+/// The boosts of options have 8 bits.
+pub fn boosts_are_small()
+    ensures { (options : Options) → HasSmallBoosts options }
+{}
+
+/// Two ways to join tokens are `==` exactly if they are equal.
+pub fn equal_bools()
+    ensures { (a : SearchBool) (b : SearchBool) → Decides (same_bool a b) (a ≡ b) }
 {}
 
 /// Two search options are `==` exactly if their parts are equal.

@@ -36,3 +36,4 @@ pub mod Changes
 pub mod ReadingOptions
 pub mod WrittenOptions
 pub mod OneOptions
+pub mod AreContents

@@ -31,10 +31,7 @@ pub(super) fn put_part(
     ensures { OnOk result (members_view members.new.entries ≡ put_part key.now (option_map view value) (members_view members.old.entries)) }
 {
     match value {
-        Some(value) => {
-            put_member(members, String::from_str(alloc, key)?, value)?;
-            Ok(())
-        }
+        Some(value) => { put_member(members, String::from_str(alloc, key)?, value) }
         None => Ok(()),
     }
 }

@@ -1,8 +1,7 @@
 -- What a store holds is contents.
 use Rattle.std.proofs.Common.{◌≡◌, ◌<◌, ◌^◌, ℕ, Bool, true, false, cond, List, [], ◌∷◌, Option, Some, None, IsSome, IfSome, refl, subst, sym, String, Global, BTreeMap, string_bytes}
 use mathlib.Core.Bool.{false≢true}
-use Rattle.std.specs.Cmp.Lexicographic.{slice_cmp}
-use Rattle.std.specs.Ordering.{nat_cmp, eq_by_cmp}
+use Rattle.std.specs.Ordering.{eq_by_cmp}
 use Rattle.std.specs.Str.{IsUtf8}
 use Rattle.std.specs.List.{AllByRecursion}
 use Rattle.std.specs.FinMap as finite
@@ -10,7 +9,8 @@ use Rattle.std.proofs.lemmas.Cmp.{nat_list_cmp_total}
 use Rattle.std.proofs.lemmas.Str.{IsUtf8-string_bytes}
 use Rattle.elasticlunr_text.specs.Text.{Bytes, text_cmp}
 use Rattle.elasticlunr_store.specs.Maps.{seen}
-use Rattle.elasticlunr_store.specs.Contents.{Contents, IsContents, IsConsistent, MapsTextsTo, LengthMap, AreSmallLengths, HasSmallLengths, contents_of, text_map, length_map, document_texts, document_lengths}
+use Rattle.elasticlunr_store.specs.Contents.{Contents, IsContents, IsConsistent, MapsTextsTo, LengthMap, contents_of, text_map, length_map, document_lengths}
+use Rattle.elasticlunr_store.specs.SmallLengths.{AreSmallLengths, HasSmallLengths}
 use Rattle.elasticlunr_store.proofs.Seen.{text_tie}
 use Rattle.elasticlunr_store.proofs.Sorted.{shown, get_all}
 

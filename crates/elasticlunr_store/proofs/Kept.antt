@@ -6,7 +6,9 @@ use Rattle.std.specs.Cmp.{eq_by_cmp_equiv}
 use Rattle.std.specs.FinMap as finite
 use Rattle.std.proofs.lemmas.Cmp.{nat_list_cmp_total}
 use Rattle.elasticlunr_text.specs.Text.{Bytes, text_cmp}
-use Rattle.elasticlunr_store.specs.Contents.{Contents, TextMap, LengthMap, IsConsistent, AreSmallLengths, HasSmallLengths, new_contents, with_document, with_length, without_document}
+use Rattle.elasticlunr_store.proofs.Seen.{filled_map}
+use Rattle.elasticlunr_store.specs.Contents.{Contents, TextMap, LengthMap, IsConsistent, new_contents, with_document, with_length, without_document}
+use Rattle.elasticlunr_store.specs.SmallLengths.{AreSmallLengths, HasSmallLengths}
 
 module _ {X : Type 0} (P : X → Type 0) where
   either : (b : Bool) (w old : Option X) → IfSome w P → IfSome old P → IfSome (cond b w old) P
@@ -67,17 +69,9 @@ document_kept c r d rule = record {
   unsaved = λ not q. all_inserted (λ m. m ≡ finite.empty) c.texts r _ (ap (λ b. cond b d finite.empty) not) (rule.unsaved not) q;
 }
 
--- a map with an entry is not empty
-pub not_empty : {X : Type 0} (m : finite.FinMap text_cmp X) (k : Bytes) (x : X) → finite.insert m k x ≢ finite.empty
-not_empty m k x e =
-    let itself : eq_by_cmp text_cmp k k ≡ true = (eq_by_cmp_equiv nat_list_cmp_total).refl k in
-    let there : finite.get (finite.insert m k x) k ≡ Some x = finite.get-insert nat_list_cmp_total m k x k ∙ ap (λ b. cond b (Some x) (finite.get m k)) itself in
-    let gone : finite.get (finite.insert m k x) k ≡ None = ap (λ n. finite.get n k) e ∙ finite.get-empty text_cmp k in
-    false≢true (ap is_some (sym gone ∙ there))
-
 pub length_kept : (c : Contents) (r field : Bytes) (n : ℕ) → IsConsistent c → IsConsistent (with_length c r field n)
 length_kept c r field n rule = record {
-  has_lengths = λ q. some_filled _ (all_inserted (λ m. m ≢ finite.empty) c.lengths r _ (not_empty _ field n) (filled c rule) q);
+  has_lengths = λ q. some_filled _ (all_inserted (λ m. m ≢ finite.empty) c.lengths r _ (filled_map _ field n) (filled c rule) q);
   unsaved = rule.unsaved;
 }
 

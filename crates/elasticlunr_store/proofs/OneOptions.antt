@@ -3,7 +3,6 @@ use Rattle.std.proofs.Common.{◌≡◌, ◌≢◌, inl, inr, ℕ, Bool, Option,
 use Rattle.std.specs.FinMap as map
 use Rattle.serde_json.specs.Data.{Data, null, boolean, object}
 use Rattle.serde_json.specs.Find.{get_member}
-use Rattle.elasticlunr_text.specs.Text.{Bytes}
 use Rattle.elasticlunr_store.specs.Maps.{count}
 use Rattle.elasticlunr_store.specs.Options.{Options, FieldMap, bool_value, IsPart, ReadsAt, ReadsField, ReadsFields, ReadsOptions}
 use Rattle.elasticlunr_store.specs.declared.config.SearchBool.{SearchBool}
@@ -11,6 +10,7 @@ use Rattle.elasticlunr_store.specs.declared.config.SearchBool.TheVariants.{Or, A
 use Rattle.elasticlunr_store.specs.declared.config.SearchOptionsField.{SearchOptionsField}
 use Rattle.elasticlunr_store.proofs.Seen.{same}
 use Rattle.elasticlunr_store.specs.EqualOptions.{one_field}
+use Rattle.elasticlunr_store.proofs.Values.{same_count}
 
 module _ {X : Type 0} (value : X → Data) (one : (x y : X) → value x ≡ value y → x ≡ y) (there : (x : X) → value x ≢ null) where
   one_part : (found : Option Data) (a b : Option X) → IsPart value found a → IsPart value found b → a ≡ b
@@ -23,9 +23,6 @@ module _ {X : Type 0} (value : X → Data) (one : (x y : X) → value x ≡ valu
       let both : Some (value x) ≡ Some (value y) = sym p ∙ q in
       let alike : value x ≡ value y = cc in
       ap Some (one x y alike)
-
-one_count : (x y : ℕ) → count x ≡ count y → x ≡ y
-one_count x y e = cc
 
 one_boolean : (x y : Bool) → boolean x ≡ boolean y → x ≡ y
 one_boolean x y e = cc
@@ -42,7 +39,7 @@ bool_there And e = cc
 
 one_read : (v : Data) (a b : SearchOptionsField) → ReadsField v a → ReadsField v b → a ≡ b
 one_read v a b p q =
-    one_field a b (one_part count one_count (λ x e. cc) _ a.boost b.boost p.boost q.boost)
+    one_field a b (one_part count same_count (λ x e. cc) _ a.boost b.boost p.boost q.boost)
     (one_part bool_value one_bool bool_there _ a.bool b.bool p.bool q.bool)
     (one_part boolean one_boolean (λ x e. cc) _ a.expand b.expand p.expand q.expand)
 

@@ -113,11 +113,3 @@ document_lengths entries = seen (λ m. length_map m.entries) entries
 -- the contents of a store with these fields
 abbrev pub contents_of : Bool → List (String Global × BTreeMap (String Global) (String Global)) → List (String Global × BTreeMap (String Global) ℕ) → Contents
 contents_of save docs doc_info = record { save = save; texts = document_texts docs; lengths = document_lengths doc_info }
-
--- each of these lengths has 64 bits
-abbrev pub AreSmallLengths : LengthMap → Type 0
-AreSmallLengths m = (field : Bytes) → IfSome (map.get m field) (λ n. n < 2 ^ 64)
-
--- each length of each reference has 64 bits
-abbrev pub HasSmallLengths : map.FinMap text_cmp LengthMap → Type 0
-HasSmallLengths m = (reference : Bytes) → IfSome (map.get m reference) AreSmallLengths

@@ -1,5 +1,5 @@
 -- What `==` of options decides, and that it is an equivalence: an `impl` of `==` takes its laws from here.
-use Rattle.std.proofs.Common.{◌≡◌, ◌<◌, ◌^◌, ℕ, Bool, true, false, ◌&&◌, Option, Some, None, refl, ap, subst, nat_eq}
+use Rattle.std.proofs.Common.{◌≡◌, ◌<◌, ◌^◌, Bool, true, false, ◌&&◌, Option, Some, None, refl, ap, subst, nat_eq}
 use mathlib.Core.Bool.{beq, false≢true}
 use mathlib.Core.HLevel.{is_prop→PathP, Π_prop}
 use Rattle.std.specs.Bool.{Decides}

@@ -3,7 +3,7 @@ use Rattle.std.specs.Prelude.{◌≡◌, ◌⊎◌, ◌&&◌, ◌<◌, ◌^◌, 
 use mathlib.Core.Bool.{beq}
 use Rattle.std.specs.declared.alloc.Global.{Global}
 use Rattle.std.specs.FinMap as map
-use Rattle.serde_json.specs.Data.{Data, null, boolean, string, object, Members, no_members, member, put}
+use Rattle.serde_json.specs.Data.{Data, null, boolean, string, object, Members, no_members, member}
 use Rattle.serde_json.specs.Find.{get, get_member, as_object}
 use Rattle.elasticlunr_text.specs.Text.{Bytes, text_cmp}
 use Rattle.elasticlunr_store.specs.Maps.{seen, keyed, count, same_map}
@@ -39,11 +39,6 @@ HasSmallBoosts options = (name : Bytes) → IfSome (map.get options.fields name)
 abbrev pub bool_value : SearchBool → Data
 bool_value Or = string (codes "OR")
 bool_value And = string (codes "AND")
-
--- the members with one more, if there is a value for it
-abbrev pub put_part : List ℕ → Option Data → Members → Members
-put_part key None members = members
-put_part key (Some value) members = put key value members
 
 -- a member before others, if it is there
 abbrev pub optional_member : {X : Type 0} → List ℕ → (X → Data) → Option X → Members → Members

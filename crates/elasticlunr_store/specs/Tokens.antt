@@ -17,7 +17,7 @@ token_of (Key text) = json.key text.now
 token_of (String text) = json.string text.now
 token_of (Bool b) = json.boolean b
 
--- the token can be written, and is no number
+-- the token can be written, and is no number; for private clauses
 abbrev pub IsPlainToken : json.Token → Type 0
 IsPlainToken (json.number s) = ⊥
 IsPlainToken json.bad = ⊥

@@ -3,7 +3,8 @@ ghost use Rattle.std.specs.Prelude.{◌≡◌, IfOk, OnOk, option_map};
 ghost use Rattle.serde_json.specs.Data.{boolean};
 ghost use Rattle.serde_json.specs.View.{view, members_view};
 ghost use Rattle.elasticlunr_store.specs.Maps.{keyed, count};
-ghost use Rattle.elasticlunr_store.specs.Options.{field_map, bool_value, field_value, options_object, put_part};
+ghost use Rattle.elasticlunr_store.specs.Options.{field_map, bool_value, field_value, options_object};
+ghost use Rattle.elasticlunr_store.specs.OptionalMembers.{put_part};
 
 use super::{SearchBool, SearchOptionsField};
 use crate::members::put_member;

@@ -1,5 +1,6 @@
 use Rattle.std.proofs.Common.{sym, subst, arith}
-use Rattle.elasticlunr_store.specs.Contents.{IsConsistent, HasSmallLengths, contents_of, document_texts, document_lengths}
+use Rattle.elasticlunr_store.specs.Contents.{IsConsistent, contents_of, document_texts, document_lengths}
+use Rattle.elasticlunr_store.specs.SmallLengths.{HasSmallLengths}
 use Rattle.elasticlunr_store.proofs.AreContents.{are_contents, small_lengths}
 use Rattle.elasticlunr_store.proofs.Kept.{length_kept, length_small}
 use Rattle.elasticlunr_store.proofs.document_store.DocumentStore.add_field_length.Goals as goal

@@ -1,7 +1,8 @@
 use Rattle.std.proofs.Common.{ap, sym, subst, ◌∙◌}
 use Rattle.std.specs.FinMap.{remove}
 use Rattle.std.proofs.lemmas.Map.Text.{btree_map_updates_text}
-use Rattle.elasticlunr_store.specs.Contents.{Contents, IsConsistent, HasSmallLengths, contents_of, length_map, document_texts, document_lengths}
+use Rattle.elasticlunr_store.specs.Contents.{Contents, IsConsistent, contents_of, length_map, document_texts, document_lengths}
+use Rattle.elasticlunr_store.specs.SmallLengths.{HasSmallLengths}
 use Rattle.elasticlunr_store.proofs.AreContents.{are_contents, small_lengths}
 use Rattle.elasticlunr_store.proofs.Seen.{seen_removed}
 use Rattle.elasticlunr_store.proofs.Kept.{without_lengths_kept, small_removed}

@@ -3,7 +3,8 @@ use Rattle.std.specs.FinMap.{entries}
 use Rattle.serde_json.specs.View.{members_view}
 use Rattle.serde_json.proofs.Views.{Entry}
 use Rattle.elasticlunr_store.specs.Maps.{members, keyed, count}
-use Rattle.elasticlunr_store.specs.Contents.{document_lengths, HasSmallLengths}
+use Rattle.elasticlunr_store.specs.Contents.{document_lengths}
+use Rattle.elasticlunr_store.specs.SmallLengths.{HasSmallLengths}
 use Rattle.elasticlunr_store.proofs.document_store.read.read_document_lengths.Given as goal
 
 -- an entry for each member that was read

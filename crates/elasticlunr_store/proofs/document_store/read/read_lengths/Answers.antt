@@ -6,7 +6,8 @@ use Rattle.std.proofs.lemmas.Map.Text.{btree_map_updates_text}
 use Rattle.serde_json.specs.Data.{object}
 use Rattle.serde_json.specs.View.{members_view, view}
 use Rattle.elasticlunr_store.specs.Maps.{count}
-use Rattle.elasticlunr_store.specs.Contents.{length_map, AreSmallLengths}
+use Rattle.elasticlunr_store.specs.Contents.{length_map}
+use Rattle.elasticlunr_store.specs.SmallLengths.{AreSmallLengths}
 use Rattle.elasticlunr_store.proofs.Kept.{all_empty, one_more_small}
 use Rattle.elasticlunr_store.proofs.Seen.{seen_inserted}
 use Rattle.elasticlunr_store.proofs.ReadingMaps.{read_more, foreign_member, object_of, count_of, no_count, no_members_yet}

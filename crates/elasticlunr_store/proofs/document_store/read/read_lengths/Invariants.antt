@@ -3,7 +3,8 @@ use Rattle.std.specs.FinMap.{entries}
 use Rattle.serde_json.specs.View.{members_view}
 use Rattle.serde_json.proofs.Views.{Entry}
 use Rattle.elasticlunr_store.specs.Maps.{members, count}
-use Rattle.elasticlunr_store.specs.Contents.{length_map, AreSmallLengths}
+use Rattle.elasticlunr_store.specs.Contents.{length_map}
+use Rattle.elasticlunr_store.specs.SmallLengths.{AreSmallLengths}
 use Rattle.elasticlunr_store.proofs.document_store.read.read_lengths.Given as goal
 
 -- an entry for each member that was read

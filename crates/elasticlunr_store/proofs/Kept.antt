@@ -1,12 +1,14 @@
 -- The calls keep the contents' rule.
-use Rattle.std.proofs.Common.{◌≡◌, ◌≢◌, ℕ, Bool, true, false, cond, Option, Some, None, IfSome, sym, ap, subst, ◌∙◌, is_some, unwrap_or}
+use Rattle.std.proofs.Common.{◌≡◌, ◌≢◌, ◌<◌, ◌^◌, ℕ, Bool, true, false, cond, Option, Some, None, IfSome, sym, ap, subst, ◌∙◌, is_some, unwrap_or}
 use mathlib.Core.Bool.{false≢true}
 use Rattle.std.specs.Ordering.{eq_by_cmp}
 use Rattle.std.specs.Cmp.{eq_by_cmp_equiv}
 use Rattle.std.specs.FinMap as finite
 use Rattle.std.proofs.lemmas.Cmp.{nat_list_cmp_total}
 use Rattle.elasticlunr_text.specs.Text.{Bytes, text_cmp}
-use Rattle.elasticlunr_store.specs.Contents.{Contents, TextMap, LengthMap, IsContents, new_contents, with_document, with_length, without_document, without}
+use Rattle.elasticlunr_store.proofs.Seen.{filled_map}
+use Rattle.elasticlunr_store.specs.Contents.{Contents, TextMap, LengthMap, IsConsistent, new_contents, with_document, with_length, without_document}
+use Rattle.elasticlunr_store.specs.SmallLengths.{AreSmallLengths, HasSmallLengths}
 
 module _ {X : Type 0} (P : X → Type 0) where
   either : (b : Bool) (w old : Option X) → IfSome w P → IfSome old P → IfSome (cond b w old) P
@@ -23,6 +25,26 @@ module _ {X : Type 0} (P : X → Type 0) where
   pub all_empty : (q : Bytes) → IfSome (finite.get (finite.empty {R = text_cmp}) q) P
   all_empty q = subst (λ o. IfSome o P) (sym (finite.get-empty text_cmp q)) tt
 
+-- small lengths stay so
+pub small_empty : HasSmallLengths finite.empty
+small_empty = all_empty AreSmallLengths
+
+pub small_removed : (m : finite.FinMap text_cmp LengthMap) (r : Bytes) → HasSmallLengths m → HasSmallLengths (finite.remove m r)
+small_removed = all_removed AreSmallLengths
+
+pub one_more_small : (m : LengthMap) (field : Bytes) (n : ℕ) → n < 2 ^ 64 → AreSmallLengths m → AreSmallLengths (finite.insert m field n)
+one_more_small = all_inserted (λ n. n < 2 ^ 64)
+
+pub small_inserted : (m : finite.FinMap text_cmp LengthMap) (r : Bytes) (lengths : LengthMap) → AreSmallLengths lengths → HasSmallLengths m → HasSmallLengths (finite.insert m r lengths)
+small_inserted = all_inserted AreSmallLengths
+
+or_empty : (o : Option LengthMap) → IfSome o AreSmallLengths → AreSmallLengths (unwrap_or o finite.empty)
+or_empty None h = all_empty (λ n. n < 2 ^ 64)
+or_empty (Some m) h = h
+
+pub length_small : (m : finite.FinMap text_cmp LengthMap) (r field : Bytes) (n : ℕ) → n < 2 ^ 64 → HasSmallLengths m → HasSmallLengths (finite.insert m r (finite.insert (unwrap_or (finite.get m r) finite.empty) field n))
+length_small m r field n bound small = small_inserted m r _ (one_more_small _ field n bound (or_empty (finite.get m r) (small r))) small
+
 -- the first clause of the rule, value by value
 some_filled : (o : Option LengthMap) → IfSome o (λ m. m ≢ finite.empty) → o ≢ Some finite.empty
 some_filled None h e = cc
@@ -32,43 +54,35 @@ filled_some : (o : Option LengthMap) → o ≢ Some finite.empty → IfSome o (�
 filled_some None h = tt
 filled_some (Some m) h = λ e. h (ap Some e)
 
-pub filled : (c : Contents) → IsContents c → (q : Bytes) → IfSome (finite.get c.lengths q) (λ m. m ≢ finite.empty)
+pub filled : (c : Contents) → IsConsistent c → (q : Bytes) → IfSome (finite.get c.lengths q) (λ m. m ≢ finite.empty)
 filled c rule q = filled_some (finite.get c.lengths q) (rule.has_lengths q)
 
-pub new_kept : (save : Bool) → IsContents (new_contents save)
+pub new_kept : (save : Bool) → IsConsistent (new_contents save)
 new_kept save = record {
   has_lengths = λ q. some_filled (finite.get finite.empty q) (all_empty (λ m. m ≢ finite.empty) q);
   unsaved = λ _ q. all_empty (λ m. m ≡ finite.empty) q;
 }
 
-pub document_kept : (c : Contents) (r : Bytes) (d : TextMap) → IsContents c → IsContents (with_document c r d)
+pub document_kept : (c : Contents) (r : Bytes) (d : TextMap) → IsConsistent c → IsConsistent (with_document c r d)
 document_kept c r d rule = record {
   has_lengths = rule.has_lengths;
   unsaved = λ not q. all_inserted (λ m. m ≡ finite.empty) c.texts r _ (ap (λ b. cond b d finite.empty) not) (rule.unsaved not) q;
 }
 
--- a map with an entry is not empty
-pub not_empty : {X : Type 0} (m : finite.FinMap text_cmp X) (k : Bytes) (x : X) → finite.insert m k x ≢ finite.empty
-not_empty m k x e =
-    let itself : eq_by_cmp text_cmp k k ≡ true = (eq_by_cmp_equiv nat_list_cmp_total).refl k in
-    let there : finite.get (finite.insert m k x) k ≡ Some x = finite.get-insert nat_list_cmp_total m k x k ∙ ap (λ b. cond b (Some x) (finite.get m k)) itself in
-    let gone : finite.get (finite.insert m k x) k ≡ None = ap (λ n. finite.get n k) e ∙ finite.get-empty text_cmp k in
-    false≢true (ap is_some (sym gone ∙ there))
-
-pub length_kept : (c : Contents) (r field : Bytes) (n : ℕ) → IsContents c → IsContents (with_length c r field n)
+pub length_kept : (c : Contents) (r field : Bytes) (n : ℕ) → IsConsistent c → IsConsistent (with_length c r field n)
 length_kept c r field n rule = record {
-  has_lengths = λ q. some_filled _ (all_inserted (λ m. m ≢ finite.empty) c.lengths r _ (not_empty _ field n) (filled c rule) q);
+  has_lengths = λ q. some_filled _ (all_inserted (λ m. m ≢ finite.empty) c.lengths r _ (filled_map _ field n) (filled c rule) q);
   unsaved = rule.unsaved;
 }
 
-pub removed_kept : (c : Contents) (r : Bytes) → IsContents c → IsContents (without_document c r)
+pub removed_kept : (c : Contents) (r : Bytes) → IsConsistent c → IsConsistent (without_document c r)
 removed_kept c r rule = record {
   has_lengths = rule.has_lengths;
   unsaved = λ not q. all_removed (λ m. m ≡ finite.empty) c.texts r (rule.unsaved not) q;
 }
 
-pub forgotten_kept : (c : Contents) (r : Bytes) → IsContents c → IsContents (without c r)
-forgotten_kept c r rule = record {
+pub without_lengths_kept : (c : Contents) (r : Bytes) → IsConsistent c → IsConsistent (record c { lengths = finite.remove c.lengths r })
+without_lengths_kept c r rule = record {
   has_lengths = λ q. some_filled _ (all_removed (λ m. m ≢ finite.empty) c.lengths r (filled c rule) q);
-  unsaved = λ not q. all_removed (λ m. m ≡ finite.empty) c.texts r (rule.unsaved not) q;
+  unsaved = rule.unsaved;
 }

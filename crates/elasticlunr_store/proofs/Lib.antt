@@ -35,3 +35,5 @@ pub mod Compact
 pub mod Changes
 pub mod ReadingOptions
 pub mod WrittenOptions
+pub mod OneOptions
+pub mod AreContents

@@ -70,10 +70,7 @@ pub framed : (s a b c d e ms : List Token) (t u v w : Token) → a ≡ s ++ t �
 framed s a b c d e ms t u v w h1 h2 h3 h4 h5 =
     h5 ∙ ap (λ y. y ++ w ∷ []) (h4 ∙ ap (λ y. y ++ ms) (h3 ∙ ap (λ y. y ++ v ∷ []) (h2 ∙ ap (λ y. y ++ u ∷ []) h1))) ∙ simp append_assoc
 
--- ten lists of tokens in a row
-pub ten : (s a b c d e f g h i j t1 t2 t3 t4 t5 t6 t7 t8 t9 t10 : List Token)
-    → a ≡ s ++ t1 → b ≡ a ++ t2 → c ≡ b ++ t3 → d ≡ c ++ t4 → e ≡ d ++ t5 → f ≡ e ++ t6 → g ≡ f ++ t7 → h ≡ g ++ t8 → i ≡ h ++ t9 → j ≡ i ++ t10
-    → j ≡ s ++ (t1 ++ (t2 ++ (t3 ++ (t4 ++ (t5 ++ (t6 ++ (t7 ++ (t8 ++ (t9 ++ t10)))))))))
-ten s a b c d e f g h i j t1 t2 t3 t4 t5 t6 t7 t8 t9 t10 h1 h2 h3 h4 h5 h6 h7 h8 h9 h10 =
-    h10 ∙ ap (λ y. y ++ t10) (h9 ∙ ap (λ y. y ++ t9) (h8 ∙ ap (λ y. y ++ t8) (h7 ∙ ap (λ y. y ++ t7) (h6 ∙ ap (λ y. y ++ t6) (h5 ∙ ap (λ y. y ++ t5) (h4 ∙ ap (λ y. y ++ t4) (h3 ∙ ap (λ y. y ++ t3) (h2 ∙ ap (λ y. y ++ t2) h1))))))))
-    ∙ simp append_assoc
+-- six lists of tokens in a row
+pub six : (s a b c d e f t1 t2 t3 t4 t5 t6 : List Token) → a ≡ s ++ t1 → b ≡ a ++ t2 → c ≡ b ++ t3 → d ≡ c ++ t4 → e ≡ d ++ t5 → f ≡ e ++ t6 → f ≡ s ++ (t1 ++ (t2 ++ (t3 ++ (t4 ++ (t5 ++ t6)))))
+six s a b c d e f t1 t2 t3 t4 t5 t6 h1 h2 h3 h4 h5 h6 =
+    h6 ∙ ap (λ y. y ++ t6) (h5 ∙ ap (λ y. y ++ t5) (h4 ∙ ap (λ y. y ++ t4) (h3 ∙ ap (λ y. y ++ t3) (h2 ∙ ap (λ y. y ++ t2) h1)))) ∙ simp append_assoc

@@ -1,5 +1,5 @@
 -- What a map of the program stands for, after each change.
-use Rattle.std.proofs.Common.{◌≡◌, ◌≢◌, Bool, true, false, cond, length, unwrap_or, IfSome, arith, List, [], ◌∷◌, Option, Some, None, option_map, map, refl, sym, ap, ◌∙◌, String, Global, string_bytes, BTreeMap, bytes_eq, is_eq, is_some, nat_cmp, Result, Ok, Err, OnErr}
+use Rattle.std.proofs.Common.{◌≡◌, ◌≢◌, Bool, true, false, cond, length, unwrap_or, IfSome, arith, List, [], ◌∷◌, Option, Some, None, option_map, map, refl, sym, ap, ◌∙◌, String, Global, string_bytes, BTreeMap, bytes_eq, is_eq, is_some, nat_cmp, Result, Ok, Err, OnOk, OnErr}
 use Rattle.std.specs.Ordering.{eq_by_cmp}
 use Rattle.std.specs.Cmp.{eq_by_cmp_equiv}
 use Rattle.std.specs.Cmp.Lexicographic.{slice_cmp}
@@ -74,6 +74,14 @@ map_itself (Some x) = refl
 pub on_err : {T E : Type 0} (r : Result T E) (P : Type 0) → P → OnErr r P
 on_err (Ok x) P p = tt
 on_err (Err e) P p = p
+
+pub on_ok : {T E : Type 0} (r : Result T E) (P Q : Type 0) → (P → Q) → OnOk r P → OnOk r Q
+on_ok (Ok x) P Q f p = f p
+on_ok (Err e) P Q f p = tt
+
+pub on_err_map : {T E : Type 0} (r : Result T E) (P Q : Type 0) → (P → Q) → OnErr r P → OnErr r Q
+on_err_map (Ok x) P Q f p = tt
+on_err_map (Err e) P Q f p = f p
 
 -- a clone stands for the same
 pub cloned : {X Y : Type 0} (f : X → Y) (D : X → X → Type 0) → ((x y : X) → D x y → f y ≡ f x) → (es fs : List (String Global × X)) → AllZip (λ p q. (string_bytes q.0 ≡ string_bytes p.0) × D p.1 q.1) es fs → seen f fs ≡ seen f es

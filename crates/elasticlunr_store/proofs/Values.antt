@@ -36,7 +36,7 @@ module _ {X : Type 0} (value : X → Data) where
 same_string : (x y : Bytes) → string x ≡ string y → x ≡ y
 same_string x y e = cc
 
-same_count : (x y : ℕ) → count x ≡ count y → x ≡ y
+pub same_count : (x y : ℕ) → count x ≡ count y → x ≡ y
 same_count x y e = cc
 
 -- contents with one value are one

@@ -1,9 +1,9 @@
 -- What a document store stands for, and its JSON value.
-use Rattle.std.specs.Prelude.{◌≡◌, ◌≢◌, ℕ, List, Bool, false, Option, Some, IfSome, unwrap_or, option_and_then, refl, if◌then◌else◌, codes, ◌&&◌, nat_eq, String, string_bytes}
+use Rattle.std.specs.Prelude.{◌≡◌, ◌≢◌, ◌<◌, ◌^◌, ℕ, List, Bool, false, Option, Some, IsSome, IfSome, unwrap_or, option_and_then, refl, if◌then◌else◌, codes, ◌&&◌, nat_eq, String, string_bytes}
 use Rattle.std.specs.declared.alloc.Global.{Global}
 use Rattle.std.specs.BTreeMap.{BTreeMap}
 use mathlib.Core.Bool.{beq}
-use Rattle.std.specs.Str.{bytes_eq}
+use Rattle.std.specs.Str.{bytes_eq, IsUtf8}
 use Rattle.std.specs.Coded.{Coded, code_by, coded×, coded_ℕ, coded_bool}
 use Rattle.std.specs.FinMap as map
 use Rattle.serde_json.specs.Data.{Data, boolean, string, object, Members, no_members, member}
@@ -28,9 +28,20 @@ abbrev pub contents_code : Coded Contents
 contents_code = code_by (Bool × (map.FinMap text_cmp TextMap × map.FinMap text_cmp LengthMap)) (coded× coded_bool (coded× (map.code text_code (map.code text_code text_code)) (map.code text_code (map.code text_code coded_ℕ)))) (λ c. (c.save, (c.texts, c.lengths))) (λ p. record { save = p.0; texts = p.1.0; lengths = p.1.1 }) (λ _. refl)
 
 -- no reference has an empty map of lengths, and none has a text where texts are not kept
-pub record IsContents (c : Contents) : Type 0 where
+pub record IsConsistent (c : Contents) : Type 0 where
   pub has_lengths : (reference : Bytes) → map.get c.lengths reference ≢ Some map.empty
   pub unsaved : c.save ≡ false → (reference : Bytes) → IfSome (map.get c.texts reference) (λ texts. texts ≡ map.empty)
+
+-- the map's keys are UTF-8, and what it has at each of them satisfies P
+pub record MapsTextsTo {X : Type 0} (P : X → Type 0) (m : map.FinMap text_cmp X) : Type 0 where
+  pub keys : (key : Bytes) → IsSome (map.get m key) → IsUtf8 key
+  pub values : (key : Bytes) → IfSome (map.get m key) P
+
+-- Contents of a store: consistent, and their references, fields and texts are UTF-8, and their lengths have 64 bits.
+pub record IsContents (c : Contents) : Type 0 where
+  pub consistent : IsConsistent c
+  pub texts : MapsTextsTo (MapsTextsTo IsUtf8) c.texts
+  pub lengths : MapsTextsTo (MapsTextsTo (λ n. n < 2 ^ 64)) c.lengths
 
 abbrev pub new_contents : Bool → Contents
 new_contents save = record { save = save; texts = map.empty; lengths = map.empty }
@@ -39,9 +50,13 @@ new_contents save = record { save = save; texts = map.empty; lengths = map.empty
 abbrev pub with_document : Contents → Bytes → TextMap → Contents
 with_document c reference document = record c { texts = map.insert c.texts reference (if c.save then document else map.empty) }
 
+-- the lengths of references with one of them set
+abbrev pub lengths_with : map.FinMap text_cmp LengthMap → Bytes → Bytes → ℕ → map.FinMap text_cmp LengthMap
+lengths_with m reference field n = map.insert m reference (map.insert (unwrap_or (map.get m reference) map.empty) field n)
+
 -- the contents with one length set
 abbrev pub with_length : Contents → Bytes → Bytes → ℕ → Contents
-with_length c reference field n = record c { lengths = map.insert c.lengths reference (map.insert (unwrap_or (map.get c.lengths reference) map.empty) field n) }
+with_length c reference field n = record c { lengths = lengths_with c.lengths reference field n }
 
 -- the contents without the texts of the reference, whose lengths stay
 abbrev pub without_document : Contents → Bytes → Contents
@@ -54,6 +69,10 @@ without c reference = record c { texts = map.remove c.texts reference; lengths =
 -- the length of a field of a reference
 abbrev pub length_at : Contents → Bytes → Bytes → Option ℕ
 length_at c reference field = option_and_then (λ lengths. map.get lengths field) (map.get c.lengths reference)
+
+-- the length of a field of a document, 0 where it has none
+abbrev pub field_length : Contents → Bytes → Bytes → ℕ
+field_length c reference field = if map.contains_key c.texts reference then unwrap_or (length_at c reference field) 0 else 0
 
 -- the four members of a store's object
 abbrev pub store_members : Data → Data → Data → Data → Members

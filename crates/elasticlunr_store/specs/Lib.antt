@@ -14,3 +14,5 @@ pub mod Tokens
 pub mod Compact
 pub mod Options
 pub mod EqualOptions
+pub mod SmallLengths
+pub mod OptionalMembers

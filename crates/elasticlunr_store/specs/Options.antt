@@ -3,7 +3,7 @@ use Rattle.std.specs.Prelude.{◌≡◌, ◌⊎◌, ◌&&◌, ◌<◌, ◌^◌, 
 use mathlib.Core.Bool.{beq}
 use Rattle.std.specs.declared.alloc.Global.{Global}
 use Rattle.std.specs.FinMap as map
-use Rattle.serde_json.specs.Data.{Data, null, boolean, string, object, Members, no_members, member, put}
+use Rattle.serde_json.specs.Data.{Data, null, boolean, string, object, Members, no_members, member}
 use Rattle.serde_json.specs.Find.{get, get_member, as_object}
 use Rattle.elasticlunr_text.specs.Text.{Bytes, text_cmp}
 use Rattle.elasticlunr_store.specs.Maps.{seen, keyed, count, same_map}
@@ -40,19 +40,14 @@ abbrev pub bool_value : SearchBool → Data
 bool_value Or = string (codes "OR")
 bool_value And = string (codes "AND")
 
--- the members with one more, if there is a value for it
-abbrev pub put_part : List ℕ → Option Data → Members → Members
-put_part key None members = members
-put_part key (Some value) members = put key value members
-
 -- a member before others, if it is there
-abbrev pub part : {X : Type 0} → List ℕ → (X → Data) → Option X → Members → Members
-part key value None members = members
-part key value (Some x) members = member key (value x) members
+abbrev pub optional_member : {X : Type 0} → List ℕ → (X → Data) → Option X → Members → Members
+optional_member key value None members = members
+optional_member key value (Some x) members = member key (value x) members
 
 -- the value of the options of one field: the members for what is set, in the order of their keys
 abbrev pub field_value : SearchOptionsField → Data
-field_value field = object (part (codes "bool") bool_value field.bool (part (codes "boost") count field.boost (part (codes "expand") boolean field.expand no_members)))
+field_value field = object (optional_member (codes "bool") bool_value field.bool (optional_member (codes "boost") count field.boost (optional_member (codes "expand") boolean field.expand no_members)))
 
 abbrev pub options_object : Data → Data → Data → Data
 options_object bool expand fields = object (member (codes "bool") bool (member (codes "expand") expand (member (codes "fields") fields no_members)))
@@ -70,7 +65,6 @@ IsPart value found (Some x) = found ≡ Some (value x)
 pub record ReadsField (value : Data) (field : SearchOptionsField) : Type 0 where
   pub is_object : IsSome (as_object value)
   pub boost : IsPart count (get (codes "boost") value) field.boost
-  pub small : IfSome field.boost (λ n. n < 2 ^ 8)
   pub bool : IsPart bool_value (get (codes "bool") value) field.bool
   pub expand : IsPart boolean (get (codes "expand") value) field.expand
 

@@ -1,17 +1,18 @@
 //! Search options, and their JSON value.
-ghost use Rattle.std.specs.Prelude.{◌≡◌, None, false, IfOk, IfErr, IsOkUnless};
+ghost use Rattle.std.specs.Prelude.{◌≡◌, ◌<◌, ◌^◌, None, false, IfOk, IfErr, IsOkUnless};
+ghost use Rattle.std.specs.Option.{ForSome};
 ghost use Rattle.serde_json.specs.View.{view};
 ghost use Rattle.serde_json.specs.Written.{has_float};
 ghost use Rattle.elasticlunr_text.specs.declared.error.IndexError.TheVariants.{Memory};
-ghost use Rattle.elasticlunr_store.specs.Maps.{same_map};
 ghost use Rattle.elasticlunr_store.specs.Refused.{IsRefused};
-ghost use Rattle.elasticlunr_store.specs.Options.{Options, field_map, options_of, new_options, options_value, ReadsOptions, same_bool, same_field, same_options};
 
 mod read;
+mod same;
 mod value;
 
 use elasticlunr_text::IndexError;
 use read::{read_bool, read_expand, read_fields};
+use same::same_fields;
 use serde_json::Value;
 use std::alloc::Global;
 use std::collections::BTreeMap;
@@ -35,6 +36,7 @@ pub struct SearchOptionsField {
     pub bool: Option<SearchBool>,
     /// Whether tokens that go on count, too.
     pub expand: Option<bool>,
+    pub ghost small: { ForSome boost (λ n. n < 2 ^ 8) },
 }
 
 /// The options of a search, for all fields and for some.
@@ -73,6 +75,8 @@ impl Default for SearchOptionsField {
 }
 
 impl SearchOptions {
+    ghost use Rattle.elasticlunr_store.specs.Options.{Options, HasSmallBoosts, options_of, new_options, options_value, ReadsOptions};
+
     /// `Or`, no expansion, and no field with options of its own. Requests no memory.
     pub fn new(alloc: Global) -> Self
         ensures { options_of result ≡ new_options }
@@ -87,6 +91,7 @@ impl SearchOptions {
     /// Options with the same parts.
     pub fn clone(&self, _alloc: Global) -> Result<Self, IndexError>
         ensures ok { IfOk result (λ copy. options_of copy ≡ options_of self.now) }
+        ensures small { HasSmallBoosts (options_of self.now) }
         ensures memory { IsOkUnless result Memory }
     {
         Ok(SearchOptions {
@@ -96,18 +101,20 @@ impl SearchOptions {
         })
     }
 
-    /// The JSON value of the options: an object with the keys `bool`, `expand` and `fields`. What is `None` is not written.
+    /// The JSON value of the options: an object with the keys `bool`, `expand` and `fields`. What is
+    /// `None` is not written.
     pub fn to_value(&self, alloc: Global) -> Result<Value, IndexError>
         ensures value { IfOk result (λ v. view v ≡ options_value (options_of self.now)) }
+        ensures small { HasSmallBoosts (options_of self.now) }
         ensures whole { IfOk result (λ v. has_float (view v) ≡ false) }
         ensures memory { IsOkUnless result Memory }
     {
         let fields = fields_value(alloc, &self.fields)?;
-        let value = whole_value(alloc, self.bool, self.expand, fields)?;
-        Ok(value)
+        Ok(whole_value(alloc, self.bool, self.expand, fields)?)
     }
 
-    /// The options that a JSON value gives. `bool`, `expand` and `fields` must be there; options of a field may be absent or null. Other keys are skipped.
+    /// The options that a JSON value gives. `bool`, `expand` and `fields` must be there; options of a
+    /// field may be absent or null. Other keys are skipped.
     pub fn from_value(alloc: Global, value: &Value) -> Result<Self, IndexError>
         ensures ok { IfOk result (λ options. ReadsOptions (view value.now) (options_of options)) }
         ensures err { IfErr result (IsRefused ((options : Options) → ¬ (ReadsOptions (view value.now) options))) }
@@ -194,17 +201,4 @@ impl Eq for SearchOptions {
     ghost use Rattle.elasticlunr_store.specs.EqualOptions.{options_equivalence};
 
     ghost laws = { options_equivalence };
-}
-
-// Have the fields the same options?
-fn same_fields(
-    a: &BTreeMap<String, SearchOptionsField>,
-    b: &BTreeMap<String, SearchOptionsField>,
-) -> bool
-    ensures { result ≡ same_map same_field (field_map a.now.entries) (field_map b.now.entries) }
-{
-    if a.len() != b.len() {
-        return false;
-    }
-    *a == *b
 }

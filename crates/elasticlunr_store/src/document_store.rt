@@ -1,30 +1,36 @@
-//! The complete texts of the documents of an index, where they are kept, and the lengths of their fields.
-ghost use Rattle.std.specs.Prelude.{◌≡◌, ◌==◌, false, if◌then◌else◌, OnOk, OnErr, IfOk, IfErr, ◌≢◌, IsOkUnless, unwrap_or};
+//! The complete texts of the documents of an index, where they are kept, and the lengths of their
+//! fields.
+ghost use Rattle.std.specs.Prelude.{◌≡◌, ◌==◌, false, OnOk, OnErr, IfOk, IfErr, IsOkUnless};
 ghost use Rattle.std.specs.Option.{option_map, option_and_then};
-ghost use Rattle.std.specs.FinMap.{get, contains_key, len, insert, empty};
+ghost use Rattle.std.specs.FinMap.{get, contains_key, len};
 ghost use Rattle.elasticlunr_text.specs.declared.error.IndexError.TheVariants.{Memory};
 ghost use Rattle.elasticlunr_store.specs.Refused.{IsRefused};
-ghost use Rattle.elasticlunr_store.specs.Contents.{Contents, IsContents, new_contents, with_document, with_length, without_document, without, length_at, IsStoreValue, store_value, text_map, document_texts, document_lengths};
+ghost use Rattle.elasticlunr_store.specs.Contents.{Contents, IsContents, IsConsistent, new_contents, with_document, with_length, without_document, without, field_length, IsStoreValue, text_map, document_texts, document_lengths};
 ghost use Rattle.serde_json.specs.View.{view};
 ghost use Rattle.serde_json.specs.Written.{has_float};
 
+mod put;
 mod read;
 mod same;
 mod value;
 mod write;
 
 use elasticlunr_text::IndexError;
-use read::{has_empty, has_text, parts, read_lengths, read_texts};
-use same::{same_lengths, same_texts};
+use put::{put_texts, set_length};
+use read::{has_empty, has_text, read_document_lengths, read_document_texts, store_parts};
+use same::{same_document_lengths, same_document_texts};
 use serde_json::Value;
-use std::alloc::{AllocError, Global};
+use std::alloc::Global;
 use std::collections::BTreeMap;
 use std::marker::Model;
-use value::{lengths_value, store_value, texts_value};
+use value::{document_lengths_value, document_texts_value, store_value};
 
-/// The texts of the documents of an index, where they are kept, and how many tokens their fields have.
+/// The texts of the documents of an index, where they are kept, and how many tokens their fields
+/// have.
 ///
-/// It stands for its contents: whether texts are kept, a map from references to texts by field, and a map from references to lengths by field. A reference may have lengths and no texts. Where texts are not kept each map of texts is empty.
+/// It stands for its contents: whether texts are kept, a map from references to texts by field, and
+/// a map from references to lengths by field. A reference may have lengths and no texts. Where texts
+/// are not kept each map of texts is empty.
 #[derive(Debug, Drop)]
 pub struct DocumentStore {
     alloc: Global,
@@ -34,8 +40,7 @@ pub struct DocumentStore {
 }
 
 impl Model for DocumentStore {
-    ghost use Rattle.elasticlunr_store.specs.Contents.{Contents, contents_code, IsContents};
-    ghost use Rattle.elasticlunr_store.specs.Contents.{contents_of};
+    ghost use Rattle.elasticlunr_store.specs.Contents.{Contents, contents_code, contents_of, IsContents};
 
     ghost Value = { Contents };
 
@@ -47,9 +52,11 @@ impl Model for DocumentStore {
 }
 
 impl DocumentStore {
-    /// An empty store, which keeps texts or does not. It requests no memory; later calls take it from this allocator.
+    /// An empty store, which keeps texts or does not. It requests no memory; later calls take it from
+    /// this allocator.
     pub fn new(alloc: Global, save: bool) -> Self
-        ensures { result ≡ new_contents save }
+        ensures new { result ≡ new_contents save }
+        ensures contents { IsContents result }
     {
         DocumentStore {
             alloc,
@@ -97,13 +104,12 @@ impl DocumentStore {
         ensures err { OnErr result (self.new ≡ self.old) }
         ensures memory { IsOkUnless result Memory }
     {
-        let doc_ref = String::from_str(self.alloc, doc_ref)?;
         let doc = if self.save {
             doc
         } else {
             BTreeMap::new(self.alloc)
         };
-        self.docs.insert(doc_ref, doc)?;
+        put_texts(self.alloc, &mut self.docs, doc_ref, doc)?;
         Ok(())
     }
 
@@ -118,7 +124,7 @@ impl DocumentStore {
     pub fn forget_doc(&mut self, doc_ref: &str)
         ensures { self.new ≡ without self.old doc_ref.now }
     {
-        self.docs.remove(doc_ref);
+        self.remove_doc(doc_ref);
         self.doc_info.remove(doc_ref);
     }
 
@@ -139,7 +145,7 @@ impl DocumentStore {
 
     /// The length that is set, 0 where none is or the document is not there.
     pub fn get_field_length(&self, doc_ref: &str, field: &str) -> usize
-        ensures { result ≡ (if contains_key self.now.texts doc_ref.now then unwrap_or (length_at self.now doc_ref.now field.now) 0 else 0) }
+        ensures { result ≡ field_length self.now doc_ref.now field.now }
     {
         if self.has_doc(doc_ref) {
             find_length(&self.doc_info, doc_ref, field).unwrap_or(0)
@@ -176,6 +182,7 @@ impl DocumentStore {
     /// A store with the same contents, which takes its memory from the same allocator.
     pub fn clone(&self) -> Result<Self, IndexError>
         ensures ok { IfOk result (λ copy. copy ≡ self.now) }
+        ensures contents { IsContents self.now }
         ensures memory { IsOkUnless result Memory }
     {
         Ok(DocumentStore {
@@ -195,20 +202,23 @@ impl DocumentStore {
         ensures memory { IsOkUnless result Memory }
     {
         let alloc = self.alloc;
-        let docs = texts_value(alloc, &self.docs)?;
-        let doc_info = lengths_value(alloc, &self.doc_info)?;
+        let docs = document_texts_value(alloc, &self.docs)?;
+        let doc_info = document_lengths_value(alloc, &self.doc_info)?;
         Ok(store_value(alloc, self.save, docs, doc_info, self.docs.len())?)
     }
 
-    /// The store whose JSON value this is. Refuses other keys, missing ones, a `length` that is not the number of documents, a reference with no lengths, and texts where `save` is false.
+    /// The store whose JSON value this is. Refuses other keys, missing ones, a `length` that is not
+    /// the number of documents, an empty map of lengths (a reference without lengths is not in
+    /// `docInfo`), and texts where `save` is false.
     pub fn from_value(alloc: Global, value: &Value) -> Result<Self, IndexError>
         ensures ok { IfOk result (λ store. IsStoreValue store (view value.now)) }
-        ensures err { IfErr result (IsRefused ((c : Contents) → IsContents c → view value.now ≢ store_value c)) }
+        ensures contents { IfOk result (λ store. IsContents store) }
+        ensures foreign { IfErr result (IsRefused ((c : Contents) → IsConsistent c → ¬ (IsStoreValue c (view value.now)))) }
     {
         let Some(members) = value.as_object() else {
             return Err(IndexError::ForeignValue);
         };
-        let Some((doc_info, docs, length, save)) = parts(members) else {
+        let Some((doc_info, docs, length, save)) = store_parts(members) else {
             return Err(IndexError::ForeignValue);
         };
         let Some(save) = save.as_bool() else {
@@ -217,8 +227,8 @@ impl DocumentStore {
         let Some(length) = length.as_u64() else {
             return Err(IndexError::ForeignValue);
         };
-        let docs = read_texts(alloc, docs)?;
-        let doc_info = read_lengths(alloc, doc_info)?;
+        let docs = read_document_texts(alloc, docs)?;
+        let doc_info = read_document_lengths(alloc, doc_info)?;
         if docs.len() as u64 != length {
             return Err(IndexError::ForeignValue);
         }
@@ -255,8 +265,8 @@ impl PartialEq for DocumentStore {
 
     fn eq(&self, other: &DocumentStore) -> bool {
         self.save == other.save
-            && same_texts(&self.docs, &other.docs)
-            && same_lengths(&self.doc_info, &other.doc_info)
+            && same_document_texts(&self.docs, &other.docs)
+            && same_document_lengths(&self.doc_info, &other.doc_info)
     }
 }
 
@@ -266,39 +276,14 @@ impl Eq for DocumentStore {
     ghost laws = { contents_equivalence };
 }
 
-// Sets the length of a field of a reference.
-fn set_length(
-    alloc: Global,
-    doc_info: &mut BTreeMap<String, BTreeMap<String, usize>>,
-    doc_ref: &str,
-    field: &str,
-    length: usize,
-) -> Result<(), AllocError>
-    ensures ok { OnOk result (document_lengths doc_info.new.entries ≡ insert (document_lengths doc_info.old.entries) doc_ref.now (insert (unwrap_or (get (document_lengths doc_info.old.entries) doc_ref.now) empty) field.now length)) }
-    ensures err { OnErr result (document_lengths doc_info.new.entries ≡ document_lengths doc_info.old.entries) }
-{
-    let field = String::from_str(alloc, field)?;
-    match doc_info.get_mut(doc_ref) {
-        Some(lengths) => {
-            lengths.insert(field, length)?;
-            Ok(())
-        }
-        None => {
-            let mut lengths = BTreeMap::new(alloc);
-            lengths.insert(field, length)?;
-            doc_info.insert(String::from_str(alloc, doc_ref)?, lengths)?;
-            Ok(())
-        }
-    }
-}
-
 // The length of a field of a reference.
 fn find_length(
     doc_info: &BTreeMap<String, BTreeMap<String, usize>>,
     doc_ref: &str,
     field: &str,
 ) -> Option<usize>
-    ensures { result ≡ option_and_then (λ lengths. get lengths field.now) (get (document_lengths doc_info.now.entries) doc_ref.now) }
+    ensures { result ≡ option_and_then (λ lengths. get lengths field.now)
+        (get (document_lengths doc_info.now.entries) doc_ref.now) }
 {
     doc_info.get(doc_ref)?.get(field).copied()
 }

@@ -7,8 +7,9 @@ ghost use Rattle.elasticlunr_text.specs.Text.{Text};
 ghost use Rattle.elasticlunr_text.specs.declared.error.IndexError.{IndexError};
 ghost use Rattle.elasticlunr_store.specs.Table.{Table, new_table, knows, postings, same_tables, IsPrefix, IsTable, Change, AreChanged, IsAdded};
 ghost use Rattle.elasticlunr_store.specs.Tree.{IsTrieValue};
-ghost use Rattle.elasticlunr_store.specs.Contents.{Contents, IsContents, IsStoreValue, same_contents};
-ghost use Rattle.elasticlunr_store.specs.Options.{Options, HasSmallBoosts, ReadsOptions, options_value, same_options, same_field};
+ghost use Rattle.elasticlunr_store.specs.Contents.{Contents, IsConsistent, IsStoreValue, same_contents};
+ghost use Rattle.elasticlunr_store.specs.Options.{Options, HasSmallBoosts, ReadsOptions, options_value, same_bool, same_options, same_field};
+ghost use Rattle.elasticlunr_store.specs.declared.config.SearchBool.{SearchBool};
 ghost use Rattle.elasticlunr_store.specs.declared.config.SearchOptionsField.{SearchOptionsField};
 ghost use Rattle.elasticlunr_store.specs.Refused.{IsRefused, IsAnswer};
 
@@ -22,14 +23,21 @@ pub fn one_value_a_table()
     ensures { (T : Table) (v : Data) (w : Data) → IsTrieValue T v → IsTrieValue T w → v ≡ w }
 {}
 
-/// An answer that keeps the contract of `InvertedIndex::from_value` on the trie value of a table is that table, or want of memory.
+/// An answer that keeps the contract of `InvertedIndex::from_value` on the trie value of a table is
+/// that table, or want of memory.
 pub fn trie_values_are_read_back()
-    ensures { (T : Table) (v : Data) (answer : Result Table IndexError) → IsTable T → IsTrieValue T v → IfOk answer (λ U. IsTable U × IsTrieValue U v) → IfErr answer (IsRefused ((U : Table) → IsTable U → ¬ (IsTrieValue U v))) → IsAnswer T answer }
+    ensures { (T : Table) (v : Data) (answer : Result Table IndexError)
+        → IsTable T → IsTrieValue T v
+        → IfOk answer (λ U. IsTable U × IsTrieValue U v)
+        → IfErr answer (IsRefused ((U : Table) → IsTable U → ¬ (IsTrieValue U v)))
+        → IsAnswer T answer }
 {}
 
-/// Whatever was added and removed, known are the empty text and the beginnings of the tokens that were added.
+/// Whatever was added and removed, known are the empty text and the beginnings of the tokens that
+/// were added.
 pub fn known_after_changes()
-    ensures { (changes : List Change) (T : Table) → AreChanged changes new_table T → (s : Text) → IsTrue (knows T s) ↔ ((s ≡ []) ⊎ ((t : Text) × IsAdded t changes × IsPrefix s t)) }
+    ensures { (changes : List Change) (T : Table) → AreChanged changes new_table T → (s : Text)
+        → IsTrue (knows T s) ↔ ((s ≡ []) ⊎ ((t : Text) × IsAdded t changes × IsPrefix s t)) }
 {}
 
 /// The document frequency of a token is the number of its postings, and 0 where it is unknown.
@@ -47,9 +55,14 @@ pub fn one_value_a_store()
     ensures { (c : Contents) (v : Data) (w : Data) → IsStoreValue c v → IsStoreValue c w → v ≡ w }
 {}
 
-/// An answer that keeps the contract of `DocumentStore::from_value` on the value of contents is those contents, or want of memory.
+/// An answer that keeps the contract of `DocumentStore::from_value` on the value of contents is those
+/// contents, or want of memory.
 pub fn store_values_are_read_back()
-    ensures { (c : Contents) (v : Data) (answer : Result Contents IndexError) → IsContents c → IsStoreValue c v → IfOk answer (λ d. IsStoreValue d v) → IfErr answer (IsRefused ((d : Contents) → IsContents d → ¬ (IsStoreValue d v))) → IsAnswer c answer }
+    ensures { (c : Contents) (v : Data) (answer : Result Contents IndexError)
+        → IsConsistent c → IsStoreValue c v
+        → IfOk answer (λ d. IsStoreValue d v)
+        → IfErr answer (IsRefused ((d : Contents) → IsConsistent d → ¬ (IsStoreValue d v)))
+        → IsAnswer c answer }
 {}
 
 /// Two tries are `==` exactly if their tables are equal.
@@ -64,7 +77,31 @@ pub fn equal_stores()
 
 /// What is written for options gives these options when it is read.
 pub fn written_options_are_read()
-    ensures { (options : Options) → HasSmallBoosts options → ReadsOptions (options_value options) options }
+    ensures { (options : Options) → ReadsOptions (options_value options) options }
+{}
+
+/// A value gives one search's options at most.
+pub fn one_options_a_value()
+    ensures { (a : Options) (b : Options) (v : Data) → ReadsOptions v a → ReadsOptions v b → a ≡ b }
+{}
+
+/// An answer that keeps the contract of `SearchOptions::from_value` on what is written for options is
+/// those options, or want of memory.
+pub fn written_options_are_read_back()
+    ensures { (options : Options) (answer : Result Options IndexError)
+        → IfOk answer (ReadsOptions (options_value options))
+        → IfErr answer (IsRefused ((other : Options) → ¬ (ReadsOptions (options_value options) other)))
+        → IsAnswer options answer }
+{}
+
+/// The boosts of options have 8 bits.
+pub fn boosts_are_small()
+    ensures { (options : Options) → HasSmallBoosts options }
+{}
+
+/// Two ways to join tokens are `==` exactly if they are equal.
+pub fn equal_bools()
+    ensures { (a : SearchBool) (b : SearchBool) → Decides (same_bool a b) (a ≡ b) }
 {}
 
 /// Two search options are `==` exactly if their parts are equal.

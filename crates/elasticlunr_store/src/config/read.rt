@@ -61,7 +61,8 @@ fn part<'a>(value: &'a Value, key: &str) -> Option<&'a Value>
 fn read_boost_part(value: &Value) -> Result<Option<u8>, IndexError>
     ensures ok { IfOk result (λ boost. IsPart count (get (codes "boost") (view value.now)) boost) }
     ensures small { IfOk result (λ boost. IfSome boost (λ n. n < 2 ^ 8)) }
-    ensures err { IfErr result (IsRefused ((boost : Option ℕ) → IfSome boost (λ n. n < 2 ^ 8) → ¬ (IsPart count (get (codes "boost") (view value.now)) boost))) }
+    ensures err { IfErr result (IsRefused ((boost : Option ℕ)
+        → IfSome boost (λ n. n < 2 ^ 8) → ¬ (IsPart count (get (codes "boost") (view value.now)) boost))) }
 {
     let Some(part) = part(value, "boost") else {
         return Ok(None);
@@ -77,7 +78,8 @@ fn read_boost_part(value: &Value) -> Result<Option<u8>, IndexError>
 
 fn read_bool_part(value: &Value) -> Result<Option<SearchBool>, IndexError>
     ensures ok { IfOk result (λ bool. IsPart bool_value (get (codes "bool") (view value.now)) bool) }
-    ensures err { IfErr result (IsRefused ((bool : Option SearchBool) → ¬ (IsPart bool_value (get (codes "bool") (view value.now)) bool))) }
+    ensures err { IfErr result (IsRefused ((bool : Option SearchBool)
+        → ¬ (IsPart bool_value (get (codes "bool") (view value.now)) bool))) }
 {
     let Some(part) = part(value, "bool") else {
         return Ok(None);
@@ -90,7 +92,8 @@ fn read_bool_part(value: &Value) -> Result<Option<SearchBool>, IndexError>
 
 fn read_expand_part(value: &Value) -> Result<Option<bool>, IndexError>
     ensures ok { IfOk result (λ expand. IsPart boolean (get (codes "expand") (view value.now)) expand) }
-    ensures err { IfErr result (IsRefused ((expand : Option Bool) → ¬ (IsPart boolean (get (codes "expand") (view value.now)) expand))) }
+    ensures err { IfErr result (IsRefused ((expand : Option Bool)
+        → ¬ (IsPart boolean (get (codes "expand") (view value.now)) expand))) }
 {
     let Some(part) = part(value, "expand") else {
         return Ok(None);

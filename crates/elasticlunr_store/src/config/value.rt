@@ -3,7 +3,8 @@ ghost use Rattle.std.specs.Prelude.{◌≡◌, IfOk, OnOk, option_map};
 ghost use Rattle.serde_json.specs.Data.{boolean};
 ghost use Rattle.serde_json.specs.View.{view, members_view};
 ghost use Rattle.elasticlunr_store.specs.Maps.{keyed, count};
-ghost use Rattle.elasticlunr_store.specs.Options.{field_map, bool_value, field_value, options_object, put_part};
+ghost use Rattle.elasticlunr_store.specs.Options.{field_map, bool_value, field_value, options_object};
+ghost use Rattle.elasticlunr_store.specs.OptionalMembers.{put_part};
 
 use super::{SearchBool, SearchOptionsField};
 use crate::members::put_member;
@@ -31,10 +32,7 @@ pub(super) fn put_part(
     ensures { OnOk result (members_view members.new.entries ≡ put_part key.now (option_map view value) (members_view members.old.entries)) }
 {
     match value {
-        Some(value) => {
-            put_member(members, String::from_str(alloc, key)?, value)?;
-            Ok(())
-        }
+        Some(value) => { put_member(members, String::from_str(alloc, key)?, value) }
         None => Ok(()),
     }
 }

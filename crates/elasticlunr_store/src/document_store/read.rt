@@ -5,10 +5,12 @@ ghost use Rattle.std.specs.FinMap.{FinMap, get, empty};
 ghost use Rattle.elasticlunr_text.specs.Text.{Bytes, text_cmp};
 ghost use Rattle.elasticlunr_store.specs.Refused.{IsRefused};
 ghost use Rattle.elasticlunr_store.specs.Contents.{TextMap, LengthMap, store_members, text_map, length_map, document_texts, document_lengths};
+ghost use Rattle.elasticlunr_store.specs.SmallLengths.{AreSmallLengths, HasSmallLengths};
 ghost use Rattle.elasticlunr_store.specs.Maps.{keyed, count};
 ghost use Rattle.serde_json.specs.Data.{Data, Members, member, string};
 ghost use Rattle.serde_json.specs.View.{view, members_view};
 
+use super::put::{put_lengths, put_texts};
 use elasticlunr_text::IndexError;
 use serde_json::{Map, Value};
 use std::alloc::Global;
@@ -16,7 +18,7 @@ use std::collections::BTreeMap;
 use std::collections::btree_map::Iter;
 
 // The texts that a value stands for.
-fn read_text(alloc: Global, value: &Value) -> Result<BTreeMap<String, String>, IndexError>
+fn read_texts(alloc: Global, value: &Value) -> Result<BTreeMap<String, String>, IndexError>
     ensures ok { IfOk result (λ texts. view value.now ≡ keyed string (text_map texts.entries)) }
     ensures err { IfErr result (IsRefused ((m : TextMap) → view value.now ≢ keyed string m)) }
 {
@@ -34,7 +36,7 @@ fn read_text(alloc: Global, value: &Value) -> Result<BTreeMap<String, String>, I
 }
 
 // The texts of documents that a value stands for.
-pub(super) fn read_texts(
+pub(super) fn read_document_texts(
     alloc: Global,
     value: &Value,
 ) -> Result<BTreeMap<String, BTreeMap<String, String>>, IndexError>
@@ -46,15 +48,16 @@ pub(super) fn read_texts(
     };
     let mut docs = BTreeMap::new(alloc);
     for (doc_ref, texts) in members.iter() {
-        let texts = read_text(alloc, texts)?;
-        docs.insert(doc_ref.clone()?, texts)?;
+        let texts = read_texts(alloc, texts)?;
+        put_texts(alloc, &mut docs, doc_ref, texts)?;
     }
     Ok(docs)
 }
 
 // The lengths that a value stands for.
-fn read_length(alloc: Global, value: &Value) -> Result<BTreeMap<String, usize>, IndexError>
+fn read_lengths(alloc: Global, value: &Value) -> Result<BTreeMap<String, usize>, IndexError>
     ensures ok { IfOk result (λ lengths. view value.now ≡ keyed count (length_map lengths.entries)) }
+    ensures small { IfOk result (λ lengths. AreSmallLengths (length_map lengths.entries)) }
     ensures err { IfErr result (IsRefused ((m : LengthMap) → view value.now ≢ keyed count m)) }
 {
     let Some(members) = value.as_object() else {
@@ -71,11 +74,12 @@ fn read_length(alloc: Global, value: &Value) -> Result<BTreeMap<String, usize>, 
 }
 
 // The lengths of documents that a value stands for.
-pub(super) fn read_lengths(
+pub(super) fn read_document_lengths(
     alloc: Global,
     value: &Value,
 ) -> Result<BTreeMap<String, BTreeMap<String, usize>>, IndexError>
     ensures ok { IfOk result (λ doc_info. view value.now ≡ keyed (keyed count) (document_lengths doc_info.entries)) }
+    ensures small { IfOk result (λ doc_info. HasSmallLengths (document_lengths doc_info.entries)) }
     ensures err { IfErr result (IsRefused ((m : FinMap text_cmp LengthMap) → view value.now ≢ keyed (keyed count) m)) }
 {
     let Some(members) = value.as_object() else {
@@ -83,8 +87,8 @@ pub(super) fn read_lengths(
     };
     let mut doc_info = BTreeMap::new(alloc);
     for (doc_ref, lengths) in members.iter() {
-        let lengths = read_length(alloc, lengths)?;
-        doc_info.insert(doc_ref.clone()?, lengths)?;
+        let lengths = read_lengths(alloc, lengths)?;
+        put_lengths(alloc, &mut doc_info, doc_ref, lengths)?;
     }
     Ok(doc_info)
 }
@@ -107,9 +111,11 @@ fn next_member<'a>(rest: &mut Iter<'a, String, Value>, name: &str) -> Option<&'a
 }
 
 // The values of the lengths, the texts, the count and the mark of a store.
-pub(super) fn parts(members: &Map<String, Value>) -> Option<(&Value, &Value, &Value, &Value)>
-    ensures some { IfSome result (λ p. members_view members.now.entries ≡ store_members (view p.0.now) (view p.1.now) (view p.2.now) (view p.3.now)) }
-    ensures none { IfNone result ((lengths texts count save : Data) → members_view members.now.entries ≢ store_members lengths texts count save) }
+pub(super) fn store_parts(members: &Map<String, Value>) -> Option<(&Value, &Value, &Value, &Value)>
+    ensures some { IfSome result (λ p. members_view members.now.entries
+        ≡ store_members (view p.0.now) (view p.1.now) (view p.2.now) (view p.3.now)) }
+    ensures none { IfNone result ((lengths texts count save : Data)
+        → members_view members.now.entries ≢ store_members lengths texts count save) }
 {
     let mut rest = members.iter();
     let doc_info = next_member(&mut rest, "docInfo")?;

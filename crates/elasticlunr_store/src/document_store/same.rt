@@ -7,7 +7,7 @@ ghost use Rattle.elasticlunr_store.specs.Contents.{text_map, length_map, documen
 use std::collections::BTreeMap;
 
 // Whether two maps have the same texts.
-fn same_text(a: &BTreeMap<String, String>, b: &BTreeMap<String, String>) -> bool
+fn same_texts(a: &BTreeMap<String, String>, b: &BTreeMap<String, String>) -> bool
     ensures { result ≡ same_map bytes_eq (text_map a.now.entries) (text_map b.now.entries) }
 {
     if a.len() != b.len() {
@@ -17,7 +17,7 @@ fn same_text(a: &BTreeMap<String, String>, b: &BTreeMap<String, String>) -> bool
 }
 
 // Whether two maps have the same lengths.
-fn same_length(a: &BTreeMap<String, usize>, b: &BTreeMap<String, usize>) -> bool
+fn same_lengths(a: &BTreeMap<String, usize>, b: &BTreeMap<String, usize>) -> bool
     ensures { result ≡ same_map nat_eq (length_map a.now.entries) (length_map b.now.entries) }
 {
     if a.len() != b.len() {
@@ -27,7 +27,7 @@ fn same_length(a: &BTreeMap<String, usize>, b: &BTreeMap<String, usize>) -> bool
 }
 
 // Whether two maps have the same texts of documents.
-pub(super) fn same_texts(
+pub(super) fn same_document_texts(
     a: &BTreeMap<String, BTreeMap<String, String>>,
     b: &BTreeMap<String, BTreeMap<String, String>>,
 ) -> bool
@@ -40,7 +40,7 @@ pub(super) fn same_texts(
                 if doc_ref.as_str() != other_ref.as_str() {
                     return false;
                 }
-                if !same_text(texts, other) {
+                if !same_texts(texts, other) {
                     return false;
                 }
             }
@@ -51,7 +51,7 @@ pub(super) fn same_texts(
 }
 
 // Whether two maps have the same lengths of documents.
-pub(super) fn same_lengths(
+pub(super) fn same_document_lengths(
     a: &BTreeMap<String, BTreeMap<String, usize>>,
     b: &BTreeMap<String, BTreeMap<String, usize>>,
 ) -> bool
@@ -64,7 +64,7 @@ pub(super) fn same_lengths(
                 if doc_ref.as_str() != other_ref.as_str() {
                     return false;
                 }
-                if !same_length(lengths, other) {
+                if !same_lengths(lengths, other) {
                     return false;
                 }
             }

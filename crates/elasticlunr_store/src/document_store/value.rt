@@ -11,7 +11,7 @@ use std::alloc::{AllocError, Global};
 use std::collections::BTreeMap;
 
 // The value of a map of texts.
-fn text_value(alloc: Global, texts: &BTreeMap<String, String>) -> Result<Value, AllocError>
+fn texts_value(alloc: Global, texts: &BTreeMap<String, String>) -> Result<Value, AllocError>
     ensures { IfOk result (λ v. view v ≡ keyed string (text_map texts.now.entries)) }
 {
     let mut members = Map::new(alloc);
@@ -22,7 +22,7 @@ fn text_value(alloc: Global, texts: &BTreeMap<String, String>) -> Result<Value, 
 }
 
 // The value of the texts of documents.
-pub(super) fn texts_value(
+pub(super) fn document_texts_value(
     alloc: Global,
     docs: &BTreeMap<String, BTreeMap<String, String>>,
 ) -> Result<Value, AllocError>
@@ -30,13 +30,13 @@ pub(super) fn texts_value(
 {
     let mut members = Map::new(alloc);
     for (doc_ref, texts) in docs.iter() {
-        put_member(&mut members, doc_ref.clone()?, text_value(alloc, texts)?)?;
+        put_member(&mut members, doc_ref.clone()?, texts_value(alloc, texts)?)?;
     }
     Ok(Value::Object(members))
 }
 
 // The value of a map of lengths.
-fn length_value(alloc: Global, lengths: &BTreeMap<String, usize>) -> Result<Value, AllocError>
+fn lengths_value(alloc: Global, lengths: &BTreeMap<String, usize>) -> Result<Value, AllocError>
     ensures { IfOk result (λ v. view v ≡ keyed count (length_map lengths.now.entries)) }
 {
     let mut members = Map::new(alloc);
@@ -47,7 +47,7 @@ fn length_value(alloc: Global, lengths: &BTreeMap<String, usize>) -> Result<Valu
 }
 
 // The value of the lengths of documents.
-pub(super) fn lengths_value(
+pub(super) fn document_lengths_value(
     alloc: Global,
     doc_info: &BTreeMap<String, BTreeMap<String, usize>>,
 ) -> Result<Value, AllocError>
@@ -58,7 +58,7 @@ pub(super) fn lengths_value(
         put_member(
             &mut members,
             doc_ref.clone()?,
-            length_value(alloc, lengths)?,
+            lengths_value(alloc, lengths)?,
         )?;
     }
     Ok(Value::Object(members))

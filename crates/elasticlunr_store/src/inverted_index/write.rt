@@ -11,8 +11,7 @@ ghost use Rattle.elasticlunr_store.specs.Printed.{place_members, part, tokens_of
 
 use super::InvertedIndex;
 use super::nodes::{Node, Place, children_of};
-use crate::tokens::Tokens;
-use json::Token;
+use crate::tokens::{Token, Tokens};
 use std::alloc::{AllocError, Global};
 use std::collections::BTreeMap;
 

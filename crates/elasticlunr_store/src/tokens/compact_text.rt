@@ -4,8 +4,8 @@ ghost use Rattle.json.specs.Lex.{tokens};
 ghost use Rattle.json.specs.Print.{print};
 ghost use Rattle.elasticlunr_store.specs.Tokens.{IsSmallToken};
 
-use super::Tokens;
-use json::{Token, Writer};
+use super::{Token, Tokens};
+use json::Writer;
 use std::alloc::{AllocError, Global};
 use std::marker::Model;
 
@@ -57,7 +57,7 @@ impl Tokens for CompactText {
 
     #[inline(always)]
     fn token(&mut self, token: Token<'_>) -> Result<(), AllocError> {
-        self.writer.token(token)
+        self.writer.token(token.to_json())
     }
 
     #[inline(always)]

@@ -4,8 +4,8 @@ ghost use Rattle.json.specs.Lex.{tokens};
 ghost use Rattle.json.specs.Layout.{pretty};
 ghost use Rattle.elasticlunr_store.specs.Tokens.{IsSmallToken};
 
-use super::Tokens;
-use json::{Pretty, Token};
+use super::{Token, Tokens};
+use json::Pretty;
 use std::alloc::{AllocError, Global};
 use std::marker::Model;
 
@@ -57,12 +57,12 @@ impl Tokens for PrettyText {
 
     #[inline(always)]
     fn token(&mut self, token: Token<'_>) -> Result<(), AllocError> {
-        self.writer.token(token)
+        self.writer.token(token.to_json())
     }
 
     #[inline(always)]
     fn number(&mut self, n: u64) -> Result<(), AllocError> {
         let mut buffer = itoa::Buffer::new();
-        self.writer.token(Token::Number(buffer.format(n)))
+        self.writer.token(json::Token::Number(buffer.format(n)))
     }
 }

@@ -1,57 +1,47 @@
-use Rattle.std.proofs.Common.{[], ◌++◌, ◌∷◌, refl, sym, ap, subst, ◌∙◌, append_assoc, append-nil, string_cmp, string_bytes}
+use Rattle.std.proofs.Common.{◌<◌, ◌^◌, arith, [], ◌++◌, ◌∷◌, refl, sym, ap, subst, ◌∙◌, append_assoc, append-nil, string_cmp, string_bytes}
 use Rattle.std.specs.FinMap.{insert}
 use Rattle.std.specs.List.Sorted.{IsStrictlySortedBy}
 use Rattle.std.specs.Map.{keys_of}
 use Rattle.std.proofs.lemmas.Map.Text.{btree_map_updates_text}
 use Rattle.serde_json.specs.Data.{object}
 use Rattle.serde_json.specs.View.{members_view, view}
-use Rattle.elasticlunr_store.specs.Maps.{keyed, count}
-use Rattle.elasticlunr_store.specs.Contents.{length_map, document_lengths}
+use Rattle.elasticlunr_store.specs.Maps.{count}
+use Rattle.elasticlunr_store.specs.Contents.{length_map}
+use Rattle.elasticlunr_store.specs.SmallLengths.{AreSmallLengths}
+use Rattle.elasticlunr_store.proofs.Kept.{all_empty, one_more_small}
 use Rattle.elasticlunr_store.proofs.Seen.{seen_inserted}
-use Rattle.elasticlunr_store.proofs.ReadingMaps.{read_more, foreign_member, object_of, no_members_yet}
-use Rattle.elasticlunr_store.proofs.Refusals.{refused_again}
+use Rattle.elasticlunr_store.proofs.ReadingMaps.{read_more, foreign_member, object_of, count_of, no_count, no_members_yet}
 use Rattle.elasticlunr_store.proofs.document_store.read.read_lengths.Goals as goal
 
-pub loop-doc_ref-init : goal.loop-doc_ref-init
-loop-doc_ref-init c = ([], refl, no_members_yet (keyed count) (document_lengths c.new-doc_info.result.entries) (ap document_lengths c.new-doc_info.ensures.empty))
+pub loop-field-init : goal.loop-field-init
+loop-field-init c = ([], refl, no_members_yet count (length_map c.new-lengths.result.entries) (ap length_map c.new-lengths.ensures.empty), subst AreSmallLengths (ap length_map (sym c.new-lengths.ensures.empty)) (all_empty (λ n. n < 2 ^ 64)))
 
-pub loop-doc_ref-preserved-in_ok-insert : goal.loop-doc_ref-preserved-in_ok-insert
-loop-doc_ref-preserved-in_ok-insert c =
-    let held = c.loop-doc_ref.invariant in
-    let more = ap (λ es. held.0 ++ es) (sym c.in-Some-2.ensures.steps) ∙ held.1 in
-    let all = c.into_iter-doc_ref-iterator.ensures.into_iter_gives ∙ c.iter-doc_ref-items.ensures.rest in
-    let sorted = subst (λ es. IsStrictlySortedBy string_cmp (keys_of es)) (sym (more ∙ all)) c.iter-doc_ref-items.ensures.ordered in
-    let name = string_bytes c.in_ok-clone.field-0 in
-    let put = seen_inserted (λ m. length_map m.entries) c.loop-doc_ref.doc_info c.insert.new.self name c.in_ok-lengths.lengths (btree_map_updates_text name c.loop-doc_ref.doc_info c.insert.new.self _ c.in_ok-insert.ensures.updates) in
-    let is = put ∙ (λ i. insert (document_lengths c.loop-doc_ref.doc_info.entries) (c.in_ok-clone.ensures.cases i) (length_map c.in_ok-lengths.lengths.entries)) in (
-      held.0 ++ (c.in-Some-2.doc_ref.now, c.in-Some-2.lengths.now) ∷ [],
-      append_assoc held.0 _ c.next.new.self ∙ more,
-      read_more (keyed count) (document_lengths c.loop-doc_ref.doc_info.entries) (document_lengths c.insert.new.self.entries) held.0 (c.in-Some-2.doc_ref.now, c.in-Some-2.lengths.now) c.next.new.self (length_map c.in_ok-lengths.lengths.entries) sorted held.2 is (c.in_ok-lengths.ensures.ok),
-    )
+pub returns-in_default-as_u64-clause-err : goal.returns-in_default-as_u64-clause-err
+returns-in_default-as_u64-clause-err c =
+    let held = c.loop-field.invariant in
+    let more = ap (λ es. held.0 ++ es) (sym c.in-Some-2.ensures.steps) ∙ held.1 ∙ c.into_iter-field-iterator.ensures.into_iter_gives ∙ c.iter-field-items.ensures.rest in
+    foreign_member count (view c.args.value.now) c.in-Some.members.now.entries held.0 (c.in-Some-2.field.now, c.in-Some-2.length.now) c.next.new.self (object_of _ _ c.in-Some.ensures) more (no_count _ c.in_default-as_u64.ensures)
 
-pub loop-doc_ref-preserved : goal.loop-doc_ref-preserved
-loop-doc_ref-preserved c =
-    let held = c.loop-doc_ref.invariant in
+pub loop-field-preserved : goal.loop-field-preserved
+loop-field-preserved c =
+    let held = c.loop-field.invariant in
     let more = ap (λ es. held.0 ++ es) (sym c.in-Some-2.ensures.steps) ∙ held.1 in
-    let all = c.into_iter-doc_ref-iterator.ensures.into_iter_gives ∙ c.iter-doc_ref-items.ensures.rest in
-    let sorted = subst (λ es. IsStrictlySortedBy string_cmp (keys_of es)) (sym (more ∙ all)) c.iter-doc_ref-items.ensures.ordered in
+    let all = c.into_iter-field-iterator.ensures.into_iter_gives ∙ c.iter-field-items.ensures.rest in
+    let sorted = subst (λ es. IsStrictlySortedBy string_cmp (keys_of es)) (sym (more ∙ all)) c.iter-field-items.ensures.ordered in
     let name = string_bytes c.in_ok-clone.field-0 in
-    let put = seen_inserted (λ m. length_map m.entries) c.loop-doc_ref.doc_info c.insert.new.self name c.in_ok-lengths.lengths (btree_map_updates_text name c.loop-doc_ref.doc_info c.insert.new.self _ c.in_ok-insert.ensures.updates) in
-    let is = put ∙ (λ i. insert (document_lengths c.loop-doc_ref.doc_info.entries) (c.in_ok-clone.ensures.cases i) (length_map c.in_ok-lengths.lengths.entries)) in (
-      held.0 ++ (c.in-Some-2.doc_ref.now, c.in-Some-2.lengths.now) ∷ [],
+    let put = seen_inserted (λ n. n) c.loop-field.lengths c.insert.new.self name c.in-Some-as_u64.length (btree_map_updates_text name c.loop-field.lengths c.insert.new.self _ c.in_ok-insert.ensures.updates) in
+    let is = put ∙ (λ i. insert (length_map c.loop-field.lengths.entries) (c.in_ok-clone.ensures.cases i) c.in-Some-as_u64.length) in (
+      held.0 ++ (c.in-Some-2.field.now, c.in-Some-2.length.now) ∷ [],
       append_assoc held.0 _ c.next.new.self ∙ more,
-      read_more (keyed count) (document_lengths c.loop-doc_ref.doc_info.entries) (document_lengths c.insert.new.self.entries) held.0 (c.in-Some-2.doc_ref.now, c.in-Some-2.lengths.now) c.next.new.self (length_map c.in_ok-lengths.lengths.entries) sorted held.2 is (c.in_ok-lengths.ensures.ok),
+      read_more count (length_map c.loop-field.lengths.entries) (length_map c.insert.new.self.entries) held.0 (c.in-Some-2.field.now, c.in-Some-2.length.now) c.next.new.self c.in-Some-as_u64.length sorted held.2 is (count_of _ _ c.in-Some-as_u64.ensures),
+      subst AreSmallLengths (sym is) (one_more_small (length_map c.loop-field.lengths.entries) (string_bytes c.in-Some-2.field.now) c.in-Some-as_u64.length (omega arith) held.3),
     )
 
 pub returns-clause-ok : goal.returns-clause-ok
 returns-clause-ok c =
-    let held = c.loop-doc_ref.invariant in
-    let all = sym (append-nil held.0) ∙ ap (λ es. held.0 ++ es) (sym c.in-None.ensures.steps.0) ∙ held.1 ∙ c.into_iter-doc_ref-iterator.ensures.into_iter_gives ∙ c.iter-doc_ref-items.ensures.rest in
+    let held = c.loop-field.invariant in
+    let all = sym (append-nil held.0) ∙ ap (λ es. held.0 ++ es) (sym c.in-None.ensures.steps.0) ∙ held.1 ∙ c.into_iter-field-iterator.ensures.into_iter_gives ∙ c.iter-field-items.ensures.rest in
     object_of _ _ c.in-Some.ensures ∙ ap object (ap members_view (sym all) ∙ held.2)
 
-pub returns-in_err-lengths-clause-err : goal.returns-in_err-lengths-clause-err
-returns-in_err-lengths-clause-err c =
-    let held = c.loop-doc_ref.invariant in
-    let more = ap (λ es. held.0 ++ es) (sym c.in-Some-2.ensures.steps) ∙ held.1 ∙ c.into_iter-doc_ref-iterator.ensures.into_iter_gives ∙ c.iter-doc_ref-items.ensures.rest in
-    refused_again _ _ (foreign_member (keyed count) (view c.args.value.now) c.in-Some.members.now.entries held.0 (c.in-Some-2.doc_ref.now, c.in-Some-2.lengths.now) c.next.new.self (object_of _ _ c.in-Some.ensures) more)
-    c.in_err-lengths.field-0.0 c.from_residual.result c.from_residual.ensures.1 c.in_err-lengths.ensures.err
+pub returns-clause-small : goal.returns-clause-small
+returns-clause-small c = c.loop-field.invariant.3

@@ -2,10 +2,11 @@ use Rattle.std.proofs.Common.{◌≡◌, List, ◌++◌}
 use Rattle.std.specs.FinMap.{entries}
 use Rattle.serde_json.specs.View.{members_view}
 use Rattle.serde_json.proofs.Views.{Entry}
-use Rattle.elasticlunr_store.specs.Maps.{members, keyed, count}
-use Rattle.elasticlunr_store.specs.Contents.{document_lengths}
+use Rattle.elasticlunr_store.specs.Maps.{members, count}
+use Rattle.elasticlunr_store.specs.Contents.{length_map}
+use Rattle.elasticlunr_store.specs.SmallLengths.{AreSmallLengths}
 use Rattle.elasticlunr_store.proofs.document_store.read.read_lengths.Given as goal
 
 -- an entry for each member that was read
-abbrev pub invariant-loop-doc_ref : goal.invariant-loop-doc_ref
-invariant-loop-doc_ref l = (done : List Entry) × (done ++ l.doc_ref-iterator ≡ l.initial.doc_ref-iterator) × (members_view done ≡ members (keyed count) (entries (document_lengths l.doc_info.entries)))
+abbrev pub invariant-loop-field : goal.invariant-loop-field
+invariant-loop-field l = (done : List Entry) × (done ++ l.field-iterator ≡ l.initial.field-iterator) × (members_view done ≡ members count (entries (length_map l.lengths.entries))) × AreSmallLengths (length_map l.lengths.entries)

@@ -3,10 +3,10 @@ use Rattle.std.specs.FinMap.{entries}
 use Rattle.serde_json.specs.Data.{string}
 use Rattle.serde_json.specs.View.{members_view}
 use Rattle.serde_json.proofs.Views.{Entry}
-use Rattle.elasticlunr_store.specs.Maps.{members, keyed}
-use Rattle.elasticlunr_store.specs.Contents.{document_texts}
+use Rattle.elasticlunr_store.specs.Maps.{members}
+use Rattle.elasticlunr_store.specs.Contents.{text_map}
 use Rattle.elasticlunr_store.proofs.document_store.read.read_texts.Given as goal
 
 -- an entry for each member that was read
-abbrev pub invariant-loop-doc_ref : goal.invariant-loop-doc_ref
-invariant-loop-doc_ref l = (done : List Entry) × (done ++ l.doc_ref-iterator ≡ l.initial.doc_ref-iterator) × (members_view done ≡ members (keyed string) (entries (document_texts l.docs.entries)))
+abbrev pub invariant-loop-field : goal.invariant-loop-field
+invariant-loop-field l = (done : List Entry) × (done ++ l.field-iterator ≡ l.initial.field-iterator) × (members_view done ≡ members string (entries (text_map l.texts.entries)))

@@ -3,6 +3,7 @@ use Rattle.json.specs.Token.{Token}
 use Rattle.elasticlunr_store.specs.Maps.{members, keyed, count}
 use Rattle.elasticlunr_store.specs.Contents.{length_map}
 use Rattle.elasticlunr_store.specs.Printed.{tokens_of}
+use Rattle.elasticlunr_store.proofs.Seen.{on_ok}
 use Rattle.elasticlunr_store.proofs.Sorted.{shown, entries_seen}
 use Rattle.elasticlunr_store.proofs.document_store.write.write_document_lengths.Goals as goal
 
@@ -11,6 +12,6 @@ returns g c =
     let es = c.args.doc_info.now.entries in
     let old = g.W.Tokens.written c.args.out.now in
     let end = ap (λ rest. g.W.Tokens.written c.loop-doc_ref.out ++ tokens_of (members (keyed count) (shown (λ m. length_map m.entries) rest))) c.in-None.ensures.steps.0 in
-    c.in_ok-token-3.ensures ∙ sym end ∙ c.loop-doc_ref.invariant ∙ ap (λ ts. ts ++ tokens_of (members (keyed count) (shown (λ m. length_map m.entries) es))) c.in_ok-token.ensures
+    on_ok c.token-2.result _ _ (λ last. last ∙ sym end ∙ c.loop-doc_ref.invariant ∙ ap (λ ts. ts ++ tokens_of (members (keyed count) (shown (λ m. length_map m.entries) es))) c.in_ok-token.ensures
     ∙ append_assoc old _ _
-    ∙ ap (λ xs. old ++ Token.begin_object ∷ tokens_of (members (keyed count) xs)) (sym (entries_seen (λ m. length_map m.entries) es c.iter-doc_ref-items.ensures.ordered))
+    ∙ ap (λ xs. old ++ Token.begin_object ∷ tokens_of (members (keyed count) xs)) (sym (entries_seen (λ m. length_map m.entries) es c.iter-doc_ref-items.ensures.ordered))) c.token-2.ensures

@@ -2,6 +2,7 @@ use Rattle.std.proofs.Common.{◌∷◌, ◌++◌, sym, ap, ◌∙◌, append_as
 use Rattle.json.specs.Token.{Token}
 use Rattle.elasticlunr_store.specs.Maps.{members, count}
 use Rattle.elasticlunr_store.specs.Printed.{tokens_of}
+use Rattle.elasticlunr_store.proofs.Seen.{on_ok}
 use Rattle.elasticlunr_store.proofs.Sorted.{shown, entries_seen}
 use Rattle.elasticlunr_store.proofs.document_store.write.write_lengths.Goals as goal
 
@@ -10,6 +11,6 @@ returns g c =
     let es = c.args.lengths.now.entries in
     let old = g.W.Tokens.written c.args.out.now in
     let end = ap (λ rest. g.W.Tokens.written c.loop-field.out ++ tokens_of (members (count) (shown (λ n. n) rest))) c.in-None.ensures.steps.0 in
-    c.in_ok-token-3.ensures ∙ sym end ∙ c.loop-field.invariant ∙ ap (λ ts. ts ++ tokens_of (members (count) (shown (λ n. n) es))) c.in_ok-token.ensures
+    on_ok c.token-2.result _ _ (λ last. last ∙ sym end ∙ c.loop-field.invariant ∙ ap (λ ts. ts ++ tokens_of (members (count) (shown (λ n. n) es))) c.in_ok-token.ensures
     ∙ append_assoc old _ _
-    ∙ ap (λ xs. old ++ Token.begin_object ∷ tokens_of (members (count) xs)) (sym (entries_seen (λ n. n) es c.iter-field-items.ensures.ordered))
+    ∙ ap (λ xs. old ++ Token.begin_object ∷ tokens_of (members (count) xs)) (sym (entries_seen (λ n. n) es c.iter-field-items.ensures.ordered))) c.token-2.ensures

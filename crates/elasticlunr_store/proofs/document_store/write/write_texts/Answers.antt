@@ -3,6 +3,7 @@ use Rattle.json.specs.Token.{Token}
 use Rattle.serde_json.specs.Data.{string}
 use Rattle.elasticlunr_store.specs.Maps.{members}
 use Rattle.elasticlunr_store.specs.Printed.{tokens_of}
+use Rattle.elasticlunr_store.proofs.Seen.{on_ok}
 use Rattle.elasticlunr_store.proofs.Sorted.{shown, entries_seen}
 use Rattle.elasticlunr_store.proofs.document_store.write.write_texts.Goals as goal
 
@@ -11,6 +12,6 @@ returns g c =
     let es = c.args.texts.now.entries in
     let old = g.W.Tokens.written c.args.out.now in
     let end = ap (λ rest. g.W.Tokens.written c.loop-field.out ++ tokens_of (members (string) (shown (string_bytes) rest))) c.in-None.ensures.steps.0 in
-    c.in_ok-token-4.ensures ∙ sym end ∙ c.loop-field.invariant ∙ ap (λ ts. ts ++ tokens_of (members (string) (shown (string_bytes) es))) c.in_ok-token.ensures
+    on_ok c.token-2.result _ _ (λ last. last ∙ sym end ∙ c.loop-field.invariant ∙ ap (λ ts. ts ++ tokens_of (members (string) (shown (string_bytes) es))) c.in_ok-token.ensures
     ∙ append_assoc old _ _
-    ∙ ap (λ xs. old ++ Token.begin_object ∷ tokens_of (members (string) xs)) (sym (entries_seen (string_bytes) es c.iter-field-items.ensures.ordered))
+    ∙ ap (λ xs. old ++ Token.begin_object ∷ tokens_of (members (string) xs)) (sym (entries_seen (string_bytes) es c.iter-field-items.ensures.ordered))) c.token-2.ensures

@@ -1,5 +1,5 @@
 -- On what a pipeline leaves of tokens.
-use Rattle.std.proofs.Common.{◌≡◌, ℕ, ◌+◌, ◌<◌, List, [], ◌∷◌, ◌++◌, length, get_or, drop, Option, Some, None, Result, Ok, Err, String, option_map, option_to_list, IfOk, filter_map, refl, sym, ◌∙◌, ap}
+use Rattle.std.proofs.Common.{◌≡◌, ℕ, ◌+◌, ◌<◌, List, [], ◌∷◌, ◌++◌, length, get_or, drop, Option, Some, None, Result, Ok, Err, String, option_map, option_to_list, IfOk, IsSomeAnd, filter_map, refl, sym, ◌∙◌, ap, subst}
 use Rattle.std.specs.List.{AllZip}
 use Rattle.std.specs.declared.alloc.Global.{Global}
 use Rattle.std.specs.declared.alloc.AllocError.{AllocError}
@@ -7,6 +7,10 @@ use Rattle.std.specs.declared.dyn_box.DynBox.{DynBox}
 use Rattle.std.proofs.lemmas.List.{drop_more, map-append, append-nil}
 use Rattle.std.proofs.lemmas.List.Elements.{filter_map-append}
 use Rattle.elasticlunr_text.specs.Text.{text_of, texts_of}
+use Rattle.std.proofs.lemmas.Option.{none-some}
+use Rattle.elasticlunr_text.specs.Stems.{Stem}
+use Rattle.elasticlunr_text.proofs.OneStem.{one-Stem}
+use Rattle.elasticlunr_text.specs.declared.pipeline.stage.Stage.TheVariants.{EnglishTrimmer, StopWords, Class, EnglishStemmer, ArabicStemmer, Keep, Function, Own}
 use Rattle.elasticlunr_text.specs.Answers.{MayAnswer}
 use Rattle.elasticlunr_text.specs.Stages.{MayLeave, MayLeaveAll, MayRun}
 use Rattle.elasticlunr_text.specs.declared.pipeline.function.FnWrapper.{FnWrapper}
@@ -82,3 +86,53 @@ module _ {f x p calls : _} (leaves : DynBox x Global p → List ℕ → Option (
   pub MayRun-both : (stages : List (Stage f x p calls)) (tokens more one other : List (List ℕ)) → MayRun leaves stages tokens one → MayRun leaves stages more other → MayRun leaves stages (tokens ++ more) (one ++ other)
   MayRun-both stages tokens more one other (lefts, all, same) (rests, rest_all, rest_same) =
       (lefts ++ rests, AllZip-both (MayLeaveAll leaves stages) tokens more lefts rests all rest_all, rw (same, rest_same) (sym (filter_map-append (λ l. l) lefts rests)))
+
+-- what a wrapper's function may answer, it has one answer by the wrapper's own invariant
+one-MayAnswer : {f calls : _} (w : FnWrapper f calls) (t : List ℕ) (a b : Option (List ℕ)) → MayAnswer w t a → MayAnswer w t b → a ≡ b
+one-MayAnswer w t a b (g, s, p, es, ep, m) (h, r, q, er, eq, n) = sym ep ∙ w.one_answer g h s r p q (es ∙ sym er) m n ∙ eq
+
+-- a word has one stem at most
+one-stem-left : (t : List ℕ) (a b : Option (List ℕ)) → IsSomeAnd a (Stem t) → IsSomeAnd b (Stem t) → a ≡ b
+one-stem-left t None b one other = absurd one
+one-stem-left t (Some u) None one other = absurd other
+one-stem-left t (Some u) (Some v) one other = ap (λ x. Some x) (one-Stem t u v one other)
+
+module _ {f x p calls : _} (leaves : DynBox x Global p → List ℕ → Option (List ℕ)) where
+  -- a stage leaves one thing of a token
+  one-MayLeave : (stage : Stage f x p calls) (t : List ℕ) (a b : Option (List ℕ)) → MayLeave leaves stage t a → MayLeave leaves stage t b → a ≡ b
+  one-MayLeave EnglishTrimmer t a b one other = one ∙ sym other
+  one-MayLeave (StopWords filter) t a b one other = one ∙ sym other
+  one-MayLeave (Class trimmer) t a b one other = one ∙ sym other
+  one-MayLeave EnglishStemmer t a b one other = one-stem-left t a b one other
+  one-MayLeave ArabicStemmer t a b one other = one ∙ sym other
+  one-MayLeave (Keep name) t a b one other = one ∙ sym other
+  one-MayLeave (Function w) t a b one other = one-MayAnswer w t a b one other
+  one-MayLeave (Own step) t a b one other = one ∙ sym other
+
+  -- so do stages, one after the other
+  pub one-MayLeaveAll : (stages : List (Stage f x p calls)) (t : List ℕ) (a b : Option (List ℕ)) → MayLeaveAll leaves stages t a → MayLeaveAll leaves stages t b → a ≡ b
+  one-MayLeaveAll [] t a b one other = one ∙ sym other
+  one-MayLeaveAll (stage ∷ stages) t a b (None, m, e) (None, n, k) = e ∙ sym k
+  one-MayLeaveAll (stage ∷ stages) t a b (None, m, e) (Some v, n, k) = absurd (none-some v (one-MayLeave stage t None (Some v) m n))
+  one-MayLeaveAll (stage ∷ stages) t a b (Some u, m, e) (None, n, k) = absurd (none-some u (sym (one-MayLeave stage t (Some u) None m n)))
+  one-MayLeaveAll (stage ∷ stages) t a b (Some u, m, e) (Some v, n, k) =
+      let same = one-MayLeave stage t (Some u) (Some v) m n in
+      let at : v ≡ u = cc in
+      one-MayLeaveAll stages u a b e (subst (λ (z : List ℕ). MayLeaveAll leaves stages z b) at k)
+
+  -- and of each token of a list
+  one-AllZip : (stages : List (Stage f x p calls)) (ts : List (List ℕ)) (ms ns : List (Option (List ℕ))) → AllZip (MayLeaveAll leaves stages) ts ms → AllZip (MayLeaveAll leaves stages) ts ns → ms ≡ ns
+  one-AllZip stages [] [] [] one other = refl
+  one-AllZip stages [] (a ∷ ms) ns one other = absurd one
+  one-AllZip stages [] [] (b ∷ ns) one other = absurd other
+  one-AllZip stages (t ∷ ts) [] ns one other = absurd one
+  one-AllZip stages (t ∷ ts) (a ∷ ms) [] one other = absurd other
+  one-AllZip stages (t ∷ ts) (a ∷ ms) (b ∷ ns) one other =
+      let head = one-MayLeaveAll stages t a b one.0 other.0 in
+      let tail = one-AllZip stages ts ms ns one.1 other.1 in
+      cc
+
+  -- so a run has one answer
+  pub one-MayRun : (stages : List (Stage f x p calls)) (ts us vs : List (List ℕ)) → MayRun leaves stages ts us → MayRun leaves stages ts vs → us ≡ vs
+  one-MayRun stages ts us vs (ms, all, same) (ns, every, sames) =
+      same ∙ ap (filter_map (λ l. l)) (one-AllZip stages ts ms ns all every) ∙ sym sames

@@ -29,3 +29,8 @@ pub fn a_run_of_two_lists(pipeline: &Pipeline)
     ensures parts { (tokens more texts : List Text) → IsRun leaves pipeline.now (tokens ++ more) texts → (one : List Text) × (other : List Text) × (texts ≡ one ++ other) × IsRun leaves pipeline.now tokens one × IsRun leaves pipeline.now more other }
     ensures both { (tokens more one other : List Text) → IsRun leaves pipeline.now tokens one → IsRun leaves pipeline.now more other → IsRun leaves pipeline.now (tokens ++ more) (one ++ other) }
 {}
+
+/// A run of one list of tokens leaves one list of texts.
+pub fn a_run_has_one_answer(pipeline: &Pipeline)
+    ensures { (tokens texts others : List Text) → IsRun leaves pipeline.now tokens texts → IsRun leaves pipeline.now tokens others → texts ≡ others }
+{}

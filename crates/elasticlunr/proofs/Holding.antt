@@ -1,6 +1,7 @@
 -- What an index holds that has not failed, and what is printed of it.
-use Rattle.std.proofs.Common.{◌≡◌, ℕ, List, length, Option, Some, true, refl, sym, ap, subst, ◌∙◌}
-use Rattle.std.specs.Prelude.{IsSomeAnd, All}
+use Rattle.std.proofs.Common.{◌≡◌, ◌<◌, ℕ, List, length, get_or, Option, Some, Result, Ok, Err, true, refl, sym, ap, subst, ◌∙◌}
+use Rattle.std.proofs.lemmas.Option.{slice_get_read}
+use Rattle.std.specs.Prelude.{IsSomeAnd, IfSome, IfOk, All}
 use Rattle.elasticlunr_text.specs.Text.{bytes_of}
 use Rattle.elasticlunr_store.specs.Table.{Table, IsTable}
 use Rattle.elasticlunr_store.specs.Contents as store
@@ -12,13 +13,24 @@ use Rattle.elasticlunr.specs.Fields.{all_differ}
 use Rattle.elasticlunr.specs.History.{Commands, Agree}
 use Rattle.elasticlunr.specs.Parts.{IsPrinted, IsPrintedText}
 use Rattle.elasticlunr.specs.Printed.{AreTrieValues, IsValue, IsValueOf, IsIndexValue, IsValueOfNoOther, IsTextOf, IsTextOfNoOther, IsTextAfter, IsReadAfter, IsReadAs, IsPrintOf, PrintAlike, index_object}
-use Rattle.elasticlunr.specs.Standing.{Plan, Holds}
+use Rattle.elasticlunr.specs.Standing.{Plan, Holds, IsTableOf}
 use Rattle.elasticlunr.proofs.Agreeing.{holds_agreed}
+
+-- what an answer shows
+pub if_ok : {T E : Type 0} (r : Result T E) (P Q : T → Type 0) → ((x : T) → P x → Q x) → IfOk r P → IfOk r Q
+if_ok (Ok x) P Q f h = f x h
+if_ok (Err e) P Q f h = h
 
 -- its contents
 pub held : (plan : Plan) (there : Option Contents) (contents : Contents) (commands : Commands) → there ≡ Some contents
     → IsSomeAnd there (λ c. Holds plan commands c.tries.items c.store) → Holds plan commands contents.tries.items contents.store
 held plan there contents commands is stands = subst (λ o. IsSomeAnd o (λ c. Holds plan commands c.tries.items c.store)) is stands
+
+-- the trie at a place is the table of the field of that number
+pub table_of_held : (plan : Plan) (commands : Commands) (contents : Contents) (i : ℕ) (trie : Table) → i < length contents.tries.items → trie ≡ get_or contents.tries.items i trie
+    → Holds plan commands contents.tries.items contents.store → IsTableOf commands i trie
+table_of_held plan commands contents i trie inside read holds =
+    subst (λ o. IfSome o (IsTableOf commands i)) (slice_get_read contents.tries.items (length contents.tries.items) i trie refl inside read) (holds.each i)
 
 -- new tries beside the store of the same contents
 pub held_beside : (plan : Plan) (tables : List Table) (contents same : Contents) (commands : Commands) → contents ≡ same

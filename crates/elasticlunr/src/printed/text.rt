@@ -21,7 +21,8 @@ pub fn index_json(alloc: Global, parts: Parts<'_>) -> Result<String, IndexError>
     Ok(out.into_string())
 }
 
-/// The indented text of the value of an index with these parts: a line for each item and each member.
+/// The indented text of the value of an index with these parts: a line for each item and each
+/// member.
 pub fn index_json_pretty(alloc: Global, parts: Parts<'_>) -> Result<String, IndexError>
     ensures text { IfOk result (λ text. IsPrintedText pretty_text parts.entry (string_bytes text)) }
     ensures memory { IsOkUnless result Memory }

@@ -7,11 +7,11 @@ use Rattle.elasticlunr_store.specs.Contents.{store_value}
 use Rattle.elasticlunr.specs.Printed.{index_object}
 use Rattle.elasticlunr.specs.Parts.{plan_of_parts}
 use Rattle.elasticlunr.proofs.Sorting.{members_by_name}
-use Rattle.elasticlunr.proofs.Writing.{index_tokens}
+use Rattle.elasticlunr.proofs.Writing.{index_tokens, ok_then}
 use Rattle.elasticlunr.proofs.printed.write.write_index.Goals as goal
 
 pub returns : goal.returns
-returns g c =
+returns g c = ok_then c.write_settings.result c.write_settings.ensures (λ done.
     let names = map string_bytes c.args.parts.fields.now in
     let many : length c.args.parts.tries.now ≡ length names = c.args.parts.one_each ∙ sym (length-map c.args.parts.fields.now string_bytes) in
     let sorted = c.in_ok-write_tries.ensures in
@@ -25,8 +25,7 @@ returns g c =
         are_tables = tries.3;
         printed = record { tries = tries.0; documents = documents; each_trie = tries.1; store = refl; whole = refl };
       },
-      index_tokens (plan_of_parts c.args.parts) tries.0 documents (g.W.Tokens.written c.args.out.now) _ _ _ _ _ _ _ _ _ _ _ _ _ _ _ _
+      index_tokens (plan_of_parts c.args.parts) tries.0 documents (g.W.Tokens.written c.args.out.now) _ _ _ _ _ _ _ _
           c.in_ok-token.ensures c.in_ok-token-2.ensures c.in_ok-write.ensures c.in_ok-token-3.ensures c.in_ok-write_names.ensures
-          c.in_ok-token-4.ensures index c.in_ok-token-5.ensures c.in_ok-token-6.ensures c.in_ok-token-7.ensures c.in_ok-write_names-2.ensures
-          c.in_ok-token-8.ensures c.in_ok-token-9.ensures c.in_ok-token-10.ensures c.in_ok-token-11.ensures c.in_ok-token-12.ensures,
-    )
+          c.in_ok-token-4.ensures index done,
+    ))

@@ -3,11 +3,24 @@ use Rattle.std.proofs.Common.{◌≡◌, ◌≢◌, ℕ, zero, suc, List, [], �
 use Rattle.std.proofs.lemmas.Slice.Eq.{bytes_eq-Decides}
 use Rattle.std.proofs.lemmas.List.{take_more}
 use Rattle.std.specs.Borrow.{Bor}
+use Rattle.std.specs.Prelude.{IfNone}
 use Rattle.std.specs.List.{slice_get}
 use Rattle.elasticlunr_text.specs.Text.{Text, Bytes}
 use Rattle.elasticlunr.specs.Choices.{Choices, beginning, with_field, with_fields, UsesLanguage}
 use Rattle.elasticlunr.specs.Fields.{has_name, all_differ}
 use Rattle.elasticlunr.specs.Reading.{LanguageReads, ReadsOnly}
+use Rattle.elasticlunr.specs.Standing.{Plan}
+
+-- where nothing is there, plans with equal stages are equal
+pub same_plan : {X : Type 0} (fields : List Bytes) (reference_field : Bytes) (save : Bool) (language : Bytes) (o : Option X) (stages other : List Bytes) → IfNone o (stages ≡ other)
+    → IfNone o (◌≡◌ {A = Plan} (record { fields = fields; reference_field = reference_field; save = save; language = language; stages = stages }) (record { fields = fields; reference_field = reference_field; save = save; language = language; stages = other }))
+same_plan fields reference_field save language None stages other is = λ i. record { fields = fields; reference_field = reference_field; save = save; language = language; stages = is i }
+same_plan fields reference_field save language (Some x) stages other is = is
+
+-- what is so where nothing is there
+pub where_none : {X : Type 0} (o : Option X) (P : Type 0) → o ≡ None → IfNone o P → P
+where_none None P is p = p
+where_none (Some x) P is p = absurd (cc (is))
 
 module _ {A : Type 0} where
   end_empty : (xs : List A) → xs ++ [] ≡ xs

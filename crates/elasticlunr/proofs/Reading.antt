@@ -1,5 +1,6 @@
 -- What is read by the language alone.
-use Rattle.std.proofs.Common.{◌≡◌, ◌≢◌, ℕ, List, [], ◌∷◌, Option, None, Some, IsTrue, String, Global, string_bytes, refl, subst, filter_map}
+use Rattle.std.proofs.Common.{◌≡◌, ◌≢◌, ◌<◌, ℕ, List, [], ◌∷◌, length, get_or, Option, None, Some, Result, IfOk, IsTrue, String, Vec, Global, string_bytes, refl, sym, subst, filter_map}
+use Rattle.std.proofs.lemmas.Option.{slice_get_read}
 use Rattle.std.specs.List.{slice_get, AllZip, AllByRecursion}
 use Rattle.std.specs.Str.{chars, all_scalars}
 use Rattle.std.proofs.lemmas.Str.{scalars-chars, IsUtf8-string_bytes}
@@ -19,6 +20,13 @@ leaves_as M R as_R [] [] are all = tt
 leaves_as M R as_R [] (left ∷ lefts) are all = absurd all
 leaves_as M R as_R (token ∷ tokens) [] are all = absurd all
 leaves_as M R as_R (token ∷ tokens) (left ∷ lefts) are all = (as_R token left are.0 all.0, leaves_as M R as_R tokens lefts are.1 all.1)
+
+-- what is made at a place of the list of tokenizers
+pub made_at : {L T E : Type 0} (tokens_of : L → Text → List Text) (answers : T → Bytes → List Text → Type 0) (language : L) (tokenizers : List (Option T)) (i : ℕ) (place : Option T) (value : Bytes)
+    (r : Result (Vec (String Global) Global) E) → i < length tokenizers → place ≡ get_or tokenizers i place → IfOk r (λ made. IsMadeAt tokens_of answers language (Some place) value (texts_of made.items))
+    → IfOk r (λ made. IsMadeAt tokens_of answers language (slice_get tokenizers i) value (texts_of made.items))
+made_at tokens_of answers language tokenizers i place value r inside read made =
+    subst (λ there. IfOk r (λ v. IsMadeAt tokens_of answers language there value (texts_of v.items))) (sym (slice_get_read tokenizers (length tokenizers) i place refl inside read)) made
 
 module _ {L P T : Type 0} (tokens_of : L → Text → List Text) (answers : T → Bytes → List Text → Type 0) (c : Choices L P T) where
   -- what is made by a language, or by a tokenizer that is not there, is made by the language

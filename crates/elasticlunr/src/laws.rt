@@ -1,3 +1,5 @@
 //! Laws of the words that this crate's contracts speak of.
+pub mod calls;
+pub mod found;
 pub mod removal;
 pub mod values;

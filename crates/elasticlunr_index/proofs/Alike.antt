@@ -11,7 +11,8 @@ use Rattle.elasticlunr.specs.Index.{choices_of, fields_of, plan_of, IsDocument, 
 use Rattle.elasticlunr.specs.Tokenizers.{MayAnswer}
 use Rattle.elasticlunr.specs.declared.index.Index.{Index}
 use Rattle.elasticlunr_index.specs.Answer.{HasTooMany}
-use Rattle.elasticlunr_index.specs.Commands.{compacted, followed_by}
+use Rattle.elasticlunr.specs.Calls.{followed_by}
+use Rattle.elasticlunr_index.specs.Commands.{compacted}
 use Rattle.elasticlunr_index.specs.Filled.{Follows}
 use Rattle.elasticlunr_index.specs.JobTold.{document_told}
 use Rattle.elasticlunr_index.specs.declared.job.Document as held

@@ -1,5 +1,5 @@
 -- The index that is built for a job.
-use Rattle.std.proofs.Common.{◌≡◌, ◌≢◌, ℕ, zero, suc, List, [], ◌∷◌, ◌++◌, Bor, map, Option, None, Some, slice_get, IsSomeAnd, IfSome, IfNone, refl, ap, subst, ◌∙◌}
+use Rattle.std.proofs.Common.{◌≡◌, ◌≢◌, ℕ, zero, suc, List, [], ◌∷◌, ◌++◌, Bor, map, Option, None, Some, slice_get, IfNone, refl, ap, subst, ◌∙◌}
 use Rattle.elasticlunr_text.specs.Text.{Text, Bytes}
 use Rattle.elasticlunr_lang.specs.Known.{language_name, language_stages, language_leaves}
 use Rattle.elasticlunr_lang.specs.declared.any.AnyLanguage.{AnyLanguage}
@@ -40,31 +40,16 @@ module _ {L P T : Type 0} where
   uses_language : (job : Job) (language : L) → UsesLanguage (with_fields job.fields (begun job language))
   uses_language job language = record { no_pipeline = refl; no_tokenizer = nothing_there job.fields }
 
-if_some : {X : Type 0} (o : Option X) (P Q : X → Type 0) → ((x : X) → P x → Q x) → IsSomeAnd o P → IsSomeAnd o Q
-if_some None P Q f h = h
-if_some (Some x) P Q f h = f x h
-
-given_more : {X : Type 0} (o : Option X) (P Q : X → Type 0) → ((x : X) → P x → Q x) → IfSome o P → IfSome o Q
-given_more None P Q f h = h
-given_more (Some x) P Q f h = f x h
-
--- what reads more makes the document, too
-pub document_more : (fields : List Bytes) (reference_field : Bytes) (reads other : ℕ → Bytes → List Text → Type 0) (reference : Bytes) (values : List Bytes) (document : Document)
-    → ReadsOnly reads other → documents.IsDocument fields reference_field reads reference values document → documents.IsDocument fields reference_field other reference values document
-document_more fields reference_field reads other reference values document more is = record {
-  its_reference = is.its_reference;
-  its_values = is.its_values;
-  each = λ i. given_more (slice_get document.given i) (documents.IsGiven fields reference_field reads i) (documents.IsGiven fields reference_field other i)
-      (λ given h. record { of_reference = h.of_reference; of_value = λ no. if_some given.tokens (reads i given.value) (other i given.value) (more i given.value) (h.of_value no) }) (is.each i);
-}
-
 module _ {P T : Type 0} where
   -- what `build` makes of what was given
   pub built_for : (job : Job) (language : AnyLanguage) (given : Choices AnyLanguage (Option P) T) (built : Choices AnyLanguage P T) (plan : Plan) (reads : ℕ → Bytes → List Text → Type 0) (stands : Commands → Type 0) → given ≡ with_fields job.fields (begun job language)
       → stands none → IsBuiltBy given built → IfNone given.pipeline (plan ≡ language_plan language_name language_stages given)
       → (UsesLanguage given → ReadsOnly reads (LanguageReads (language_tokens given.language) (language_leaves given.language)))
+      → (ReadsOnly reads (LanguageReads (language_tokens language) (language_leaves language)) → (reference : Bytes) (values : List Bytes) (document : Document)
+      → documents.IsDocument built.fields built.reference_field reads reference values document
+      → documents.IsDocument built.fields built.reference_field (LanguageReads (language_tokens language) (language_leaves language)) reference values document)
       → IsBuiltFor job language plan (documents.IsDocument built.fields built.reference_field reads) stands
-  built_for job language given built plan reads stands same empty has its_plan uses =
+  built_for job language given built plan reads stands same empty has its_plan uses makes =
       let fields : built.fields ≡ job.fields = has.fields ∙ ap (λ (c : Choices AnyLanguage (Option P) T). c.fields) same in
       let reference_field : built.reference_field ≡ job.reference_field = has.reference_field ∙ ap (λ (c : Choices AnyLanguage (Option P) T). c.reference_field) same in
       let only : ReadsOnly reads (LanguageReads (language_tokens language) (language_leaves language)) =
@@ -74,7 +59,7 @@ module _ {P T : Type 0} where
         adds = λ doc document made.
             subst (λ names. documents.IsDocument names job.reference_field (LanguageReads (language_tokens language) (language_leaves language)) doc.reference doc.values document) fields
             (subst (λ name. documents.IsDocument built.fields name (LanguageReads (language_tokens language) (language_leaves language)) doc.reference doc.values document) reference_field
-            (document_more built.fields built.reference_field reads (LanguageReads (language_tokens language) (language_leaves language)) doc.reference doc.values document only made));
+            (makes only doc.reference doc.values document made));
         empty = empty;
       }
 

@@ -5,7 +5,8 @@ use Rattle.std.proofs.lemmas.List.Elements.{All-push}
 use Rattle.std.specs.List.{AllZip}
 use Rattle.elasticlunr_text.specs.Text.{Bytes}
 use Rattle.elasticlunr.specs.History.{Command, Commands, Document, add, remove, ◌▸◌}
-use Rattle.elasticlunr_index.specs.Commands.{compacted, followed_by}
+use Rattle.elasticlunr.specs.Calls.{followed_by}
+use Rattle.elasticlunr_index.specs.Commands.{compacted}
 use Rattle.elasticlunr_index.specs.Filled.{AreMade, Follows, HasDone, HasTaken}
 use Rattle.elasticlunr_index.specs.JobTold.{document_told, job_told}
 use Rattle.elasticlunr_index.specs.declared.job.Document as held

@@ -10,8 +10,8 @@ use Rattle.elasticlunr_index.specs.declared.outcome.Outcome.TheVariants.{Printed
 use Rattle.elasticlunr_index.specs.declared.outcome.Refusal.{Refusal}
 use Rattle.elasticlunr_index.specs.declared.outcome.Refusal.TheVariants.{NotJson, NotAJob, UnknownLanguage, DuplicateField, TooManyValues}
 use Rattle.elasticlunr_index.proofs.OneJob.{same_some, one_input}
-use Rattle.elasticlunr_index.proofs.OneLine.{OneValue, one_line}
-use Rattle.elasticlunr_index.proofs.OneLanguage.{OneStem, same_name}
+use Rattle.elasticlunr_index.proofs.OneLine.{OneValue, OneDocument, one_line}
+use Rattle.elasticlunr_index.proofs.OneLanguage.{same_name}
 
 none_some : {X : Type 0} (o : Option X) → o ≡ None → IsSome o → ⊥
 none_some o e h = true≢false (sym h ∙ ap is_some e)
@@ -92,15 +92,15 @@ one_outcome bytes Printed (Refused r) t u a b = absurd (refused_or_printed bytes
 one_outcome bytes (Refused r) Printed t u a b = absurd (refused_or_printed bytes r b.0 b.1 (way bytes r a.0) b.2 b.3)
 one_outcome bytes (Refused r) (Refused s) t u a b = ap Refused (one_way bytes r s (way bytes r a.0) (way bytes s b.0))
 
-same_printed : OneValue → OneStem → (bytes : List ℕ) (t u : List ℕ) → IsAnswer bytes Printed t → IsAnswer bytes Printed u → t ≡ u
-same_printed values stems bytes t u a b =
+same_printed : OneValue → OneDocument → (bytes : List ℕ) (t u : List ℕ) → IsAnswer bytes Printed t → IsAnswer bytes Printed u → t ≡ u
+same_printed values documents bytes t u a b =
     let job : a.0 ≡ b.0 = one_input bytes a.0 b.0 a.2 b.2 in
     let named : language_name a.1 ≡ b.0.language = subst (λ j. language_name a.1 ≡ j.language) job a.3.named in
     let language : a.1 ≡ b.1 = same_name a.1 b.1 (named ∙ sym b.3.named) in
-    one_line values stems b.0 b.1 t u (subst (λ l. IsIndexLine b.0 l t) language (subst (λ j. IsIndexLine j a.1 t) job a.4)) b.4
+    one_line values documents b.0 b.1 t u (subst (λ l. IsIndexLine b.0 l t) language (subst (λ j. IsIndexLine j a.1 t) job a.4)) b.4
 
-pub one_text : OneValue → OneStem → (bytes : List ℕ) (o p : Outcome) (t u : List ℕ) → IsAnswer bytes o t → IsAnswer bytes p u → t ≡ u
-one_text values stems bytes Printed Printed t u a b = same_printed values stems bytes t u a b
-one_text values stems bytes Printed (Refused r) t u a b = absurd (refused_or_printed bytes r a.0 a.1 (way bytes r b.0) a.2 a.3)
-one_text values stems bytes (Refused r) Printed t u a b = absurd (refused_or_printed bytes r b.0 b.1 (way bytes r a.0) b.2 b.3)
-one_text values stems bytes (Refused r) (Refused s) t u a b = a.1 ∙ ap (λ q. line (refusal_text q)) (one_way bytes r s (way bytes r a.0) (way bytes s b.0)) ∙ sym b.1
+pub one_text : OneValue → OneDocument → (bytes : List ℕ) (o p : Outcome) (t u : List ℕ) → IsAnswer bytes o t → IsAnswer bytes p u → t ≡ u
+one_text values documents bytes Printed Printed t u a b = same_printed values documents bytes t u a b
+one_text values documents bytes Printed (Refused r) t u a b = absurd (refused_or_printed bytes r a.0 a.1 (way bytes r b.0) a.2 a.3)
+one_text values documents bytes (Refused r) Printed t u a b = absurd (refused_or_printed bytes r b.0 b.1 (way bytes r a.0) b.2 b.3)
+one_text values documents bytes (Refused r) (Refused s) t u a b = a.1 ∙ ap (λ q. line (refusal_text q)) (one_way bytes r s (way bytes r a.0) (way bytes s b.0)) ∙ sym b.1

@@ -7,17 +7,18 @@ use Rattle.serde_json.specs.Data.{Data}
 use Rattle.elasticlunr_text.specs.Text.{Bytes}
 use Rattle.elasticlunr_lang.specs.declared.any.AnyLanguage.{AnyLanguage}
 use Rattle.elasticlunr.specs.History.{Agree, Commands, Document, none}
-use Rattle.elasticlunr.specs.Printed.{IsValue}
+use Rattle.elasticlunr.specs.Printed.{IsValue, IsTextAfter}
 use Rattle.elasticlunr.specs.Standing.{Plan}
 use Rattle.elasticlunr_index.specs.Answer.{IsIndexLine, line, printed_text}
-use Rattle.elasticlunr_index.specs.Commands.{IsAdded, followed_by, in_order}
-use Rattle.elasticlunr_index.specs.Filled.{HasDone, IsBuiltFor, IsPrintOf}
+use Rattle.elasticlunr.specs.Calls.{followed_by}
+use Rattle.elasticlunr_index.specs.Commands.{IsAdded, in_order}
+use Rattle.elasticlunr_index.specs.Filled.{HasDone, IsBuiltFor}
 use Rattle.elasticlunr_index.specs.Job.{Job}
 
 -- its text, of the commands that it stands for
 pub told_print : {E : Type 0} (r : Result (String Global) E) (Stands : Commands → Type 0) (plan : Plan) (pretty : Bool) (text_of : Data → Bytes) → ((value : Data) → text_of value ≡ printed_text pretty value)
     → IfOk r (λ text. (commands other : Commands) → Stands commands → Agree commands other → (value : Data) × IsValue plan other value × (string_bytes text ≡ text_of value))
-    → IfOk r (λ text. (commands : Commands) → Stands commands → IsPrintOf plan pretty commands (string_bytes text))
+    → IfOk r (λ text. (commands : Commands) → Stands commands → IsTextAfter (printed_text pretty) plan commands (string_bytes text))
 told_print (Ok text) Stands plan pretty text_of same told = λ commands stands. (let print = told commands commands stands (inl refl) in (print.0, print.1, print.2 ∙ same print.0))
 told_print (Err e) Stands plan pretty text_of same told = told
 
@@ -29,7 +30,7 @@ zip_more P Q (x ∷ xs) (y ∷ ys) f h = (f x y h.0, zip_more P Q xs ys f h.1)
 
 -- the line of an index that was built for the job, to which all was done and which was printed then
 pub carried_line : (job : Job) (language : AnyLanguage) (made : Bytes → List Bytes → Document → Type 0) (old new : Commands → Type 0) (before after : Plan) (line_text : Bytes) → after ≡ before → IsBuiltFor job language before made old → HasDone made old new job
-    → ((commands : Commands) → new commands → (text : Bytes) × IsPrintOf after job.pretty commands text × (line_text ≡ line text)) → IsIndexLine job language line_text
+    → ((commands : Commands) → new commands → (text : Bytes) × IsTextAfter (printed_text job.pretty) after commands text × (line_text ≡ line text)) → IsIndexLine job language line_text
 carried_line job language made old new before after line_text same built done prints =
     let documents = done.documents in
     let commands = followed_by none (in_order job documents) in

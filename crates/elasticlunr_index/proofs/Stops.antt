@@ -1,5 +1,6 @@
 -- What the exit of a `?` returns.
-use Rattle.std.proofs.Common.{◌≡◌, ◌⊎◌, ◌≢◌, All, false, inl, inr, arith, Result, ◌∙◌, ap}
+use Rattle.std.proofs.Common.{◌≡◌, ◌⊎◌, ◌≢◌, All, false, inl, inr, arith, Result, Ok, Err, ◌∙◌, ap}
+use Rattle.std.specs.Prelude.{IfOk, OnOk}
 use Rattle.std.specs.Result.{IfErr, IsErrAnd}
 use Rattle.std.proofs.lemmas.Result.{err_from_is_err_and}
 use Rattle.elasticlunr_text.specs.Text.{Bytes}
@@ -16,47 +17,40 @@ use Rattle.elasticlunr_text.specs.declared.error.IndexError.TheVariants as index
 use Rattle.elasticlunr_index.specs.declared.outcome.Refusal.TheVariants.{TooManyValues}
 use Rattle.elasticlunr_index.specs.declared.outcome.Stop.TheVariants.{Memory}
 use Rattle.elasticlunr_index.specs.IndexStop.{stop_of}
-use Rattle.elasticlunr_index.specs.Stop.{StopsBy, StopsFor}
+use Rattle.elasticlunr_index.specs.Stop.{StopsOnlyBy, StopsWithReason}
 
-pub StopsBy-weaker : (refusal : Refusal) (P Q : Type 0) (stop : Stop) → (P → Q) → StopsBy refusal P stop → StopsBy refusal Q stop
-StopsBy-weaker refusal P Q stop f h = elim h [ inl e ↦ inl e | inr p ↦ inr (p.0, f p.1) ]
+pub StopsOnlyBy-weaker : (refusal : Refusal) (P Q : Type 0) (stop : Stop) → (P → Q) → StopsOnlyBy refusal P stop → StopsOnlyBy refusal Q stop
+StopsOnlyBy-weaker refusal P Q stop f h = elim h [ inl e ↦ inl e | inr p ↦ inr (p.0, f p.1) ]
 
-pub at_exit : {T : Type 0} (r : Result T Stop) (refusal : Refusal) (P Q : Type 0) (e : Stop) → IsErrAnd r (λ y. y ≡ e) → (P → Q) → StopsBy refusal P e → IfErr r (StopsBy refusal Q)
+pub at_exit : {T : Type 0} (r : Result T Stop) (refusal : Refusal) (P Q : Type 0) (e : Stop) → IsErrAnd r (λ y. y ≡ e) → (P → Q) → StopsOnlyBy refusal P e → IfErr r (StopsOnlyBy refusal Q)
 at_exit r refusal P Q e is f h =
     let p = err_from_is_err_and r is in
-    rw (p.1, p.2) (StopsBy-weaker refusal P Q e f h)
+    rw (p.1, p.2) (StopsOnlyBy-weaker refusal P Q e f h)
 
 -- the exit of a call that finds too many values, where the index works still
 pub later_too_many : {T : Type 0} (r : Result T Stop) (Fails Later Q : Type 0) (e : IndexError) → IsErrAnd r (λ y. y ≡ stop_of e) → (¬ Fails → ¬ Later) → (e ≡ index.Failed → Later) → (e ≡ index.TooManyValues → Q)
-    → (e ≡ index.Failed) ⊎ ((e ≡ index.TooManyValues) ⊎ (e ≡ index.Memory)) → IfErr r (λ stop. ¬ Fails → StopsBy TooManyValues Q stop)
+    → (e ≡ index.Failed) ⊎ ((e ≡ index.TooManyValues) ⊎ (e ≡ index.Memory)) → IfErr r (λ stop. ¬ Fails → StopsOnlyBy TooManyValues Q stop)
 later_too_many r Fails Later Q e is still fails many h =
     let p = err_from_is_err_and r is in
     rw (p.1) (λ works. elim h [ inl f ↦ absurd (still works (fails f)) | inr t ↦ elim t [ inl over ↦ inr (p.2 ∙ ap stop_of over, many over) | inr m ↦ inl (p.2 ∙ ap stop_of m) ] ])
 
--- the exit of a later call, that stops for want of memory alone
-pub later_exit : {T : Type 0} (r : Result T Stop) (Fails Later Q : Type 0) (refusal : Refusal) (e : Stop) → IsErrAnd r (λ y. y ≡ e) → (¬ Fails → ¬ Later) → (¬ Later → e ≡ Memory)
-    → IfErr r (λ stop. ¬ Fails → StopsBy refusal Q stop)
-later_exit r Fails Later Q refusal e is still h =
-    let p = err_from_is_err_and r is in
-    rw (p.1, p.2) (λ works. inl (h (still works)))
-
-pub StopsFor-by : (reason : Refusal → Type 0) (refusal : Refusal) (P : Type 0) (stop : Stop) → StopsBy refusal P stop → (P → reason refusal) → StopsFor reason stop
-StopsFor-by reason refusal P stop h f = elim h [ inl m ↦ rw m tt | inr p ↦ rw (p.0) (f p.1) ]
+pub StopsWithReason-by : (reason : Refusal → Type 0) (refusal : Refusal) (P : Type 0) (stop : Stop) → StopsOnlyBy refusal P stop → (P → reason refusal) → StopsWithReason reason stop
+StopsWithReason-by reason refusal P stop h f = elim h [ inl m ↦ rw m tt | inr p ↦ rw (p.0) (f p.1) ]
 
 -- the exit of a call that stops for want of memory alone
-pub memory_exit : {T : Type 0} (r : Result T Stop) (reason : Refusal → Type 0) (e : Stop) → IsErrAnd r (λ y. y ≡ e) → e ≡ Memory → IfErr r (StopsFor reason)
+pub memory_exit : {T : Type 0} (r : Result T Stop) (reason : Refusal → Type 0) (e : Stop) → IsErrAnd r (λ y. y ≡ e) → e ≡ Memory → IfErr r (StopsWithReason reason)
 memory_exit r reason e is m =
     let p = err_from_is_err_and r is in
     rw (p.1, p.2, m) tt
 
 -- the exit of a call that stops for one refusal
-pub refusal_exit : {T : Type 0} (r : Result T Stop) (reason : Refusal → Type 0) (refusal : Refusal) (P : Type 0) (e : Stop) → IsErrAnd r (λ y. y ≡ e) → StopsBy refusal P e → (P → reason refusal) → IfErr r (StopsFor reason)
+pub refusal_exit : {T : Type 0} (r : Result T Stop) (reason : Refusal → Type 0) (refusal : Refusal) (P : Type 0) (e : Stop) → IsErrAnd r (λ y. y ≡ e) → StopsOnlyBy refusal P e → (P → reason refusal) → IfErr r (StopsWithReason reason)
 refusal_exit r reason refusal P e is h f =
     let p = err_from_is_err_and r is in
-    rw (p.1, p.2) (StopsFor-by reason refusal P e h f)
+    rw (p.1, p.2) (StopsWithReason-by reason refusal P e h f)
 
 -- the exit of the fields, where a name may stand twice
-pub fields_exit : {T : Type 0} (r : Result T Stop) (job : Job) (e : IndexError) → IsErrAnd r (λ y. y ≡ stop_of e) → NamesLanguage job.language → (e ≡ index.DuplicateField → all_differ job.fields ≡ false) → (e ≡ index.DuplicateField) ⊎ (e ≡ index.Memory) → IfErr r (StopsFor (FailsAt job))
+pub fields_exit : {T : Type 0} (r : Result T Stop) (job : Job) (e : IndexError) → IsErrAnd r (λ y. y ≡ stop_of e) → NamesLanguage job.language → (e ≡ index.DuplicateField → all_differ job.fields ≡ false) → (e ≡ index.DuplicateField) ⊎ (e ≡ index.Memory) → IfErr r (StopsWithReason (FailsAt job))
 fields_exit r job e is named twice h =
     let p = err_from_is_err_and r is in
     rw (p.1, p.2) (elim h [ inl d ↦ rw d (named, twice d) | inr m ↦ rw m tt ])
@@ -81,3 +75,20 @@ no_language name none named = at named.0 named.1 where
   at Spanish e = none 13 Spanish (omega arith) e
   at Swedish e = none 14 Swedish (omega arith) e
   at Turkish e = none 15 Turkish (omega arith) e
+
+-- what an answer shows
+pub ok_more : {T E : Type 0} (r : Result T E) (P Q : T → Type 0) → ((x : T) → P x → Q x) → IfOk r P → IfOk r Q
+ok_more (Ok x) P Q f h = f x h
+ok_more (Err e) P Q f h = h
+
+pub ok_always : {T E : Type 0} (r : Result T E) {F : Type 0} → F → OnOk r F
+ok_always (Ok x) f = f
+ok_always (Err e) f = tt
+
+pub ok_both : {T E : Type 0} (r : Result T E) (F : Type 0) (P Q : T → Type 0) → ((x : T) → F → P x → Q x) → OnOk r F → IfOk r P → IfOk r Q
+ok_both (Ok x) F P Q f fits h = f x fits h
+ok_both (Err e) F P Q f fits h = h
+
+pub err_more : {T E : Type 0} (r : Result T E) (P Q : E → Type 0) → ((e : E) → P e → Q e) → IfErr r P → IfErr r Q
+err_more (Ok x) P Q f h = h
+err_more (Err e) P Q f h = f e h

@@ -5,8 +5,9 @@ use Rattle.elasticlunr_text.specs.Text.{Text}
 use Rattle.elasticlunr_lang.specs.declared.any.AnyLanguage.{AnyLanguage}
 use Rattle.elasticlunr_lang.specs.Known.{language_name, language_stages, language_leaves}
 use Rattle.elasticlunr_lang.specs.Words.{words}
+use Rattle.elasticlunr.specs.Calls.{followed_by}
 use Rattle.elasticlunr.specs.Documents.{IsDocument}
-use Rattle.elasticlunr.specs.History.{Document, Command, add, remove, compact, Commands, none, ◌▸◌}
+use Rattle.elasticlunr.specs.History.{Document, Command, add, remove, compact, Commands, none}
 use Rattle.elasticlunr.specs.Reading.{LanguageReads}
 use Rattle.elasticlunr.specs.Standing.{Plan}
 use Rattle.elasticlunr_index.specs.Job as asked
@@ -29,11 +30,6 @@ language_tokens language = words
 -- the document that is added for one of the job: its tokens are those that the language reads of the values
 abbrev pub IsAdded : Job → AnyLanguage → asked.Document → Document → Type 0
 IsAdded job language doc document = IsDocument job.fields job.reference_field (LanguageReads (language_tokens language) (language_leaves language)) doc.reference doc.values document
-
--- the commands, and these after them
-abbrev pub followed_by : Commands → List Command → Commands
-followed_by commands [] = commands
-followed_by commands (next ∷ more) = followed_by (commands ▸ next) more
 
 abbrev pub compacted : Bool → List Command
 compacted wanted = if wanted then compact ∷ [] else []

@@ -1,14 +1,13 @@
--- What was done to an index for a job. `made` relates a reference and values to the document that the index makes of them; `old` and `new` are what it stood for before, and what it stands for now.
-use Rattle.std.specs.Prelude.{◌≡◌, ◌≤◌, List, Bool, map, length, All}
+-- What was done to an index for a job; for private clauses.
+-- `made` relates a reference and values to the document that the index makes of them; `old` and `new` are what it stood for before, and what it stands for now.
+use Rattle.std.specs.Prelude.{◌≡◌, ◌≤◌, List, map, length, All}
 use Rattle.std.specs.List.{AllZip}
-use Rattle.serde_json.specs.Data.{Data}
 use Rattle.elasticlunr_text.specs.Text.{Bytes}
 use Rattle.elasticlunr_lang.specs.declared.any.AnyLanguage.{AnyLanguage}
 use Rattle.elasticlunr.specs.History.{Document, Command, Commands, add, none}
-use Rattle.elasticlunr.specs.Printed.{IsValue}
 use Rattle.elasticlunr.specs.Standing.{Plan}
-use Rattle.elasticlunr_index.specs.Answer.{printed_text}
-use Rattle.elasticlunr_index.specs.Commands.{IsAdded, followed_by, in_order, job_plan}
+use Rattle.elasticlunr.specs.Calls.{followed_by}
+use Rattle.elasticlunr_index.specs.Commands.{IsAdded, in_order, job_plan}
 use Rattle.elasticlunr_index.specs.Job as asked
 use Rattle.elasticlunr_index.specs.Job.{Job}
 
@@ -35,10 +34,6 @@ pub record HasDone (made : Bytes → List Bytes → Document → Type 0) (old ne
   pub documents : List Document
   pub each : AreMade made job.docs documents
   pub follows : Follows old new (in_order job documents)
-
--- the text of a value that an index of this plan has after these commands
-abbrev pub IsPrintOf : Plan → Bool → Commands → Bytes → Type 0
-IsPrintOf plan pretty commands text = (value : Data) × IsValue plan commands value × (text ≡ printed_text pretty value)
 
 -- an index of this plan is the job's in this language, and nothing was done to it yet
 pub record IsBuiltFor (job : Job) (language : AnyLanguage) (plan : Plan) (made : Bytes → List Bytes → Document → Type 0) (stands : Commands → Type 0) : Type 0 where

@@ -1,4 +1,4 @@
--- How a refusal of the index stops a run.
+-- How a refusal of the index stops a run; for private clauses.
 use Rattle.elasticlunr_text.specs.declared.error.IndexError.{IndexError}
 use Rattle.elasticlunr_text.specs.declared.error.IndexError.TheVariants.{DuplicateField, TooManyValues}
 use Rattle.elasticlunr_index.specs.declared.outcome.Refusal.TheVariants as refusal

@@ -3,13 +3,14 @@
 ghost use Rattle.std.specs.Prelude.{◌≡◌, Any, Some, None, string_bytes, IfOk, IfErr, OnOk};
 ghost use Rattle.elasticlunr.specs.History.{Commands};
 ghost use Rattle.elasticlunr.specs.Index.{fields_of, plan_of, IsDocument, IsFailed, StandsFor};
+ghost use Rattle.elasticlunr.specs.Printed.{IsTextAfter};
 ghost use Rattle.elasticlunr_lang.specs.Known.{language_name};
 ghost use Rattle.elasticlunr_text.specs.Text.{Bytes};
-ghost use Rattle.elasticlunr_index.specs.Answer.{FailsAt, Passes, HasTooMany, IsIndexLine, IsRefused, IsAnswer, line, reading, refusal_text};
+ghost use Rattle.elasticlunr_index.specs.Answer.{FailsAt, Passes, HasTooMany, IsIndexLine, IsRefused, IsAnswer, line, printed_text, reading, refusal_text};
 ghost use Rattle.elasticlunr_index.specs.Commands.{language_tokens};
-ghost use Rattle.elasticlunr_index.specs.Filled.{Fits, IsBuiltFor, IsPrintOf};
+ghost use Rattle.elasticlunr_index.specs.Filled.{Fits, IsBuiltFor};
 ghost use Rattle.elasticlunr_index.specs.JobTold.{job_told};
-ghost use Rattle.elasticlunr_index.specs.Stop.{StopsBy, StopsFor};
+ghost use Rattle.elasticlunr_index.specs.Stop.{StopsOnlyBy, StopsWithReason};
 ghost use Rattle.elasticlunr_index.specs.declared.outcome.Outcome.TheVariants.{Printed};
 ghost use Rattle.elasticlunr_index.specs.declared.outcome.Refusal.TheVariants.{TooManyValues, NotJson};
 ghost use Rattle.serde_json.specs.View.{view};
@@ -17,6 +18,7 @@ ghost use Rattle.serde_json.specs.View.{view};
 use crate::job::{Job, parse};
 use crate::outcome::{Outcome, Refusal, Stop};
 use elasticlunr::lang::{AnyLanguage, from_name};
+use elasticlunr::laws::calls::an_index_makes_what_its_language_makes;
 use elasticlunr::{Index, IndexBuilder, IndexError};
 use serde_json::Value;
 use std::alloc::{AllocError, Global};
@@ -24,7 +26,7 @@ use std::alloc::{AllocError, Global};
 /// The text of an index.
 fn text_of(index: &Index<AnyLanguage>, pretty: bool) -> Result<String, IndexError>
     ensures ok { IfOk result (λ text. (commands : Commands) → StandsFor language_name name_text index.now commands
-        → IsPrintOf (plan_of language_name name_text index.now) pretty commands (string_bytes text)) }
+        → IsTextAfter (printed_text pretty) (plan_of language_name name_text index.now) commands (string_bytes text)) }
     ensures err { IfErr result (λ e. ¬ IsFailed index.now → e ≡ IndexError.Memory) }
 {
     if pretty {
@@ -37,7 +39,7 @@ fn text_of(index: &Index<AnyLanguage>, pretty: bool) -> Result<String, IndexErro
 /// The text of an index, and a line feed.
 fn line_of(index: &Index<AnyLanguage>, pretty: bool) -> Result<String, Stop>
     ensures ok { IfOk result (λ line_text. (commands : Commands) → StandsFor language_name name_text index.now commands
-        → (text : Bytes) × IsPrintOf (plan_of language_name name_text index.now) pretty commands text × (string_bytes line_text ≡ line text)) }
+        → (text : Bytes) × IsTextAfter (printed_text pretty) (plan_of language_name name_text index.now) commands text × (string_bytes line_text ≡ line text)) }
     ensures err { IfErr result (λ stop. ¬ IsFailed index.now → stop ≡ Stop.Memory) }
 {
     let mut text = text_of(index, pretty)?;
@@ -46,13 +48,13 @@ fn line_of(index: &Index<AnyLanguage>, pretty: bool) -> Result<String, Stop>
 }
 
 /// Does to a new index all that the job commands: its text then, and a line feed.
-fn carried_out(mut index: Index<AnyLanguage>, job: &Job<'_>) -> Result<String, Stop>
+fn fill_and_print(mut index: Index<AnyLanguage>, job: &Job<'_>) -> Result<String, Stop>
     ensures fits { OnOk result (Fits (fields_of index) (job_told job.now).docs) }
     ensures ok { IfOk result (λ text. (language : AnyLanguage)
         → IsBuiltFor (job_told job.now) language (plan_of language_name name_text index) (IsDocument language_tokens leaves index) (StandsFor language_name name_text index)
         → IsIndexLine (job_told job.now) language (string_bytes text)) }
     ensures err { IfErr result (λ stop. ¬ IsFailed index
-        → StopsBy TooManyValues (Any (HasTooMany (fields_of index)) (job_told job.now).docs) stop) }
+        → StopsOnlyBy TooManyValues (Any (HasTooMany (fields_of index)) (job_told job.now).docs) stop) }
 {
     for doc in &job.docs {
         index.add_doc(doc.reference, &doc.values)?;
@@ -63,15 +65,14 @@ fn carried_out(mut index: Index<AnyLanguage>, job: &Job<'_>) -> Result<String, S
     if job.compact {
         index.compact()?;
     }
-    let text = line_of(&index, job.pretty)?;
-    Ok(text)
+    line_of(&index, job.pretty)
 }
 
 /// The text of a job's index, and a line feed.
-fn printed(alloc: Global, job: &Job<'_>) -> Result<String, Stop>
+fn job_line(alloc: Global, job: &Job<'_>) -> Result<String, Stop>
     ensures ok { IfOk result (λ text. (language : AnyLanguage) × Passes (job_told job.now) language
         × IsIndexLine (job_told job.now) language (string_bytes text)) }
-    ensures err { IfErr result (StopsFor (FailsAt (job_told job.now))) }
+    ensures err { IfErr result (StopsWithReason (FailsAt (job_told job.now))) }
 {
     let Some(language) = from_name(job.language) else {
         return Err(Stop::Refused(Refusal::UnknownLanguage));
@@ -81,14 +82,14 @@ fn printed(alloc: Global, job: &Job<'_>) -> Result<String, Stop>
         .set_ref(job.reference_field)?
         .add_fields(&job.fields)?
         .build()?;
-    let text = carried_out(index, job)?;
-    Ok(text)
+    an_index_makes_what_its_language_makes(&index);
+    fill_and_print(index, job)
 }
 
 /// The JSON value that the bytes are.
 fn read_json(alloc: Global, bytes: &[u8]) -> Result<Value, Stop>
     ensures ok { IfOk result (λ value. reading bytes.now ≡ Some (view value)) }
-    ensures err { IfErr result (StopsBy NotJson (reading bytes.now ≡ None)) }
+    ensures err { IfErr result (StopsOnlyBy NotJson (reading bytes.now ≡ None)) }
 {
     match Value::from_slice(alloc, bytes) {
         Ok(value) => Ok(value),
@@ -100,12 +101,12 @@ fn read_json(alloc: Global, bytes: &[u8]) -> Result<Value, Stop>
 /// The text of the index that the input asks for, and a line feed.
 fn index_line(alloc: Global, bytes: Vec<u8>) -> Result<String, Stop>
     ensures ok { IfOk result (λ text. IsAnswer bytes.items Printed (string_bytes text)) }
-    ensures err { IfErr result (StopsFor (IsRefused bytes.items)) }
+    ensures err { IfErr result (StopsWithReason (IsRefused bytes.items)) }
 {
     let value = read_json(alloc, &bytes)?;
     drop(bytes);
     let job = parse(alloc, &value)?;
-    printed(alloc, &job)
+    job_line(alloc, &job)
 }
 
 /// The line of a refusal.
@@ -121,9 +122,9 @@ fn refusal_line(refusal: Refusal) -> &'static str
     }
 }
 
-/// The outcome for an input, and what is written for it: the text of the index or the reason of the
-/// refusal, and a line feed. The input is let go once it is read; its texts are not copied, but into
-/// the index. The error is want of memory.
+/// The outcome for an input, and what is written for it: the text of the index or the reason of
+/// the refusal, and a line feed. The input is let go once it is read; its texts are not copied,
+/// but into the index. The error is want of memory.
 pub fn answer(alloc: Global, bytes: Vec<u8>) -> Result<(Outcome, String), AllocError>
     ensures { IfOk result (λ a. IsAnswer bytes.items a.0 (string_bytes a.1)) }
 {

@@ -13,7 +13,8 @@ pub fn each_index_can_be_made_anew()
     ensures { (commands : Commands) → (fresh : Commands) × IsFresh commands fresh }
 {}
 
-/// The contents of the store, and all postings, are those of a new index with the current documents.
+/// The contents of the store, and all postings, are those of a new index with the current
+/// documents.
 pub fn removed_documents_leave_no_posting()
     ensures contents { (plan : Plan) (commands : Commands) (fresh : Commands) (tables : List Table) (others : List Table) (contents : Contents) (kept : Contents)
         → IsFresh commands fresh → Holds plan commands tables contents → Holds plan fresh others kept

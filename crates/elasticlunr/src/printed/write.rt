@@ -1,11 +1,10 @@
 //! The JSON tokens of an index, with no JSON value built.
-ghost use Rattle.std.specs.Prelude.{◌≡◌, ℕ, List, [], ◌∷◌, ◌++◌, map, length, string_bytes, All, OnOk, IfOk};
-ghost use Rattle.json.specs.Tree.{json_tokens};
+ghost use Rattle.std.specs.Prelude.{◌≡◌, ℕ, List, [], ◌∷◌, ◌++◌, map, length, string_bytes, OnOk, IfOk};
+ghost use Rattle.json.specs.Tree.{json_tokens, members_tokens};
 ghost use Rattle.serde_json.specs.Data.{Data, array, object};
-ghost use Rattle.serde_json.specs.Written.{outline};
-ghost use Rattle.elasticlunr_store.specs.Table.{IsTable};
+ghost use Rattle.serde_json.specs.Written.{members_outline, outline};
 ghost use Rattle.elasticlunr.specs.Printed.{texts};
-ghost use Rattle.elasticlunr.specs.Parts.{IsPrinted};
+ghost use Rattle.elasticlunr.specs.Parts.{IsPrinted, plan_of_parts, settings_members};
 ghost use Rattle.elasticlunr.specs.Sorted.{IsByName, WritesTries};
 
 use super::{ELASTICLUNR_VERSION, Parts};
@@ -20,8 +19,7 @@ pub fn write_index<W: Tokens>(
     parts: Parts<'_>,
     out: &mut W,
 ) -> Result<(), AllocError>
-    ensures written { OnOk result ((v : Data) × IsPrinted parts.entry v × (W.Tokens.written out.new ≡ W.Tokens.written out.old ++ json_tokens (outline v))) }
-    ensures tables { OnOk result (All IsTable parts.entry.tries.now) }
+    ensures { OnOk result ((v : Data) × IsPrinted parts.entry v × (W.Tokens.written out.new ≡ W.Tokens.written out.old ++ json_tokens (outline v))) }
 {
     let tries = by_name(alloc, parts.fields, parts.tries)?;
     out.token(Token::BeginObject)?;
@@ -31,6 +29,14 @@ pub fn write_index<W: Tokens>(
     write_names(parts.fields, out)?;
     out.token(Token::Key("index"))?;
     write_tries(&tries, out)?;
+    write_settings(parts, out)
+}
+
+// Writes the members that say how the index was built, and the end of the object.
+fn write_settings<W: Tokens>(parts: Parts<'_>, out: &mut W) -> Result<(), AllocError>
+    ensures { OnOk result (W.Tokens.written out.new
+        ≡ W.Tokens.written out.old ++ members_tokens (members_outline (settings_members (plan_of_parts parts.entry)))) }
+{
     out.token(Token::Key("lang"))?;
     out.token(Token::String(parts.language))?;
     out.token(Token::Key("pipeline"))?;
@@ -39,8 +45,7 @@ pub fn write_index<W: Tokens>(
     out.token(Token::String(parts.ref_field))?;
     out.token(Token::Key("version"))?;
     out.token(Token::String(ELASTICLUNR_VERSION))?;
-    out.token(Token::EndObject)?;
-    Ok(())
+    out.token(Token::EndObject)
 }
 
 // The fields' tries, in the order of the fields' names.
@@ -71,8 +76,7 @@ fn write_tries<W: Tokens>(
         out.token(Token::Key(name))?;
         trie.write(out)?;
     }
-    out.token(Token::EndObject)?;
-    Ok(())
+    out.token(Token::EndObject)
 }
 
 // Writes the array of some names.
@@ -83,6 +87,5 @@ fn write_names<W: Tokens>(names: &[String], out: &mut W) -> Result<(), AllocErro
     for name in names {
         out.token(Token::String(name.as_str()))?;
     }
-    out.token(Token::EndArray)?;
-    Ok(())
+    out.token(Token::EndArray)
 }

@@ -4,7 +4,7 @@ use Rattle.json.specs.Tree.{json_tokens, members_tokens}
 use Rattle.serde_json.specs.Data.{no_members, member}
 use Rattle.serde_json.specs.Written.{outline, members_outline}
 use Rattle.elasticlunr.specs.Sorted.{AreMembersOf}
-use Rattle.elasticlunr.proofs.Writing.{joined}
+use Rattle.elasticlunr.proofs.Writing.{joined, ok_then}
 use Rattle.elasticlunr.proofs.printed.write.write_tries.Goals as goal
 
 pub loop-name-preserved : goal.loop-name-preserved
@@ -21,6 +21,6 @@ loop-name-preserved g c rest are =
     )
 
 pub returns : goal.returns
-returns g c =
+returns g c = ok_then c.token-2.result c.token-2.ensures (λ done.
     let all = c.loop-name.invariant no_members (subst (λ es. AreMembersOf es no_members) (sym c.in-None.ensures.steps.0) tt) in
-    (all.0, all.1, c.iter-name-items.ensures.ordered, joined _ _ _ _ _ c.in_ok-token.ensures (c.in_ok-token-3.ensures ∙ all.2))
+    (all.0, all.1, c.iter-name-items.ensures.ordered, joined _ _ _ _ _ c.in_ok-token.ensures (done ∙ all.2)))

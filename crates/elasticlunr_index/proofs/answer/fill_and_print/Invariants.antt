@@ -5,7 +5,7 @@ use Rattle.elasticlunr_lang.specs.Known.{language_name}
 use Rattle.elasticlunr_index.specs.Commands.{language_tokens}
 use Rattle.elasticlunr_index.specs.Filled.{Fits, Follows, HasTaken}
 use Rattle.elasticlunr_index.specs.JobTold.{document_told}
-use Rattle.elasticlunr_index.proofs.answer.carried_out.Given as goal
+use Rattle.elasticlunr_index.proofs.answer.fill_and_print.Given as goal
 
 -- the documents so far are added
 abbrev pub invariant-loop-doc : goal.invariant-loop-doc

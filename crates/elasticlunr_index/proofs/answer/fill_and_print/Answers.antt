@@ -1,4 +1,4 @@
-use Rattle.std.proofs.Common.{◌≤◌, [], Err, Any, map, length, string_bytes, refl, ap, subst, ◌∙◌, arith}
+use Rattle.std.proofs.Common.{◌≤◌, [], Err, Any, map, length, string_bytes, inl, refl, ap, subst, ◌∙◌, arith}
 use Rattle.elasticlunr.specs.Index.{fields_of}
 use Rattle.elasticlunr_lang.specs.Known.{language_name}
 use Rattle.elasticlunr_index.specs.Answer.{HasTooMany}
@@ -7,9 +7,9 @@ use Rattle.elasticlunr_index.specs.JobTold.{document_told, job_told}
 use Rattle.elasticlunr_index.proofs.Alike.{compacted_not, compacted_then, document_alike, fits_told, not_refused, plan_alike, same_settings, still_works, too_many_told, works_still, works_then}
 use Rattle.elasticlunr_index.proofs.Filling.{Any_at, All_more, All_whole, done, next_removed, next_taken}
 use Rattle.elasticlunr_index.proofs.Printing.{carried_line}
-use Rattle.elasticlunr_index.proofs.Stops.{later_exit, later_too_many}
-use Rattle.elasticlunr_index.proofs.answer.carried_out.Goals as goal
-use Rattle.elasticlunr_index.proofs.answer.carried_out.Goals.{then-job+in_ok-compact, else-job}
+use Rattle.elasticlunr_index.proofs.Stops.{err_more, later_too_many, ok_always, ok_more}
+use Rattle.elasticlunr_index.proofs.answer.fill_and_print.Goals as goal
+use Rattle.elasticlunr_index.proofs.answer.fill_and_print.Goals.{then-job+in_ok-compact, else-job}
 
 pub loop-doc-init : goal.loop-doc-init
 loop-doc-init g c = record { taken = record { documents = []; each = tt; follows = record { stands = λ commands stands. stands } }; settings = refl; fits = λ k d within. absurd (omega (arith, within)); works = λ works. works }
@@ -53,32 +53,33 @@ loop-reference-preserved g c = record {
   works = λ works. works_then c.loop-reference.index c.remove_doc.new.self c.remove_doc.new.self refl c.remove_doc.ensures.fails (c.loop-reference.invariant.works works);
 }
 
-pub returns-in_err-text-clause-err : goal.returns-in_err-text-clause-err
-returns-in_err-text-clause-err g c = later_exit c.from_residual-in_err-text.result _ _ _ _ _ c.from_residual-in_err-text.ensures.1
-    (λ works. elim c.if-job.branch [
+pub returns-clause-err : goal.returns-clause-err
+returns-clause-err g c = err_more c.line_of.result _ _
+    (λ stop memory works. inl (memory (elim c.if-job.branch [
       | then-job+in_ok-compact w ↦ works_then c.loop-reference.index w.compact.new.self c.if-job.index w.index-is w.compact.ensures.fails (c.loop-reference.invariant.works works)
       | else-job w ↦ works_still c.loop-reference.index c.if-job.index w.index-is (c.loop-reference.invariant.works works)
-    ])
-    c.in_err-text.ensures.err
+    ])))
+    c.line_of.ensures.err
 
 pub returns-clause-fits : goal.returns-clause-fits
-returns-clause-fits g c = subst (λ ds. Fits (fields_of c.args.index) (map document_told ds)) c.deref-doc-items.ensures.value
-    (All_whole document_told (λ doc. length doc.values ≤ length (fields_of c.args.index)) c.deref-doc-items.result.now c.loop-doc.doc-index c.loop-doc-test.false c.loop-doc.invariant.fits)
+returns-clause-fits g c = ok_always c.line_of.result (subst (λ ds. Fits (fields_of c.args.index) (map document_told ds)) c.deref-doc-items.ensures.value
+    (All_whole document_told (λ doc. length doc.values ≤ length (fields_of c.args.index)) c.deref-doc-items.result.now c.loop-doc.doc-index c.loop-doc-test.false c.loop-doc.invariant.fits))
 
 pub returns-clause-ok : goal.returns-clause-ok
-returns-clause-ok g c language built = elim c.if-job.branch [
-  | then-job+in_ok-compact w ↦ carried_line (job_told c.args.job.now) language _ _ _ _ _ (string_bytes c.in_ok-text.text)
+returns-clause-ok g c = ok_more c.line_of.result _ _ (λ text printed language built. elim c.if-job.branch [
+  | then-job+in_ok-compact w ↦ carried_line (job_told c.args.job.now) language _ _ _ _ _ (string_bytes text)
       (plan_alike language_name (λ z. (goal.PipelineFn-dyn g z).name_text z.1) c.args.index c.if-job.index (same_settings c.args.index c.loop-reference.index w.compact.new.self c.if-job.index w.index-is w.compact.ensures.settings c.loop-reference.invariant.settings))
       built
       (done _ _ _ _ _ c.args.job.now c.deref-doc-items.result.now c.loop-doc.doc-index c.deref-reference-items.result.now c.loop-reference.reference-index
       c.deref-doc-items.ensures.value c.deref-reference-items.ensures.value c.loop-doc-test.false c.loop-reference-test.false c.loop-doc.invariant.taken c.loop-reference.invariant.follows
       (compacted_then language_name (λ z. (goal.PipelineFn-dyn g z).name_text z.1) c.loop-reference.index w.compact.new.self c.if-job.index c.args.job.now.compact w.index-is w.if-job.true w.in_ok-compact.ensures.compacted))
-      c.in_ok-text.ensures.ok
-  | else-job w ↦ carried_line (job_told c.args.job.now) language _ _ _ _ _ (string_bytes c.in_ok-text.text)
+      printed
+  | else-job w ↦ carried_line (job_told c.args.job.now) language _ _ _ _ _ (string_bytes text)
       (plan_alike language_name (λ z. (goal.PipelineFn-dyn g z).name_text z.1) c.args.index c.if-job.index (same_settings c.args.index c.loop-reference.index c.loop-reference.index c.if-job.index w.index-is refl c.loop-reference.invariant.settings))
       built
       (done _ _ _ _ _ c.args.job.now c.deref-doc-items.result.now c.loop-doc.doc-index c.deref-reference-items.result.now c.loop-reference.reference-index
       c.deref-doc-items.ensures.value c.deref-reference-items.ensures.value c.loop-doc-test.false c.loop-reference-test.false c.loop-doc.invariant.taken c.loop-reference.invariant.follows
       (compacted_not language_name (λ z. (goal.PipelineFn-dyn g z).name_text z.1) c.loop-reference.index c.if-job.index c.args.job.now.compact w.index-is w.if-job.false))
-      c.in_ok-text.ensures.ok
-]
+      printed
+])
+    c.line_of.ensures.ok

@@ -1,7 +1,7 @@
 //! A filter of stop words.
 ghost use Rattle.std.specs.Prelude.{◌≡◌, map, string_bytes, IfOk, IsOkUnless, IsOk, IsTrue, option_map};
 ghost use Rattle.std.specs.Str.{chars, all_scalars};
-ghost use Rattle.elasticlunr_text.specs.Text.{Text, text_of, is_listed};
+ghost use Rattle.elasticlunr_text.specs.Text.{Text, text_of, texts_of, is_listed};
 ghost use Rattle.elasticlunr_text.specs.StopWords.{filter_name, has_word, without};
 
 use crate::IndexError;
@@ -31,6 +31,13 @@ impl StopWordFilter {
             name: String::from_str(alloc, name)?,
             stop_words: words,
         })
+    }
+
+    /// The stop words, each once, in no order of their own. No memory is requested.
+    pub fn stop_words(&self) -> &HashSet<String>
+        ensures { (token : Text) → has_word self.now token ≡ is_listed token (texts_of result.now.keys) }
+    {
+        &self.stop_words
     }
 
     /// A filter with the same name and the same words.

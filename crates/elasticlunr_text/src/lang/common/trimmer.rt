@@ -51,6 +51,13 @@ impl RegexTrimmer {
         Ok(RegexTrimmer { name, class })
     }
 
+    /// Whether the character is of the class, which is looked up by halves. No memory is requested.
+    pub fn contains(&self, c: char) -> bool
+        ensures { result ≡ keeps self.now c }
+    {
+        self.class.contains(c)
+    }
+
     /// A trimmer with the same name and the same class.
     pub fn clone(&self, alloc: Global) -> Result<Self, IndexError>
         ensures name { IfOk result (λ copy. trimmer_name copy ≡ trimmer_name self.now) }

@@ -16,6 +16,9 @@ use elasticlunr::{Index, IndexBuilder, IndexError};
 use std::alloc::{AllocError, Global};
 use std::io;
 
+/// How many stages a pipeline has room for, so that a call that adds one asks for no memory beside.
+const MOST_STAGES: usize = 64;
+
 /// An index that may begin without naming its language.
 #[derive(Drop)]
 pub struct EnglishSite {
@@ -43,12 +46,12 @@ impl Subject for EnglishSite {
 }
 
 pub fn index(rt: &HostRuntime) -> io::Result<()> {
-    let queue = Vec::new(rt.alloc());
+    let queue = Vec::with_capacity(rt.alloc(), MOST_STAGES)?;
     subject::run(rt, &mut EnglishSite::new(Pipeline { queue }))
 }
 
 pub fn pipeline(rt: &HostRuntime) -> io::Result<()> {
-    let queue = Vec::new(rt.alloc());
+    let queue = Vec::with_capacity(rt.alloc(), MOST_STAGES)?;
     subject::run(rt, &mut Stages::new(rt.alloc(), Pipeline { queue }))
 }
 
@@ -59,7 +62,8 @@ pub fn index_with_function(rt: &HostRuntime) -> io::Result<()> {
         name,
         function: copy_all_but_b,
     };
-    let queue = vec![in rt.alloc(); Stage::Function(wrapper)]?;
+    let mut queue = Vec::with_capacity(rt.alloc(), MOST_STAGES)?;
+    queue.push(Stage::Function(wrapper))?;
     subject::run(rt, &mut EnglishSite::new(Pipeline { queue }))
 }
 
@@ -69,26 +73,29 @@ pub fn pipeline_with_function(rt: &HostRuntime) -> io::Result<()> {
         name,
         function: copy_all_but_b,
     };
-    let queue = vec![in rt.alloc(); Stage::Function(wrapper)]?;
+    let mut queue = Vec::with_capacity(rt.alloc(), MOST_STAGES)?;
+    queue.push(Stage::Function(wrapper))?;
     subject::run(rt, &mut Stages::new(rt.alloc(), Pipeline { queue }))
 }
 
 /// An index whose pipeline may be an object.
 pub fn index_with_object(rt: &HostRuntime) -> io::Result<()> {
     let own: Box<dyn PipelineFn> = Box::new(rt.alloc(), CopyAllButB {})?;
-    let queue = vec![in rt.alloc(); Stage::Own(own)]?;
+    let mut queue = Vec::with_capacity(rt.alloc(), MOST_STAGES)?;
+    queue.push(Stage::Own(own))?;
     subject::run(rt, &mut EnglishSite::new(Pipeline { queue }))
 }
 
 pub fn pipeline_with_object(rt: &HostRuntime) -> io::Result<()> {
     let own: Box<dyn PipelineFn> = Box::new(rt.alloc(), CopyAllButB {})?;
-    let queue = vec![in rt.alloc(); Stage::Own(own)]?;
+    let mut queue = Vec::with_capacity(rt.alloc(), MOST_STAGES)?;
+    queue.push(Stage::Own(own))?;
     subject::run(rt, &mut Stages::new(rt.alloc(), Pipeline { queue }))
 }
 
 /// An index whose first field, `title`, has a tokenizer.
 pub fn index_with_tokenizer(rt: &HostRuntime) -> io::Result<()> {
-    let queue = Vec::new(rt.alloc());
+    let queue = Vec::with_capacity(rt.alloc(), MOST_STAGES)?;
     let mut site = EnglishSite::new(Pipeline { queue });
     let mut line = String::new(rt.alloc());
     rt.read_line(&mut line)?;

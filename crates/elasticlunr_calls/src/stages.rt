@@ -141,7 +141,26 @@ fn of_stage(stage: &Stage, call: &Call<'_>, token: String) -> Answer {
         "stem" => Answer::text(en::Stemmer::new().stem(token)),
         "name" => name_of(stage, call.alloc),
         "filter" => filtered(stage, call.alloc, token),
+        _ => looked_up(stage, call),
+    }
+}
+
+/// A look-up in what the stage holds.
+fn looked_up(stage: &Stage, call: &Call<'_>) -> Answer {
+    match (call.name, stage) {
+        ("stop_words", Stage::StopWords(filter)) => Answer::Number(
+            filter.stop_words().len() as u64,
+        ),
+        ("contains", Stage::Class(trimmer)) => Answer::Flag(has_letter(trimmer, call.text(0))),
         _ => Answer::NoSuchCall,
+    }
+}
+
+/// Whether the first character of a text is of the class.
+fn has_letter(trimmer: &RegexTrimmer, text: &str) -> bool {
+    match text.chars().next() {
+        Some(letter) => trimmer.contains(letter),
+        None => false,
     }
 }
 

@@ -8,7 +8,7 @@ use elasticlunr::{Index, IndexBuilder, IndexError, Language};
 use std::alloc::Global;
 use std::mem;
 
-/// The language and the pipeline to be used, the builder until it builds, and the index from then on.
+/// The language and the pipeline to be used, the builder until it builds, and then the index.
 #[derive(Drop)]
 pub struct Site<L: Language> {
     language: Option<L>,

@@ -1,106 +1,159 @@
 #!/usr/bin/env python3
-"""Makes each call of the library alone with the first, second and each later request for memory refused.
+"""Makes the calls of each row, counts the requests for memory of each, and refuses these one after the other.
 
-The built program `elasticlunr_vectors` prepares a call, makes it and tells of it:
+The built program `elasticlunr_calls` makes the calls that its input lists. It writes a call right before it
+makes it and ` -> ` right after, so the requests of the call alone are counted (count_requests.c). A row
+passes if
 
-    before: what stood before it      answer: what it answered      after: what stands after it
+- each call answers what the table says;
+- a call that promises to request no memory requests none, between its beginning and its end;
+- each other call, with its first, second and each later request refused, either does without it and gives its
+  whole answer, or answers want of memory, and then what stood before it stands after it; where it was
+  `add_doc` of an index, every call but `get_fields` then answers that the index has failed.
 
-or `prepare: no memory` and `print: no memory`, where memory was wanting before the call was made or
-after it had answered. A refused request may also end the program with status 1 and nothing printed,
-where it came before the program had read which call it is to make.
-
-A call passes if each of its runs ends well and either tells of want of memory beside the call, or
-answers want of memory and leaves what it must, or gives the whole answer; if the run that meets no
-refusal gives the whole answer; and if a request of its own was refused where it must make one. The
-calls and their answers stand in calls.py. With -v each call has a line.
+And each call that may answer want of memory did so at least once. calls.py says what each call promises. With
+-v each call has a line.
 """
 import json
+import os
+import subprocess
 import sys
+import tempfile
 
-from calls import CALLS, text
-from refusing import Refusing, program
+import calls
+from calls import FAILED, Row, fields_of, name_of, promise, rows_of, table
 
-PROGRAM = program("elasticlunr_vectors")
+HERE = os.path.dirname(os.path.abspath(__file__))
+PROGRAM = os.path.join(calls.TOP, "crates/elasticlunr_calls/out/elasticlunr_calls")
+SECONDS = 20  # for each run of the program
 
-# Where the refused request was made. A request that comes later is made in the same part or in a later one.
-STARTING, PREPARING, CALLING, PRINTING = range(4)
-BESIDE = {"": STARTING, "prepare: no memory\n": PREPARING, "print: no memory\n": PRINTING}
+# What is called of an index that has failed, and its answers.
+ON_FAILED = [["add_doc", "1", "fox"], ["add_doc", "1", *["fox"] * 9], ["remove_doc", "1"], ["compact"], ["to_value"],
+             ["to_json"], ["to_json_pretty"], ["document_store"], ["inverted_index", "body"]]
 
 
-def told(out):
-    """What stands after the name of each line; a JSON text in one form, any other word as it is."""
-    lines = {}
-    for line in out.splitlines():
-        name, _, said = line.partition(": ")
+class Program:
+    """Runs the program under the shim, which is built into a folder of its own."""
+
+    def __enter__(self):
+        self.folder = tempfile.TemporaryDirectory()
+        self.shim = os.path.join(self.folder.name, "count_requests.so")
+        source = os.path.join(HERE, "count_requests.c")
+        subprocess.run(["cc", "-O1", "-shared", "-fPIC", "-o", self.shim, source, "-ldl"], check=True)
+        self.counts = os.path.join(self.folder.name, "counts")
+        return self
+
+    def __exit__(self, *_):
+        self.folder.cleanup()
+
+    def run(self, subject, listed, refused=0):
+        """The row that is told, and the first and the last request of each call; or what went wrong."""
+        environment = dict(os.environ, LD_PRELOAD=self.shim, REFUSE_REQUEST=str(refused), COUNT_FILE=self.counts)
+        given = "\n".join([subject, *listed, "", ""])
         try:
-            said = text(json.loads(said))
-        except ValueError:
-            pass
-        lines[name] = said
-    return lines
+            ended = subprocess.run([PROGRAM], input=given.encode(), stdout=subprocess.PIPE, stderr=subprocess.DEVNULL,
+                                   env=environment, timeout=SECONDS)
+        except subprocess.TimeoutExpired:
+            return f"no end after {SECONDS} seconds", []
+        if ended.returncode != 0:
+            return f"status {ended.returncode}", []
+        told = rows_of(ended.stdout.decode(errors="replace"))
+        with open(self.counts) as file:
+            counts = [tuple(map(int, line.split())) for line in file]
+        os.remove(self.counts)
+        if len(told) != 1 or told[0].calls != listed or len(counts) != len(listed):
+            return "told another row", []
+        return told[0], counts
 
 
-def lines_of(before, answer, after):
-    lines = {"before": before, "answer": answer, "after": after}
-    return {name: said for name, said in lines.items() if said is not None}
+def after(row, number):
+    """The calls that show what stands after this one, and their answers if memory was refused; None for what stood."""
+    call = name_of(row.calls[number])
+    _, state = calls.SUBJECTS.get(row.kind().split(" ")[0], (None, None))
+    if row.kind().startswith("Index") and call not in calls.INDEX:
+        return [], []
+    if row.kind().startswith("Index") and call == "add_doc":
+        fields = ["get_fields", *fields_of(row, number)]
+        shown = [json.dumps(made, ensure_ascii=False) for made in [fields, *ON_FAILED]]
+        return shown, ["true", *[FAILED] * len(ON_FAILED)]
+    return ([state], None) if state else ([], [])
 
 
-def part_refused(call, run, number):
-    """The part of the run whose request was refused, None where the whole answer came, or why the run is wrong."""
-    if run.out in BESIDE:
-        if run.requests < number:
-            return "no answer, though no request was refused"
-        part = BESIDE[run.out]
-        return part if run.status == (1 if part == STARTING else 0) else f"status {run.status}"
-    if run.status != 0:
-        return f"status {run.status}"
-    lines = told(run.out)
-    if lines == lines_of(call.before, call.answer, call.after):
-        return None
-    wants = call.wants is not None and lines == lines_of(call.before, call.wants, call.refused)
-    return CALLING if wants and number <= run.requests else f"told {run.out[:200]!r}"
+def refuse(program, row, number, wants):
+    """Refuses each request of a call of a row in turn: why it is wrong, or None; and how often it wanted memory."""
+    shown, answers = after(row, number)
+    before = shown if answers is None else []
+    listed = [*row.calls[:number], *before, row.calls[number], *shown]
+    at = number + len(before)
+    whole, counts = program.run(row.subject, listed)
+    if isinstance(whole, str):
+        return whole, 0
+    if whole.answers[at] != row.answers[number]:
+        return f"answered {whole.answers[at]}", 0
+    expected = [*whole.answers[:at], wants, *(whole.answers[number:at] if answers is None else answers)]
+    first, last = counts[at]
+    wanting = 0
+    for request in range(first + 1, last + 1):
+        told, _ = program.run(row.subject, listed, request)
+        if isinstance(told, str):
+            return f"request {request - first}: {told}", 0
+        wanting += told.answers == expected
+        if told.answers not in (expected, whole.answers):
+            wrong = next(place for place, pair in enumerate(zip(told.answers, expected)) if pair[0] != pair[1])
+            return f"request {request - first}: {told.calls[wrong]} -> {told.answers[wrong][:200]}", 0
+    return None, wanting
 
 
-def check(name, call, refusing):
-    """Refuses each request of a call in turn: why it is wrong, or None; and how many were refused in each part."""
-    counts = [0] * 4
-    number = 0
-    last = STARTING
-    while True:
-        number += 1
-        run = refusing.run(PROGRAM, name + "\n", number)
-        part = part_refused(call, run, number)
-        if isinstance(part, str):
-            return f"request {number}: {part}", counts
-        if part is not None:
-            if part < last:
-                return f"request {number}: refused in a part that was over", counts
-            last = part
-            counts[part] += 1
-        if run.requests < number:
-            break
-    if call.needs and call.wants and not counts[CALLING]:
-        return "no request of its own was refused", counts
-    return None, counts
+def check(program, row, refused, done):
+    """Each wrong call of a row, with why it is. `done` has the calls, with those before them, that were refused."""
+    told, counts = program.run(row.subject, row.calls)
+    if isinstance(told, str):
+        return [told]
+    wrong = []
+    for number, (call, answer) in enumerate(zip(row.calls, row.answers)):
+        if told.answers[number] != answer:
+            wrong.append(f"{call} -> {told.answers[number][:200]}")
+            continue
+        if name_of(call) in calls.PREPARING:
+            continue
+        name, wants = promise(row, number)
+        own = counts[number][1] - counts[number][0]
+        refused.setdefault(name, 0 if wants else None)
+        if wants is None and own:
+            wrong.append(f"{call} requested memory {own} times, and promises to request none")
+        elif wants and own and (row.kind(), *row.calls[: number + 1]) not in done:
+            done.add((row.kind(), *row.calls[: number + 1]))
+            why, count = refuse(program, row, number, wants)
+            refused[name] += count
+            if why:
+                wrong.append(f"{call}: {why}")
+    return wrong
 
 
 def main():
-    passed = 0
+    rows = table()
     failed = 0
-    refused = [0] * 4
-    with Refusing() as refusing:
-        for name, call in CALLS.items():
-            wrong, counts = check(name, call, refusing)
-            refused = [one + other for one, other in zip(refused, counts)]
-            passed += not wrong
+    refused = {}
+    done = set()
+    if (len(rows), sum(len(row.calls) for row in rows)) != (calls.ROWS, calls.CALLS):
+        print(f"calls: the table has {len(rows)} rows with {sum(len(row.calls) for row in rows)} calls")
+        failed += 1
+    with Program() as program:
+        for row in rows:
+            wrong = check(program, row, refused, done)
             failed += bool(wrong)
-            if wrong:
-                print(f"refused calls: {name}: {wrong}", flush=True)
-            elif "-v" in sys.argv:
-                print(f"refused calls: {name}: {counts[CALLING]} requests, and {sum(counts) - counts[CALLING]} beside it")
-    print(f"refused calls: {sum(refused)} requests refused in turn, {refused[CALLING]} of them made by the calls")
-    print(f"calls: {passed} passed, {failed} failed")
-    return 1 if failed else 0
+            for why in wrong:
+                print(f"calls: {row.subject}: {why}", flush=True)
+    never = [name for name, count in refused.items() if count == 0]
+    for name in never:
+        print(f"calls: {name}: it never wanted memory")
+    if "-v" in sys.argv:
+        for name, count in sorted(refused.items()):
+            print(f"calls: {name}: {'requests none' if count is None else f'{count} times without memory'}")
+    none = sum(count is None for count in refused.values())
+    print(f"calls: {sum(filter(None, refused.values()))} answers of want of memory; {none} kinds of calls request none")
+    print(f"calls: {len(rows) - min(failed, len(rows))} passed, {failed + len(never)} failed")
+    return 1 if failed or never else 0
 
 
 if __name__ == "__main__":

@@ -1,38 +1,81 @@
 //! The tables: each line is compared with what the library answers.
-use crate::cells;
+use crate::{cells, scripts};
 use elasticlunr::lang::en::{self, Stemmer};
 use elasticlunr::lang::tokenize_whitespace;
 use elasticlunr::root;
 use std::alloc::{AllocError, Global};
+use std::{fs, io};
+
+/// A table, by what its lines say.
+#[derive(Clone, Copy)]
+pub enum Table {
+    /// A word and its stem.
+    Stems,
+    /// A text and the five answers as digits.
+    FiveTests,
+    /// A text and its words.
+    Tokens,
+    /// A count and its root.
+    Roots,
+    /// A class text and the script that it names.
+    Scripts,
+}
+
+impl Table {
+    fn file(self) -> &'static str {
+        match self {
+            Table::Stems => "stems.tsv",
+            Table::FiveTests => "five-tests.tsv",
+            Table::Tokens => "tokens.tsv",
+            Table::Roots => "roots.tsv",
+            Table::Scripts => "scripts.tsv",
+        }
+    }
+
+    fn is_right(self, alloc: Global, line: &str) -> Result<bool, AllocError> {
+        match self {
+            Table::Stems => is_stem(alloc, line),
+            Table::FiveTests => has_answers(alloc, line),
+            Table::Tokens => has_tokens(alloc, line),
+            Table::Roots => Ok(is_root(line)),
+            Table::Scripts => scripts::is_named(alloc, line),
+        }
+    }
+}
 
 /// How many lines of a table the library answers as the table says, and how many it does not.
 #[derive(Clone, Copy)]
 pub struct Counts {
-    pub right: u64,
-    pub wrong: u64,
+    right: u64,
+    wrong: u64,
 }
 
 impl Counts {
-    fn new() -> Counts {
+    pub fn new() -> Counts {
         Counts { right: 0, wrong: 0 }
     }
 
-    fn add(&mut self, right: bool) {
+    pub fn add(&mut self, right: bool) {
         if right {
             self.right = self.right.saturating_add(1);
         } else {
             self.wrong = self.wrong.saturating_add(1);
         }
     }
+
+    pub fn tell(self, rt: &HostRuntime, name: &str) -> io::Result<()> {
+        println!(rt; "{name}: {} right, {} wrong", self.right, self.wrong)
+    }
 }
 
-/// A word and its stem in each line.
-pub fn stems(alloc: Global, table: &str) -> Result<Counts, AllocError> {
+/// Runs a table.
+pub fn run(rt: &HostRuntime, table: Table) -> io::Result<()> {
+    let text = fs::read_to_string(rt, table.file())?;
     let mut counts = Counts::new();
-    for line in table.lines() {
-        counts.add(is_stem(alloc, line)?);
+    for line in text.as_str().lines() {
+        counts.add(table.is_right(rt.alloc(), line)?);
     }
-    Ok(counts)
+    counts.tell(rt, table.file())
 }
 
 fn is_stem(alloc: Global, line: &str) -> Result<bool, AllocError> {
@@ -43,15 +86,6 @@ fn is_stem(alloc: Global, line: &str) -> Result<bool, AllocError> {
         return Ok(false);
     };
     Ok(Stemmer::new().stem(word)? == stem)
-}
-
-/// A text and the five answers as digits in each line.
-pub fn five_tests(alloc: Global, table: &str) -> Result<Counts, AllocError> {
-    let mut counts = Counts::new();
-    for line in table.lines() {
-        counts.add(has_answers(alloc, line)?);
-    }
-    Ok(counts)
 }
 
 fn has_answers(alloc: Global, line: &str) -> Result<bool, AllocError> {
@@ -78,15 +112,6 @@ fn has_answers(alloc: Global, line: &str) -> Result<bool, AllocError> {
     )
 }
 
-/// A text and its words in each line.
-pub fn tokens(alloc: Global, table: &str) -> Result<Counts, AllocError> {
-    let mut counts = Counts::new();
-    for line in table.lines() {
-        counts.add(has_tokens(alloc, line)?);
-    }
-    Ok(counts)
-}
-
 fn has_tokens(alloc: Global, line: &str) -> Result<bool, AllocError> {
     let Some((text, tokens)) = line.split_once('\t') else {
         return Ok(false);
@@ -96,15 +121,6 @@ fn has_tokens(alloc: Global, line: &str) -> Result<bool, AllocError> {
         return Ok(false);
     };
     Ok(tokenize_whitespace(alloc, text.as_str())? == tokens)
-}
-
-/// A count and its root in each line.
-pub fn roots(table: &str) -> Counts {
-    let mut counts = Counts::new();
-    for line in table.lines() {
-        counts.add(is_root(line));
-    }
-    counts
 }
 
 fn is_root(line: &str) -> bool {

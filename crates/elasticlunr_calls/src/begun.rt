@@ -1,0 +1,128 @@
+//! Calls that begin with English, and those of parts that are handed in.
+ghost use Rattle.std.specs.Prelude.{◌≡◌, ℕ, List, Ok, Vec, String};
+ghost use Rattle.std.specs.Borrow.{Bor};
+ghost use Rattle.std.specs.declared.alloc.Global.{Global};
+ghost use Rattle.elasticlunr_text.specs.Text.{bytes_of};
+
+use crate::answer::Answer;
+use crate::call::Call;
+use crate::handed_in::{CopyAllButB, Tokenizer, copy_all_but_b, whole_without_b};
+use crate::indexes::Site;
+use crate::stages::Stages;
+use crate::subject::{self, Subject};
+use elasticlunr::lang::English;
+use elasticlunr::pipeline::{FnWrapper, Pipeline, PipelineFn, Stage};
+use elasticlunr::{Index, IndexBuilder, IndexError};
+use std::alloc::{AllocError, Global};
+use std::io;
+
+/// How many stages a pipeline has room for, so that a call that adds one asks for no memory beside.
+const MOST_STAGES: usize = 64;
+
+/// An index that may begin without naming its language.
+#[derive(Drop)]
+pub struct EnglishSite {
+    site: Site<English>,
+}
+
+impl EnglishSite {
+    fn new(pipeline: Pipeline) -> EnglishSite {
+        EnglishSite {
+            site: Site::new(None, pipeline),
+        }
+    }
+}
+
+impl Subject for EnglishSite {
+    fn answer(&mut self, call: &Call<'_>, tokens: Vec<String>) -> Answer {
+        match call.name {
+            "Index::new" => self.site.put_index(Index::new(call.alloc, &call.texts)),
+            "IndexBuilder::new" => self
+                .site
+                .put_builder(IndexBuilder::<English>::new(call.alloc)),
+            _ => self.site.answer(call, tokens),
+        }
+    }
+}
+
+pub fn index(rt: &HostRuntime) -> io::Result<()> {
+    let queue = Vec::with_capacity(rt.alloc(), MOST_STAGES)?;
+    subject::run(rt, &mut EnglishSite::new(Pipeline { queue }))
+}
+
+pub fn pipeline(rt: &HostRuntime) -> io::Result<()> {
+    let queue = Vec::with_capacity(rt.alloc(), MOST_STAGES)?;
+    subject::run(rt, &mut Stages::new(rt.alloc(), Pipeline { queue }))
+}
+
+/// An index whose pipeline may be a function.
+pub fn index_with_function(rt: &HostRuntime) -> io::Result<()> {
+    let name = String::from_str(rt.alloc(), "copy")?;
+    let wrapper = FnWrapper {
+        name,
+        function: copy_all_but_b,
+    };
+    let mut queue = Vec::with_capacity(rt.alloc(), MOST_STAGES)?;
+    queue.push(Stage::Function(wrapper))?;
+    subject::run(rt, &mut EnglishSite::new(Pipeline { queue }))
+}
+
+pub fn pipeline_with_function(rt: &HostRuntime) -> io::Result<()> {
+    let name = String::from_str(rt.alloc(), "copy")?;
+    let wrapper = FnWrapper {
+        name,
+        function: copy_all_but_b,
+    };
+    let mut queue = Vec::with_capacity(rt.alloc(), MOST_STAGES)?;
+    queue.push(Stage::Function(wrapper))?;
+    subject::run(rt, &mut Stages::new(rt.alloc(), Pipeline { queue }))
+}
+
+/// An index whose pipeline may be an object.
+pub fn index_with_object(rt: &HostRuntime) -> io::Result<()> {
+    let own: Box<dyn PipelineFn> = Box::new(rt.alloc(), CopyAllButB {})?;
+    let mut queue = Vec::with_capacity(rt.alloc(), MOST_STAGES)?;
+    queue.push(Stage::Own(own))?;
+    subject::run(rt, &mut EnglishSite::new(Pipeline { queue }))
+}
+
+pub fn pipeline_with_object(rt: &HostRuntime) -> io::Result<()> {
+    let own: Box<dyn PipelineFn> = Box::new(rt.alloc(), CopyAllButB {})?;
+    let mut queue = Vec::with_capacity(rt.alloc(), MOST_STAGES)?;
+    queue.push(Stage::Own(own))?;
+    subject::run(rt, &mut Stages::new(rt.alloc(), Pipeline { queue }))
+}
+
+/// An index whose first field, `title`, has a tokenizer.
+pub fn index_with_tokenizer(rt: &HostRuntime) -> io::Result<()> {
+    let queue = Vec::with_capacity(rt.alloc(), MOST_STAGES)?;
+    let mut site = EnglishSite::new(Pipeline { queue });
+    let mut line = String::new(rt.alloc());
+    rt.read_line(&mut line)?;
+    let made = IndexBuilder::<English>::new(rt.alloc());
+    let tokenizer: Tokenizer = Box::new(rt.alloc(), whole_without_b)?;
+    add_tokenizer(rt, &mut site, line.as_str().trim(), made, tokenizer)?;
+    subject::run(rt, &mut site)
+}
+
+/// The call that comes first, `add_field_with_tokenizer`.
+fn add_tokenizer(
+    rt: &HostRuntime,
+    site: &mut EnglishSite,
+    call: &str,
+    made: Result<IndexBuilder<English>, IndexError>,
+    tokenizer: Tokenizer,
+) -> io::Result<()>
+    requires callable { Tokenizer.IsAlwaysCallable tokenizer }
+    requires one_answer { (a b : Global) (s t : Bor (List ℕ)) (v w : Vec (String Global) Global) → s.now ≡ t.now
+        → Tokenizer.post tokenizer a s (Ok v) → Tokenizer.post tokenizer b t (Ok w) → bytes_of v.items ≡ bytes_of w.items }
+{
+    let Ok(builder) = made else {
+        return subject::not_made(rt, call);
+    };
+    let begun = rt.print(call);
+    let added = builder.add_field_with_tokenizer("title", tokenizer);
+    let ended = rt.print(" -> ");
+    let told = subject::tell(rt, site.site.put_builder(added));
+    begun.and(ended).and(told)
+}

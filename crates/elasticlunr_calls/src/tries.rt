@@ -1,0 +1,95 @@
+//! Calls of a trie.
+use crate::answer::Answer;
+use crate::call::Call;
+use crate::subject::Subject;
+use elasticlunr::IndexError;
+use elasticlunr::inverted_index::InvertedIndex;
+use serde_json::Value;
+use std::alloc::Global;
+use std::mem;
+
+/// The trie that is called, and another, which may be put in its place.
+#[derive(Drop)]
+pub struct Tries {
+    trie: InvertedIndex,
+    other: InvertedIndex,
+}
+
+impl Tries {
+    pub fn new(alloc: Global) -> Tries {
+        Tries {
+            trie: InvertedIndex::new(alloc),
+            other: InvertedIndex::new(alloc),
+        }
+    }
+
+    fn put(&mut self, made: Result<InvertedIndex, IndexError>) -> Answer {
+        match made {
+            Ok(trie) => {
+                self.trie = trie;
+                Answer::Done
+            }
+            Err(error) => Answer::Refused(error),
+        }
+    }
+
+    fn read(&mut self, alloc: Global, value: Option<&Value>) -> Answer {
+        match value {
+            Some(value) => self.put(InvertedIndex::from_value(alloc, value)),
+            None => Answer::NoSuchCall,
+        }
+    }
+
+    fn change(&mut self, call: &Call<'_>) -> Answer {
+        match call.name {
+            "new" => self.put(Ok(InvertedIndex::new(call.alloc))),
+            "from_value" => self.read(call.alloc, call.value),
+            "compacted" => {
+                let made = self.trie.compacted();
+                self.put(made)
+            }
+            "swap" => {
+                mem::swap(&mut self.trie, &mut self.other);
+                Answer::Done
+            }
+            "eq" => Answer::Flag(self.trie == self.other),
+            _ => changed(&mut self.trie, call),
+        }
+    }
+}
+
+impl Subject for Tries {
+    fn answer(&mut self, call: &Call<'_>, tokens: Vec<String>) -> Answer {
+        let _unused = tokens;
+        self.change(call)
+    }
+}
+
+fn changed(trie: &mut InvertedIndex, call: &Call<'_>) -> Answer {
+    match call.name {
+        "add_token" => Answer::done(trie.add_token(call.text(0), call.text(1), call.number())),
+        "remove_token" => {
+            trie.remove_token(call.text(0), call.text(1));
+            Answer::Done
+        }
+        "remove_doc" => {
+            trie.remove_doc(call.text(0));
+            Answer::Done
+        }
+        _ => looked_up(trie, call),
+    }
+}
+
+/// A call that changes nothing.
+pub fn looked_up(trie: &InvertedIndex, call: &Call<'_>) -> Answer {
+    match call.name {
+        "has_token" => Answer::Flag(trie.has_token(call.text(0))),
+        "get_docs" => Answer::postings(trie.get_docs(call.text(0))),
+        "get_doc_frequency" => Answer::Number(trie.get_doc_frequency(call.text(0))),
+        "get_term_frequency" => {
+            Answer::Number(trie.get_term_frequency(call.text(0), call.text(1)))
+        }
+        "to_value" => Answer::value(trie.to_value()),
+        _ => Answer::NoSuchCall,
+    }
+}

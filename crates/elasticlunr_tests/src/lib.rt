@@ -1,0 +1,18 @@
+//! Tests of what needs a type of its own: stages, languages, tokenizers and functions that a user
+//! hands in to the library.
+#![tactic(auto)]
+
+#[cfg(test)]
+mod long_tokens;
+#[cfg(test)]
+mod own;
+#[cfg(test)]
+mod own_language;
+#[cfg(test)]
+mod own_parts;
+#[cfg(test)]
+mod pipelines;
+#[cfg(test)]
+mod shortest;
+#[cfg(test)]
+mod texts;

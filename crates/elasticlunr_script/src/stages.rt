@@ -1,0 +1,109 @@
+//! The stages of a language, as a script holds them.
+
+use crate::classes::{CharClass, TrimmerClass, marks_of};
+use crate::pairs::{ArabicChange, alone, pairs_of};
+use elasticlunr_lang::{AnyLanguage, Language};
+use elasticlunr_text::lang::ar;
+use elasticlunr_text::lang::common::{RegexTrimmer, StopWordFilter};
+use elasticlunr_text::pipeline::{Pipeline, PipelineFn, Stage};
+use serde_json::{Value, json};
+use std::alloc::{AllocError, Global};
+
+/// The words of a filter in the order of their bytes.
+fn words_of(alloc: Global, filter: &StopWordFilter) -> Result<Vec<String>, AllocError> {
+    let mut words = Vec::new(alloc);
+    for word in filter.stop_words() {
+        words.push(word.clone()?)?;
+    }
+    words.sort()?;
+    Ok(words)
+}
+
+/// Texts as a value.
+pub fn texts(alloc: Global, words: Vec<String>) -> Result<Value, AllocError> {
+    let mut items = Vec::with_capacity(alloc, words.len())?;
+    for word in words {
+        items.push(Value::String(word))?;
+    }
+    Ok(Value::Array(items))
+}
+
+/// Numbers as a value.
+pub fn numbers(alloc: Global, marks: &[u32]) -> Result<Value, AllocError> {
+    let mut items = Vec::with_capacity(alloc, marks.len())?;
+    for mark in marks {
+        items.push(Value::from(*mark))?;
+    }
+    Ok(Value::Array(items))
+}
+
+/// A filter of stop words: its name and its words.
+fn stop_words(alloc: Global, filter: &StopWordFilter) -> Result<Value, AllocError> {
+    let words = texts(alloc, words_of(alloc, filter)?)?;
+    let name = filter.name(alloc)?;
+    json!(in alloc; {"name": name.as_str(), "words": &words})
+}
+
+/// A trimmer: its name and the marks of its class.
+fn class(alloc: Global, trimmer: &RegexTrimmer) -> Result<Value, AllocError> {
+    let marks = marks_of(alloc, &TrimmerClass(trimmer))?;
+    let class = numbers(alloc, &marks)?;
+    let name = trimmer.name(alloc)?;
+    json!(in alloc; {"name": name.as_str(), "class": &class})
+}
+
+/// The characters of which, alone, the Arabic stemmer leaves nothing.
+#[derive(Clone, Copy)]
+struct Dropped {}
+
+impl CharClass for Dropped {
+    ghost use Rattle.elasticlunr_text.specs.Arabic.{is_diacritic};
+
+    ghost has = { λ _. is_diacritic };
+
+    fn has(&self, alloc: Global, c: char) -> Result<bool, AllocError> {
+        let left = ar::Stemmer::new().filter(alloc, alone(alloc, c)?)?;
+        Ok(left.is_none())
+    }
+}
+
+/// The Arabic stemmer: its name, the marks of what it drops, and what it changes.
+fn arabic(alloc: Global) -> Result<Value, AllocError> {
+    let marks = marks_of(alloc, &Dropped {})?;
+    let drops = numbers(alloc, &marks)?;
+    let changes = texts(alloc, pairs_of(alloc, &ArabicChange {})?)?;
+    let name = ar::Stemmer::new().name(alloc)?;
+    json!(in alloc; {"name": name.as_str(), "drops": &drops, "changes": &changes})
+}
+
+/// A stage, if it isn't one of the browser script's own.
+fn stage_of(alloc: Global, stage: &Stage) -> Result<Option<Value>, AllocError> {
+    match stage {
+        Stage::StopWords(filter) => Ok(Some(stop_words(alloc, filter)?)),
+        Stage::Class(trimmer) => Ok(Some(class(alloc, trimmer)?)),
+        Stage::ArabicStemmer => Ok(Some(arabic(alloc)?)),
+        Stage::Keep(name) => Ok(Some(json!(in alloc; {"name": name.as_str()})?)),
+        _ => Ok(None),
+    }
+}
+
+/// Appends the stages of the language. Those of English are the browser script's own.
+pub fn push_stages(
+    alloc: Global,
+    language: AnyLanguage,
+    stages: &mut Vec<Value>,
+) -> Result<(), AllocError> {
+    if let AnyLanguage::English = language {
+        return Ok(());
+    }
+    let empty = Pipeline {
+        queue: Vec::new(alloc),
+    };
+    let pipeline = language.make_pipeline(alloc, empty)?;
+    for stage in &pipeline.queue {
+        if let Some(value) = stage_of(alloc, stage)? {
+            stages.push(value)?;
+        }
+    }
+    Ok(())
+}

@@ -2,8 +2,9 @@
 PREFIX ?= /usr/local
 PROGRAM = crates/elasticlunr_index/out/elasticlunr_index
 EXAMPLE = examples/job.json
+PORT ?= 8095
 
-.PHONY: run build calls test install
+.PHONY: run build script demo calls test install
 
 # A job on standard input, or the example where standard input is a terminal or empty.
 run: build
@@ -13,6 +14,14 @@ run: build
 
 build:
 	@cd crates/elasticlunr_index && rt run < ../../$(EXAMPLE) > /dev/null
+
+# The program that prints the script for browsers.
+script:
+	@cd crates/elasticlunr_script && echo English | rt run > /dev/null
+
+# The search page over the indexes of examples/ in three languages, on http://127.0.0.1:$(PORT)/.
+demo: build
+	@python3 bench/browser_demo.py $(PORT)
 
 # The program that makes one call of the library alone.
 calls:

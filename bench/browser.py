@@ -12,6 +12,8 @@ import tempfile
 import browser_cases
 import browser_tools
 
+SECONDS = 540
+
 
 def too_long(_signal, _frame):
     raise SystemExit(f"browser: not ended after {SECONDS} seconds")

@@ -163,7 +163,7 @@ def characters(language, alone):
                 told = world.call([ALL], "compare", "characters.job.json", "characters.json")
                 must(not told["differ"], told["differ"])
                 postings += told["postings"]
-        must(alone or postings > 1112000, f"only {postings} postings")
+        must(alone or postings > 1111000, f"only {postings} postings")
         return f"{postings} postings"
     return f"{language}: every character {'alone' if alone else 'inside a word'}", case
 

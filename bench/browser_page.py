@@ -9,6 +9,7 @@ from browser_pages import PAGES
 from browser_tools import ELASTICLUNR, TOP, index_of
 
 WAIT = 10
+SITES = {language: [[ref + ".html", *texts] for ref, *texts in pages] for language, pages in PAGES.items()}
 
 
 def must(holds, told):
@@ -82,13 +83,13 @@ class Page:
 
 
 def typing(world):
-    page = Page(world, site(world, "german", PAGES["German"], "German"))
+    page = Page(world, site(world, "german", SITES["German"], "German"))
     must(page.titles() == [] and page.status() == "", "results before anything was typed")
     for letters in ["W", "a", "l", "d"]:
         page.query().send_keys(letters)
     must(page.titles() == ["Spaziergang im Wald"] and page.status() == "1 page", page.titles())
     must("Waldboden" in page.all("p.excerpt")[0].text, "no excerpt")
-    must(page.all("#results a")[0].get_attribute("href").endswith("/german/forest"), "another address")
+    must(page.all("#results a")[0].get_attribute("href").endswith("/german/forest.html"), "another address")
     must(page.script("location.search") == "?q=Wald", "the address has no query")
     page.type("Xylophon")
     must(page.titles() == [] and page.status() == "No page has all of this.", page.status())
@@ -100,13 +101,13 @@ def each_language(world):
     from selenium.webdriver.common.keys import Keys
     asked = {"German": ("BRÖTCHEN", "Brötchen backen"), "Korean": ("축제", "봄 축제"), "Arabic": ("القارب", "البحر في الصباح"), "Russian": ("самовар", "Чай с вареньем")}
     for language, (text, title) in asked.items():
-        page = Page(world, site(world, language.lower(), PAGES[language], language))
+        page = Page(world, site(world, language.lower(), SITES[language], language))
         page.query().send_keys(text)
         must(page.titles() == [title] and page.marks(), [language, page.titles(), page.marks()])
 
 
 def marks(world):
-    page = Page(world, site(world, "english", PAGES["English"]))
+    page = Page(world, site(world, "english", SITES["English"]))
     page.type("train")
     must(page.titles() == ["Trains & Timetables"], page.titles())
     must(page.marks("#results a") == ["Trains"] and page.marks("p.excerpt") == ["train"], page.marks())
@@ -123,7 +124,7 @@ def excerpts(world):
 
 
 def switch(world):
-    page = Page(world, site(world, "english", PAGES["English"]))
+    page = Page(world, site(world, "english", SITES["English"]))
     page.type("ferry flour")
     must(page.titles() == [], page.titles())
     page.all("input[value=OR]")[0].click()
@@ -133,7 +134,7 @@ def switch(world):
 
 
 def keyboard(world):
-    page = Page(world, site(world, "english", PAGES["English"]))
+    page = Page(world, site(world, "english", SITES["English"]))
     must(page.active() == page.query(), "the box is not chosen")
     page.all("input[value=OR]")[0].click()
     page.type("water train ferry")
@@ -148,19 +149,19 @@ def keyboard(world):
     must(page.active() == page.query(), "not the box")
     page.press(page.keys.ESCAPE)
     must(page.query().get_attribute("value") == "" and page.titles() == [] and page.active() == page.query(), "not cleared")
-    world.write("english/trains", "here")
+    world.write("english/trains.html", "here")
     page.type("timetables")
     page.press(page.keys.ENTER)
-    page.until(lambda: page.driver.current_url.endswith("/english/trains"))
+    page.until(lambda: page.driver.current_url.endswith("/english/trains.html"))
 
 
 def enter_on_result(world):
-    page = Page(world, site(world, "english", PAGES["English"]))
-    world.write("english/bread", "here")
+    page = Page(world, site(world, "english", SITES["English"]))
+    world.write("english/bread.html", "here")
     page.type("rye")
     page.press(page.keys.ARROW_DOWN)
     page.press(page.keys.ENTER)
-    page.until(lambda: page.driver.current_url.endswith("/english/bread"))
+    page.until(lambda: page.driver.current_url.endswith("/english/bread.html"))
 
 
 def more(world):
@@ -174,7 +175,7 @@ def more(world):
 
 
 def from_address(world):
-    page = Page(world, site(world, "english", PAGES["English"]) + "?q=ivy%20roses")
+    page = Page(world, site(world, "english", SITES["English"]) + "?q=ivy%20roses")
     must(page.titles() == ["Notes on a Façade Garden"] and page.query().get_attribute("value") == "ivy roses", page.titles())
 
 
@@ -199,14 +200,14 @@ def addresses(world):
 
 
 def not_saved(world):
-    page = Page(world, site(world, "unsaved", PAGES["English"], save=False))
+    page = Page(world, site(world, "unsaved", SITES["English"], save=False))
     page.type("ivy")
-    must(page.titles() == ["garden"], page.titles())
+    must(page.titles() == ["garden.html"], page.titles())
 
 
 def says(name, part, index=None, leave_out=()):
     def case(world):
-        page = Page(world, site(world, name, PAGES["German"], "German", index=index, leave_out=leave_out), ready=False)
+        page = Page(world, site(world, name, SITES["German"], "German", index=index, leave_out=leave_out), ready=False)
         must(part in page.status() and not page.query().is_enabled(), page.status())
         must("bad" in page.all("#status")[0].get_attribute("class"), "not marked as bad")
         return page.status()
@@ -214,7 +215,7 @@ def says(name, part, index=None, leave_out=()):
 
 
 def phone(world):
-    page = Page(world, site(world, "english", PAGES["English"] + [("w" * 120, "W" * 90, "word " + "w" * 300)]))
+    page = Page(world, site(world, "english", SITES["English"] + [("w" * 120, "W" * 90, "word " + "w" * 300)]))
     size = {"width": 360, "height": 640, "deviceScaleFactor": 2, "mobile": True}
     page.driver.execute_cdp_cmd("Emulation.setDeviceMetricsOverride", size)
     try:
@@ -239,7 +240,7 @@ def contrast(first, second):
 
 
 def dark(world):
-    page = Page(world, site(world, "english", PAGES["English"]))
+    page = Page(world, site(world, "english", SITES["English"]))
     page.type("train")
     backs = []
     for scheme in ["light", "dark"]:

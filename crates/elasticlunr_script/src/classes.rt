@@ -55,12 +55,7 @@ fn has_code<C: CharClass>(alloc: Global, class: &C, code: u32) -> Result<bool, A
 }
 
 /// Appends a mark where the class begins or ends at this number.
-fn push_turn(
-    marks: &mut Vec<u32>,
-    inside: bool,
-    has: bool,
-    code: u32,
-) -> Result<(), AllocError>
+fn push_turn(marks: &mut Vec<u32>, inside: bool, has: bool, code: u32) -> Result<(), AllocError>
     ensures same { OnOk result (has ≡ inside → marks.new.items ≡ marks.old.items) }
     ensures turn { OnOk result (has ≢ inside → marks.new.items ≡ marks.old.items ++ code ∷ []) }
 {

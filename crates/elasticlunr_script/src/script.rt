@@ -1,4 +1,8 @@
 //! The script.
+ghost use Rattle.std.specs.Prelude.{◌≡◌, map, string_bytes, IfOk};
+ghost use Rattle.serde_json.specs.Data.{Data};
+ghost use Rattle.serde_json.specs.View.{view};
+ghost use Rattle.elasticlunr_script.specs.Facts.{IsFacts};
 
 use crate::classes::{Separators, marks_of};
 use crate::pairs::{LowerCase, pairs_of};
@@ -24,22 +28,30 @@ fn named(alloc: Global, names: &str) -> Result<Option<Vec<AnyLanguage>>, AllocEr
     Ok(Some(found))
 }
 
-/// What the script knows: the stages of the languages, the separators of words, and lower case.
-fn facts(alloc: Global, chosen: &[AnyLanguage]) -> Result<Value, AllocError> {
+/// The stages of the languages.
+fn all_stages(alloc: Global, chosen: &[AnyLanguage]) -> Result<Vec<Value>, AllocError> {
     let mut stages = Vec::new(alloc);
     for language in chosen {
         push_stages(alloc, *language, &mut stages)?;
     }
+    Ok(stages)
+}
+
+/// What the script knows: the stages, the separators of words, and lower case.
+fn facts(alloc: Global, stages: Vec<Value>) -> Result<Value, AllocError>
+    ensures { IfOk result (λ value. IsFacts (map view stages.items) (view value)) }
+{
     let stages = Value::Array(stages);
     let marks = marks_of(alloc, &Separators {})?;
     let between = numbers(alloc, &marks)?;
-    let lower = texts(alloc, pairs_of(alloc, &LowerCase {})?)?;
+    let pairs = pairs_of(alloc, &LowerCase {})?;
+    let lower = texts(alloc, &pairs)?;
     json!(in alloc; {"between": &between, "lower": &lower, "stages": &stages})
 }
 
 /// The text of the script for the languages.
 fn text_for(alloc: Global, chosen: &[AnyLanguage]) -> Result<String, AllocError> {
-    let facts = facts(alloc, chosen)?;
+    let facts = facts(alloc, all_stages(alloc, chosen)?)?;
     let printed = facts.to_string(alloc)?;
     let mut text = String::from_str(alloc, HEAD)?;
     text.push_str(printed.as_str())?;

@@ -1,4 +1,10 @@
 //! The stages of a language, as a script holds them.
+ghost use Rattle.std.specs.Prelude.{◌≡◌, ◌∷◌, [], ◌++◌, map, string_bytes, option_map, IfOk, IfSome, OnOk, IsNone, None};
+ghost use Rattle.serde_json.specs.View.{view};
+ghost use Rattle.elasticlunr_text.specs.Text.{Text, texts_of, bytes_of, is_listed};
+ghost use Rattle.elasticlunr_text.specs.StopWords.{has_word};
+ghost use Rattle.elasticlunr_script.specs.Stages as spec;
+ghost use Rattle.elasticlunr_script.specs.Stages.{IsFilter, IsTrimmer, IsArabic, IsStage, AreStages};
 
 use crate::classes::{CharClass, TrimmerClass, marks_of};
 use crate::pairs::{ArabicChange, alone, pairs_of};
@@ -10,7 +16,9 @@ use serde_json::{Value, json};
 use std::alloc::{AllocError, Global};
 
 /// The words of a filter in the order of their bytes.
-fn words_of(alloc: Global, filter: &StopWordFilter) -> Result<Vec<String>, AllocError> {
+fn words_of(alloc: Global, filter: &StopWordFilter) -> Result<Vec<String>, AllocError>
+    ensures { IfOk result (λ words. (token : Text) → has_word filter.now token ≡ is_listed token (texts_of words.items)) }
+{
     let mut words = Vec::new(alloc);
     for word in filter.stop_words() {
         words.push(word.clone()?)?;
@@ -20,16 +28,20 @@ fn words_of(alloc: Global, filter: &StopWordFilter) -> Result<Vec<String>, Alloc
 }
 
 /// Texts as a value.
-pub fn texts(alloc: Global, words: Vec<String>) -> Result<Value, AllocError> {
+pub fn texts(alloc: Global, words: &[String]) -> Result<Value, AllocError>
+    ensures { IfOk result (λ value. view value ≡ spec.texts (bytes_of words.now)) }
+{
     let mut items = Vec::with_capacity(alloc, words.len())?;
     for word in words {
-        items.push(Value::String(word))?;
+        items.push(Value::String(word.clone()?))?;
     }
     Ok(Value::Array(items))
 }
 
 /// Numbers as a value.
-pub fn numbers(alloc: Global, marks: &[u32]) -> Result<Value, AllocError> {
+pub fn numbers(alloc: Global, marks: &[u32]) -> Result<Value, AllocError>
+    ensures { IfOk result (λ value. view value ≡ spec.numbers marks.now) }
+{
     let mut items = Vec::with_capacity(alloc, marks.len())?;
     for mark in marks {
         items.push(Value::from(*mark))?;
@@ -38,14 +50,19 @@ pub fn numbers(alloc: Global, marks: &[u32]) -> Result<Value, AllocError> {
 }
 
 /// A filter of stop words: its name and its words.
-fn stop_words(alloc: Global, filter: &StopWordFilter) -> Result<Value, AllocError> {
-    let words = texts(alloc, words_of(alloc, filter)?)?;
+fn stop_words(alloc: Global, filter: &StopWordFilter) -> Result<Value, AllocError>
+    ensures { IfOk result (λ value. IsFilter filter.now (view value)) }
+{
+    let listed = words_of(alloc, filter)?;
+    let words = texts(alloc, &listed)?;
     let name = filter.name(alloc)?;
     json!(in alloc; {"name": name.as_str(), "words": &words})
 }
 
 /// A trimmer: its name and the marks of its class.
-fn class(alloc: Global, trimmer: &RegexTrimmer) -> Result<Value, AllocError> {
+fn class(alloc: Global, trimmer: &RegexTrimmer) -> Result<Value, AllocError>
+    ensures { IfOk result (λ value. IsTrimmer trimmer.now (view value)) }
+{
     let marks = marks_of(alloc, &TrimmerClass(trimmer))?;
     let class = numbers(alloc, &marks)?;
     let name = trimmer.name(alloc)?;
@@ -62,29 +79,51 @@ impl CharClass for Dropped {
     ghost has = { λ _. is_diacritic };
 
     fn has(&self, alloc: Global, c: char) -> Result<bool, AllocError> {
-        let left = ar::Stemmer::new().filter(alloc, alone(alloc, c)?)?;
+        let token = alone(alloc, c)?;
+        let left = ar::Stemmer::new().filter(alloc, token)?;
         Ok(left.is_none())
     }
 }
 
 /// The Arabic stemmer: its name, the marks of what it drops, and what it changes.
-fn arabic(alloc: Global) -> Result<Value, AllocError> {
+fn arabic(alloc: Global) -> Result<Value, AllocError>
+    ensures { IfOk result (λ value. IsArabic (view value)) }
+{
     let marks = marks_of(alloc, &Dropped {})?;
     let drops = numbers(alloc, &marks)?;
-    let changes = texts(alloc, pairs_of(alloc, &ArabicChange {})?)?;
+    let pairs = pairs_of(alloc, &ArabicChange {})?;
+    let changes = texts(alloc, &pairs)?;
     let name = ar::Stemmer::new().name(alloc)?;
     json!(in alloc; {"name": name.as_str(), "drops": &drops, "changes": &changes})
 }
 
 /// A stage, if it isn't one of the browser script's own.
-fn stage_of(alloc: Global, stage: &Stage) -> Result<Option<Value>, AllocError> {
+fn stage_of(alloc: Global, stage: &Stage) -> Result<Option<Value>, AllocError>
+    ensures { IfOk result (λ found. IsStage stage.now (option_map view found)) }
+{
     match stage {
         Stage::StopWords(filter) => Ok(Some(stop_words(alloc, filter)?)),
         Stage::Class(trimmer) => Ok(Some(class(alloc, trimmer)?)),
         Stage::ArabicStemmer => Ok(Some(arabic(alloc)?)),
         Stage::Keep(name) => Ok(Some(json!(in alloc; {"name": name.as_str()})?)),
-        _ => Ok(None),
+        Stage::EnglishTrimmer => Ok(None),
+        Stage::EnglishStemmer => Ok(None),
+        Stage::Function(_) => Ok(None),
+        Stage::Own(_) => Ok(None),
     }
+}
+
+/// The stages of a pipeline.
+pub fn stages_of(alloc: Global, pipeline: &Pipeline) -> Result<Vec<Value>, AllocError>
+    ensures { IfOk result (λ values. AreStages pipeline.now.queue.items (map view values.items)) }
+{
+    let mut values = Vec::new(alloc);
+    for stage in &pipeline.queue {
+        if let Some(value) = stage_of(alloc, stage)? {
+            values.push(value)?;
+        }
+    }
+    Ok(values)
 }
 
 /// Appends the stages of the language. Those of English are the browser script's own.
@@ -100,10 +139,6 @@ pub fn push_stages(
         queue: Vec::new(alloc),
     };
     let pipeline = language.make_pipeline(alloc, empty)?;
-    for stage in &pipeline.queue {
-        if let Some(value) = stage_of(alloc, stage)? {
-            stages.push(value)?;
-        }
-    }
-    Ok(())
+    let mut its_own = stages_of(alloc, &pipeline)?;
+    stages.append(&mut its_own)
 }

@@ -1,0 +1,26 @@
+-- What a script knows of words, and its text.
+use Rattle.std.specs.Prelude.{◌≡◌, ℕ, List, [], ◌∷◌, ◌++◌, codes}
+use Rattle.std.specs.declared.string.String.{String}
+use Rattle.std.specs.declared.alloc.Global.{Global}
+use Rattle.serde_json.specs.Data.{Data, array, object, member, no_members}
+use Rattle.serde_json.specs.View.{items_of}
+use Rattle.serde_json.specs.Written.{compact_text}
+use Rattle.elasticlunr_text.specs.Text.{Bytes, texts_of, bytes_of}
+use Rattle.elasticlunr_lang.specs.Lower.{lower}
+use Rattle.elasticlunr_lang.specs.Words.{is_separator}
+use Rattle.elasticlunr_script.specs.Marks.{Marks}
+use Rattle.elasticlunr_script.specs.Pairs.{Pairs}
+use Rattle.elasticlunr_script.specs.Stages.{texts, numbers}
+use Rattle.elasticlunr_script.specs.declared.template.TheConstants.{HEAD, TAIL}
+
+-- the separators of words, lower case, and some stages
+pub record IsFacts (stages : List Data) (d : Data) : Type 0 where
+  pub marks : List ℕ
+  pub pairs : List (String Global)
+  pub are_marks : Marks is_separator marks
+  pub are_pairs : Pairs lower (texts_of pairs)
+  pub value : d ≡ object (member (codes "between") (numbers marks) (member (codes "lower") (texts (bytes_of pairs)) (member (codes "stages") (array (items_of stages)) no_members)))
+
+-- the text of a script that knows this
+abbrev pub script_text : Data → Bytes
+script_text facts = HEAD.now ++ compact_text facts ++ TAIL.now

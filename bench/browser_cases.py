@@ -1,7 +1,9 @@
 """The cases: each has a name, and answers what there is to tell or raises why it fails."""
 import json
 import os
+import socket
 import subprocess
+import sys
 
 import browser_book
 import browser_page
@@ -186,7 +188,7 @@ def own_tokenizer(world):
 
 def every_character():
     made = [characters(language, alone) for language in ["English", "German", "Russian", "Korean", "Arabic"] for alone in [True, False]]
-    return made + [("English without its script differs at capitals, U+0085 and U+FEFF alone", own_tokenizer)]
+    return made + [("README: English without its script differs at capitals, U+0085 and U+FEFF alone", own_tokenizer)]
 
 
 # A book.
@@ -242,19 +244,30 @@ def lang_search(world, language, docs, queries, **settings):
     return world.call([ALL], "search", "told.json", queries, settings)
 
 
-def numbers_dropped(world):
-    docs = [["1", "Im Jahr 1998 kamen 30 Gäste, Kapitel 7b"]]
-    must(lang_search(world, "German", docs, ["1998", "30", "Gäste", "7b", "b"]) == [[], [], ["1"], ["1"], ["1"]], "German")
-    docs = [["1", "En 1998, 30 invités au 2e étage"]]
-    must(lang_search(world, "French", docs, ["1998", "30", "invités"]) == [[], [], ["1"]], "French")
-    must(lang_search(world, "English", [["1", "In 1998 came 30 guests"]], ["1998", "30"]) == [["1"], ["1"]], "English")
-    must(lang_search(world, "Arabic", [["1", "وصل ٣٠ ضيفا عام 1998"]], ["1998", "٣٠"]) == [["1"], ["1"]], "Arabic")
+SAMPLES = {"Latin": "Zebra", "Cyrillic": "Москва", "Hangul": "자전거", "Arabic": "مدينة", "Greek": "θάλασσα", "numbers": "1998"}
+LETTERS = {"in Latin letters": {"Latin"}, "in all letters": set(SAMPLES) - {"numbers"}, "in Cyrillic letters": {"Cyrillic"},
+           "in Hangul and Latin letters": {"Latin", "Hangul"}}
 
 
-def other_scripts(world):
-    must(lang_search(world, "Russian", [["1", "Сеть Linux и Ελλάδα работает"]], ["Linux", "Ελλάδα", "сеть"]) == [[], [], ["1"]], "Russian")
-    must(lang_search(world, "Korean", [["1", "리눅스 Linux Москва 東京"]], ["리눅스", "linux", "Москва", "東京"]) == [["1"], ["1"], [], []], "Korean")
-    must(lang_search(world, "German", [["1", "Grüße aus Москва"]], ["grüße", "Москва"]) == [["1"], []], "German")
+def table_row(language):
+    """What README's table says of a language: the script, what is found and what isn't."""
+    def case(world):
+        with open(os.path.join(TOP, "README.md"), encoding="utf-8") as file:
+            rows = [[cell.strip() for cell in line.split("|")[2:5]] for line in file if line.startswith(f"| {language} |")]
+        must(len(rows) == 1, rows)
+        script, finds, leaves = rows[0]
+        name = script.split("`")[1]
+        must(name == own_script(language), name)
+        parts = finds.split(", ")
+        expected = LETTERS[parts[0]] | ({"numbers"} if "numbers" in parts else set())
+        world.index("told", {"fields": ["body"], "docs": [["1", " ".join(SAMPLES.values())]], "lang": language})
+        answers = world.call([name], "search", "told.json", list(SAMPLES.values()), {})
+        found = {kind for kind, refs in zip(SAMPLES, answers) if refs}
+        must(found == expected, sorted(found))
+        must(("numbers" in leaves) == ("numbers" not in found) and ("in other letters" in leaves) == (len(expected - {"numbers"}) < 5), leaves)
+        stems = lang_search(world, language, [["1", "Searching"]], ["Searches", "Searching"])
+        must(("by its stem" in finds) == bool(stems[0]) and ("other forms" in leaves) != ("by its stem" in finds), stems)
+    return f"README: the table's row of {language}", case
 
 
 def turkish(world):
@@ -297,19 +310,36 @@ def one_field(world):
     must(answers == [["2"]], answers)
 
 
+def demo(world):
+    """`make demo` serves three sites with what is in examples/, and each finds its pages."""
+    with socket.socket() as chosen:
+        chosen.bind(("127.0.0.1", 0))
+        port = chosen.getsockname()[1]
+    server = subprocess.Popen([sys.executable, os.path.join(TOP, "bench/browser_demo.py"), str(port)], stdout=subprocess.PIPE, stderr=subprocess.DEVNULL)
+    try:
+        must(server.stdout.readline().decode().startswith(f"http://127.0.0.1:{port}/ "), "not served")
+        for site_name, text, title in [("english", "installing", "Installing the search box"), ("german", "öffnet", "Die Suche einrichten"), ("korean", "강가를", "강변 산책")]:
+            page = browser_page.Page(world, f"{site_name}/search.html", url=f"http://127.0.0.1:{port}/")
+            page.type(text)
+            must(page.titles() and page.titles()[0] == title, [site_name, page.titles()])
+            page.press(page.keys.ENTER)
+            page.until(lambda: page.driver.title == title)
+    finally:
+        server.terminate()
+        server.wait(SECONDS)
+
+
 def readme():
-    return [
-        ("numbers: dropped in German and French, found in English and Arabic", numbers_dropped),
-        ("words in other scripts: dropped", other_scripts),
-        ("Turkish: İ and I", turkish),
-        ("German: ẞ stays as it is", large_sharp_s),
-        ("forms of a word are not joined but in English", forms),
-        ("references named as properties of every object break a search", bad_references),
-        ("characters above U+FFFF are found with the script alone", astral),
-        ("all words have to stand in one field", one_field),
+    return [table_row(language) for language in PAGES] + [
+        ("README: İ and I in Turkish", turkish),
+        ("README: ẞ in German", large_sharp_s),
+        ("README: forms of a word are not joined but in English", forms),
+        ("README: references named as properties of every object break a search", bad_references),
+        ("README: characters above U+FFFF are found with the script alone", astral),
+        ("README: with AND all words have to stand in one field", one_field),
     ]
 
 
 def groups():
     return [([], scripts()), (["node", "elasticlunr.min.js"], nodes()), (BROWSER, languages() + readme()),
-            (BROWSER, books()), (BROWSER, browser_page.cases()), (BROWSER, every_character())]
+            (BROWSER, books()), (BROWSER, browser_page.cases() + [("demo: three sites", demo)]), (BROWSER, every_character())]

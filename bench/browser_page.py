@@ -37,12 +37,12 @@ def site(world, name, docs, lang="English", index=None, leave_out=(), body=None,
 class Page:
     """The page, opened and with its index loaded."""
 
-    def __init__(self, world, page, ready=True):
+    def __init__(self, world, page, ready=True, url=None):
         from selenium.webdriver.common.by import By
         from selenium.webdriver.common.keys import Keys
         self.keys = Keys
         self.by = By
-        self.driver = world.open(page)
+        self.driver = world.open(page, url)
         self.until(lambda: self.status() != "Loading the index …")
         if ready:
             must(self.query().is_enabled(), self.status())
@@ -57,7 +57,8 @@ class Page:
         return self.driver.find_elements(self.by.CSS_SELECTOR, what)
 
     def status(self):
-        return self.all("#status")[0].text
+        found = self.all("#status")
+        return found[0].text if found else "another page"
 
     def query(self):
         return self.all("#query")[0]
@@ -112,7 +113,7 @@ def marks(world):
     must(page.titles() == ["Trains & Timetables"], page.titles())
     must(page.marks("#results a") == ["Trains"] and page.marks("p.excerpt") == ["train"], page.marks())
     page.type("lamp quay")
-    must(page.marks("p.excerpt") == ["Lamps", "quay;"], page.marks())
+    must(page.marks("p.excerpt") == ["Lamps", "quay"], page.marks())
 
 
 def excerpts(world):

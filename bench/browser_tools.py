@@ -139,7 +139,7 @@ class World:
             raise RuntimeError(answer["thrown"])
         return answer["told"]
 
-    def open(self, page):
+    def open(self, page, url=None):
         self.at = None
-        self.browser().get(self.url + page)
+        self.browser().get((url or self.url) + page)
         return self.driver

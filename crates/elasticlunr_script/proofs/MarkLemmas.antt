@@ -24,7 +24,7 @@ not_same true false n = refl
 not_same false true n = refl
 not_same false false n = absurd (n refl)
 
-none_yet : (has : ℕ → Bool) → AreMarks has 0 false []
+pub none_yet : (has : ℕ → Bool) → AreMarks has 0 false []
 none_yet has = record {
   all = λ c h. refl;
   so_far = λ c h. absurd (omega (arith, h));

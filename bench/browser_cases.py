@@ -12,6 +12,7 @@ from browser_tools import SCRIPT, SECONDS, TOP, program
 
 BROWSER = ["chromium", "chromedriver", "selenium", "elasticlunr.min.js"]
 ALL = "elasticlunr-languages.js"
+AROUND = {"Russian": "ж{}я", "Korean": "한{}글", "Arabic": "ب{}ت"}
 BLOCK = 0x100
 PART = 0x8000
 LAST = 0x110000
@@ -159,7 +160,7 @@ def characters(language, alone):
             for block in range(first, min(first + PART, LAST), BLOCK):
                 codes = [chr(code) for code in range(block, block + BLOCK) if not 0xD800 <= code < 0xE000]
                 if codes:
-                    docs.append([f"{block:X}", " ".join(codes if alone else [f"x{c}z" for c in codes])])
+                    docs.append([f"{block:X}", " ".join(codes if alone else map(AROUND.get(language, "x{}z").format, codes))])
             if docs:
                 world.index("characters", {"fields": ["text"], "docs": docs, "lang": language, "save": False})
                 told = world.call([ALL], "compare", "characters.job.json", "characters.json")

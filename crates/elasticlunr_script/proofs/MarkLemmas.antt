@@ -24,12 +24,15 @@ not_same true false n = refl
 not_same false true n = refl
 not_same false false n = absurd (n refl)
 
-pub none_yet : (has : ℕ → Bool) → AreMarks has 0 false []
-none_yet has = record {
+none_at_all : (has : ℕ → Bool) → AreMarks has 0 false []
+none_at_all has = record {
   all = λ c h. refl;
   so_far = λ c h. absurd (omega (arith, h));
   state = refl;
 }
+
+pub none_yet : (has : ℕ → Bool) (marks : List ℕ) → marks ≡ [] → AreMarks has 0 false marks
+none_yet has marks e = subst (AreMarks has 0 false) (sym e) (none_at_all has)
 
 -- a mark behind the character is not counted, another one is
 count-later : (c code : ℕ) (marks : List ℕ) → c < code → count_by (λ mark. nat_le mark c) (marks ++ code ∷ []) ≡ count_by (λ mark. nat_le mark c) marks

@@ -23,11 +23,19 @@ texts ss = array (items_of (map string ss))
 abbrev pub numbers : List ℕ → Data
 numbers ns = array (items_of (map (λ n. number (unsigned n)) ns))
 
+-- the object of a filter's name and its words
+abbrev pub filter_data : Bytes → Data → Data
+filter_data name words = object (member (codes "name") (string name) (member (codes "words") words no_members))
+
+-- the object of the Arabic stemmer's name, the marks of what it drops, and what it changes
+abbrev pub arabic_data : Bytes → Data → Data → Data
+arabic_data name drops changes = object (member (codes "changes") changes (member (codes "drops") drops (member (codes "name") (string name) no_members)))
+
 -- the name of a filter, and its words
 pub record IsFilter (filter : StopWordFilter) (d : Data) : Type 0 where
   pub words : List (String Global)
   pub listed : (token : Text) → has_word filter token ≡ is_listed token (texts_of words)
-  pub value : d ≡ object (member (codes "name") (string (filter_name filter)) (member (codes "words") (texts (bytes_of words)) no_members))
+  pub value : d ≡ filter_data (filter_name filter) (texts (bytes_of words))
 
 -- the marks of a trimmer's class, and its name
 pub record IsTrimmer (trimmer : RegexTrimmer) (d : Data) : Type 0 where
@@ -41,7 +49,7 @@ pub record IsArabic (d : Data) : Type 0 where
   pub pairs : List (String Global)
   pub are_marks : Marks is_diacritic marks
   pub are_pairs : Pairs arabic_change (texts_of pairs)
-  pub value : d ≡ object (member (codes "changes") (texts (bytes_of pairs)) (member (codes "drops") (numbers marks) (member (codes "name") (string (codes "stemmer-ar")) no_members)))
+  pub value : d ≡ arabic_data (codes "stemmer-ar") (numbers marks) (texts (bytes_of pairs))
 
 -- what a script holds of a stage: nothing of those of English, which elasticlunr.js has, and of a user's own
 abbrev pub IsStage : {f x p calls : _} → Stage f x p calls → Option Data → Type 0

@@ -1,5 +1,5 @@
 //! Changes of characters, as a script holds them.
-ghost use Rattle.std.specs.Prelude.{◌≡◌, ◌∷◌, [], ℕ, IfOk, IfSome, IsNone};
+ghost use Rattle.std.specs.Prelude.{◌≡◌, ◌∷◌, [], ◌++◌, ℕ, IfOk, OnOk, IfSome, IsNone, option_to_list};
 ghost use Rattle.std.specs.Char.{InScalarRange};
 ghost use Rattle.elasticlunr_text.specs.Text.{Text, text_of, texts_of};
 ghost use Rattle.elasticlunr_script.specs.Pairs.{Pairs, StandsFor};
@@ -94,15 +94,24 @@ fn pair_of<M: CharChange>(
     Ok(Some(pair))
 }
 
+/// Appends what was found, if anything was.
+pub fn push_some<T: Drop>(list: &mut Vec<T>, found: Option<T>) -> Result<(), AllocError>
+    ensures { OnOk result (list.new.items ≡ list.old.items ++ option_to_list found) }
+{
+    if let Some(item) = found {
+        list.push(item)?;
+    }
+    Ok(())
+}
+
 /// The pairs of a change, in the order of the characters.
 pub fn pairs_of<M: CharChange>(alloc: Global, change: &M) -> Result<Vec<String>, AllocError>
     ensures { IfOk result (λ pairs. Pairs (M.changed change.now) (texts_of pairs.items)) }
 {
     let mut pairs = Vec::new(alloc);
     for code in 0..0x110000u32 {
-        if let Some(pair) = pair_of(alloc, change, code)? {
-            pairs.push(pair)?;
-        }
+        let found = pair_of(alloc, change, code)?;
+        push_some(&mut pairs, found)?;
     }
     Ok(pairs)
 }

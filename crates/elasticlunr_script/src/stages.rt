@@ -4,10 +4,10 @@ ghost use Rattle.serde_json.specs.View.{view};
 ghost use Rattle.elasticlunr_text.specs.Text.{Text, texts_of, bytes_of, is_listed};
 ghost use Rattle.elasticlunr_text.specs.StopWords.{has_word};
 ghost use Rattle.elasticlunr_script.specs.Stages as spec;
-ghost use Rattle.elasticlunr_script.specs.Stages.{IsFilter, IsTrimmer, IsArabic, IsStage, AreStages};
+ghost use Rattle.elasticlunr_script.specs.Stages.{IsFilter, IsTrimmer, IsArabic, IsStage, AreStages, filter_data, arabic_data};
 
 use crate::classes::{CharClass, TrimmerClass, marks_of};
-use crate::pairs::{ArabicChange, alone, pairs_of};
+use crate::pairs::{ArabicChange, alone, pairs_of, push_some};
 use elasticlunr_lang::{AnyLanguage, Language};
 use elasticlunr_text::lang::ar;
 use elasticlunr_text::lang::common::{RegexTrimmer, StopWordFilter};
@@ -49,6 +49,13 @@ pub fn numbers(alloc: Global, marks: &[u32]) -> Result<Value, AllocError>
     Ok(Value::Array(items))
 }
 
+/// What a script holds of a filter.
+fn filter_value(alloc: Global, name: &str, words: &Value) -> Result<Value, AllocError>
+    ensures { IfOk result (λ value. view value ≡ filter_data name.now (view words.now)) }
+{
+    json!(in alloc; {"name": name, "words": words})
+}
+
 /// A filter of stop words: its name and its words.
 fn stop_words(alloc: Global, filter: &StopWordFilter) -> Result<Value, AllocError>
     ensures { IfOk result (λ value. IsFilter filter.now (view value)) }
@@ -56,7 +63,8 @@ fn stop_words(alloc: Global, filter: &StopWordFilter) -> Result<Value, AllocErro
     let listed = words_of(alloc, filter)?;
     let words = texts(alloc, &listed)?;
     let name = filter.name(alloc)?;
-    json!(in alloc; {"name": name.as_str(), "words": &words})
+    let value = filter_value(alloc, name.as_str(), &words)?;
+    Ok(value)
 }
 
 /// A trimmer: its name and the marks of its class.
@@ -85,6 +93,18 @@ impl CharClass for Dropped {
     }
 }
 
+/// What a script holds of the Arabic stemmer.
+fn arabic_value(
+    alloc: Global,
+    name: &str,
+    drops: &Value,
+    changes: &Value,
+) -> Result<Value, AllocError>
+    ensures { IfOk result (λ value. view value ≡ arabic_data name.now (view drops.now) (view changes.now)) }
+{
+    json!(in alloc; {"name": name, "drops": drops, "changes": changes})
+}
+
 /// The Arabic stemmer: its name, the marks of what it drops, and what it changes.
 fn arabic(alloc: Global) -> Result<Value, AllocError>
     ensures { IfOk result (λ value. IsArabic (view value)) }
@@ -94,7 +114,8 @@ fn arabic(alloc: Global) -> Result<Value, AllocError>
     let pairs = pairs_of(alloc, &ArabicChange {})?;
     let changes = texts(alloc, &pairs)?;
     let name = ar::Stemmer::new().name(alloc)?;
-    json!(in alloc; {"name": name.as_str(), "drops": &drops, "changes": &changes})
+    let value = arabic_value(alloc, name.as_str(), &drops, &changes)?;
+    Ok(value)
 }
 
 /// A stage, if it isn't one of the browser script's own.
@@ -119,9 +140,8 @@ pub fn stages_of(alloc: Global, pipeline: &Pipeline) -> Result<Vec<Value>, Alloc
 {
     let mut values = Vec::new(alloc);
     for stage in &pipeline.queue {
-        if let Some(value) = stage_of(alloc, stage)? {
-            values.push(value)?;
-        }
+        let found = stage_of(alloc, stage)?;
+        push_some(&mut values, found)?;
     }
     Ok(values)
 }

@@ -1,9 +1,9 @@
-use Rattle.std.proofs.Common.{arith}
+use Rattle.std.proofs.Common.{arith, rules}
 use Rattle.elasticlunr_script.proofs.MarkLemmas.{none_yet, step, at_end}
 use Rattle.elasticlunr_script.proofs.classes.marks_of.Goals as goal
 
 pub loop-code-init : goal.loop-code-init
-loop-code-init g c = none_yet _
+loop-code-init g c = none_yet _ c.new-marks.result.items (search rules)
 
 pub loop-code-preserved : goal.loop-code-preserved
 loop-code-preserved g c =

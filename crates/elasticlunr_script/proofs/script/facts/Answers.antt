@@ -1,0 +1,16 @@
+use Rattle.std.proofs.Common.{◌∙◌, ap, rules}
+use Rattle.elasticlunr_text.specs.Text.{bytes_of}
+use Rattle.elasticlunr_script.specs.Stages.{texts, numbers}
+use Rattle.elasticlunr_script.specs.Facts.{facts_data}
+use Rattle.elasticlunr_script.proofs.script.facts.Goals as goal
+
+pub returns : goal.returns
+returns c = record {
+  marks = c.in_ok-marks.marks.items;
+  pairs = c.in_ok-pairs.pairs.items;
+  are_marks = c.in_ok-marks.ensures;
+  are_pairs = c.in_ok-pairs.ensures;
+  value = c.in_ok-value.ensures
+      ∙ ap (λ d. facts_data d _ _) (c.in_ok-between.ensures ∙ ap numbers c.deref.ensures.value)
+      ∙ ap (λ d. facts_data _ d _) (c.in_ok-lower.ensures ∙ ap (λ ss. texts (bytes_of ss)) c.deref-2.ensures.value);
+}

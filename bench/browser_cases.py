@@ -198,7 +198,7 @@ def book_job(**more):
     return {"fields": ["title", "body"], "docs": [list(section) for section in browser_book.book()], **more}
 
 
-def titles(bool_word):
+def titles(bool_word, least, most):
     def case(world):
         world.index("book", book_job())
         sections = browser_book.book()
@@ -207,6 +207,7 @@ def titles(bool_word):
         first = [title for title, refs in zip(asked, answers) if not refs or sections[int(refs[0])][1] != title]
         must(not first, first)
         hits = sum(map(len, answers)) / len(answers)
+        must(least <= hits <= most, hits)
         return f"{len(asked)} titles, {hits:.0f} sections found for each"
     return f"book: each title finds its section first, {bool_word}", case
 
@@ -234,7 +235,7 @@ def order(world):
 
 
 def books():
-    return [titles("OR"), titles("AND"), ("book: numbers as references halve the index", sizes),
+    return [titles("OR", 90, 110), titles("AND", 2, 4), ("book: numbers as references halve the index", sizes),
             ("book: scores of roots and of millionths have one order", order)]
 
 

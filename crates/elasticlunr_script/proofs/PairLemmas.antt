@@ -48,7 +48,7 @@ without_pair changed n pairs are same = record {
 
 pub one_more : (changed : ℕ → Text) (n : ℕ) (old new : List (String Global)) (found : Option (String Global)) → ArePairs changed n (texts_of old) → IfSome found (λ pair. InScalarRange n × (text_of pair ≡ n ∷ changed n)) → (IsNone found → InScalarRange n → changed n ≡ n ∷ []) → new ≡ old ++ option_to_list found → ArePairs changed (n + 1) (texts_of new)
 one_more changed n old new (Some pair) are some none is = with_pair changed n old new pair are some.0 some.1 is
-one_more changed n old new None are some none is = subst (λ ps. ArePairs changed (n + 1) (texts_of ps)) (sym (is ∙ append-nil old)) (without_pair changed n (texts_of old) are (none tt))
+one_more changed n old new None are some none is = subst (λ ps. ArePairs changed (n + 1) (texts_of ps)) (sym (is ∙ append-nil old)) (without_pair changed n (texts_of old) are (none refl))
 
 -- all characters have numbers below this
 pub all_pairs : (changed : ℕ → Text) (n : ℕ) (pairs : List Text) → ArePairs changed n pairs → 0x110000 ≤ n → Pairs changed pairs

@@ -52,12 +52,12 @@ fn facts_value(
 fn facts(alloc: Global, stages: Vec<Value>) -> Result<Value, AllocError>
     ensures { IfOk result (λ value. IsFacts (map view stages.items) (view value)) }
 {
-    let stages = Value::Array(stages);
+    let listed = Value::Array(stages);
     let marks = marks_of(alloc, &Separators {})?;
     let between = numbers(alloc, &marks)?;
     let pairs = pairs_of(alloc, &LowerCase {})?;
     let lower = texts(alloc, &pairs)?;
-    let value = facts_value(alloc, &between, &lower, &stages)?;
+    let value = facts_value(alloc, &between, &lower, &listed)?;
     Ok(value)
 }
 

@@ -1,6 +1,6 @@
 -- Words and stages, as loops put them together.
-use Rattle.std.proofs.Common.{◌≡◌, ◌<◌, ◌≤◌, ◌+◌, ℕ, length, take, get_or, subst, option_map, List, [], ◌∷◌, ◌++◌, Bor, String, string_bytes, bytes_eq, map, Option, Some, None, option_to_list, refl, sym, ap, ◌∙◌}
-use Rattle.std.specs.List.{list_any, AllZip, filter_map}
+use Rattle.std.proofs.Common.{◌≡◌, ◌<◌, ◌≤◌, ◌+◌, ℕ, length, take, get_or, subst, option_map, List, [], ◌∷◌, ◌++◌, String, string_bytes, bytes_eq, map, Option, Some, None, option_to_list, refl, sym, ap, ◌∙◌}
+use Rattle.std.specs.List.{AllZip, filter_map}
 use Rattle.std.specs.List.Sorted.{IsPermutation}
 use Rattle.std.specs.Str.{chars}
 use Rattle.std.specs.declared.alloc.Global.{Global}

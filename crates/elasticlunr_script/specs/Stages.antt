@@ -1,5 +1,5 @@
 -- Stages as a script holds them: as JSON values.
-use Rattle.std.specs.Prelude.{◌≡◌, ℕ, List, [], ◌∷◌, map, codes, string_bytes, Option, None, IsSomeAnd}
+use Rattle.std.specs.Prelude.{◌≡◌, ℕ, List, map, codes, string_bytes, Option, None, IsSomeAnd}
 use Rattle.std.specs.List.{filter_map, AllZip}
 use Rattle.std.specs.declared.string.String.{String}
 use Rattle.std.specs.declared.alloc.Global.{Global}

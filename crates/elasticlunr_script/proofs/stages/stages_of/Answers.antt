@@ -1,5 +1,5 @@
 use Rattle.std.proofs.Common.{rules}
-use Rattle.elasticlunr_script.proofs.StageLemmas.{one_stage, all_stages}
+use Rattle.elasticlunr_script.proofs.StageLemmas.{one_stage}
 use Rattle.elasticlunr_script.proofs.stages.stages_of.Goals as goal
 
 pub loop-stage-preserved : goal.loop-stage-preserved

@@ -1,9 +1,10 @@
-# The two commands: `make run` proves, builds and runs the program, `make test` passes the tests. A third, `make compare`,
-# compares the program with the original crate.
+# The two commands: `make run` proves, builds and runs the program, `make test` passes the tests. Beside them, `make demo`
+# shows the search page, and `make compare` compares the program with the original crate.
 PREFIX ?= /usr/local
 PROGRAM = crates/elasticlunr_index/out/elasticlunr_index
+PORT ?= 8095
 
-.PHONY: run build calls test compare install
+.PHONY: run build script calls demo test compare install
 
 # A job on standard input, or an example where standard input is a terminal or empty.
 run: build
@@ -12,12 +13,21 @@ run: build
 build:
 	@python3 bench/build.py elasticlunr_index
 
-# The program that runs the tables of vectors and makes one call of the library alone.
+# The program that prints the script for browsers.
+script:
+	@python3 bench/build.py elasticlunr_script
+
+# The programs that run the tables of vectors and make calls of the library alone.
 calls:
 	@python3 bench/build.py elasticlunr_vectors
+	@python3 bench/build.py elasticlunr_calls
+
+# The search page over the indexes of examples/ in three languages, on http://127.0.0.1:$(PORT)/.
+demo: build
+	@python3 bench/browser_demo.py $(PORT)
 
 # `rt ci` (proves every crate from nothing, tries the wrong bodies, runs the tests and the programs), then the checks of
-# bench/ on the built program.
+# bench/ on the built programs.
 test:
 	@bench/test.sh
 

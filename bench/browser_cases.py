@@ -1,0 +1,347 @@
+"""The cases: each has a name, and answers what there is to tell or raises why it fails."""
+import json
+import os
+import socket
+import subprocess
+import sys
+
+import browser_book
+import browser_page
+from browser_pages import PAGES
+from browser_tools import SCRIPT, SECONDS, TOP, program
+
+BROWSER = ["chromium", "chromedriver", "selenium", "elasticlunr.min.js"]
+ALL = "elasticlunr-languages.js"
+AROUND = {"Russian": "ж{}я", "Korean": "한{}글", "Arabic": "ب{}ت"}
+BLOCK = 0x100
+PART = 0x8000
+LAST = 0x110000
+
+
+def own_script(language):
+    return f"elasticlunr-{language.lower()}.js"
+
+
+def must(holds, told):
+    assert holds, told if isinstance(told, str) else json.dumps(told, ensure_ascii=False)
+
+
+def refuses(call, part):
+    """The call throws, and what it throws says this."""
+    try:
+        call()
+    except RuntimeError as error:
+        must(part in str(error), str(error))
+        return
+    raise AssertionError("nothing was thrown")
+
+
+# The committed scripts, and the program.
+
+def committed(name, given):
+    def case(_world):
+        with open(os.path.join(TOP, "browser", name), encoding="utf-8") as file:
+            must(program(SCRIPT, given) == (file.read(), 0), f"browser/{name} is not what elasticlunr_script prints")
+    return f"{name} is what the program prints", case
+
+
+def refused_name(_world):
+    for given in ["Klingon\n", "german\n", "German\n\n", "German English\n"]:
+        must(program(SCRIPT, given) == ("refused: unknown language\n", 2), given)
+
+
+def several(_world):
+    text, status = program(SCRIPT, "German\nKorean")
+    held = [name in text for name in ["trimmer-de", "stopWordFilter-de", "trimmer-ko", "stopWordFilter-ko", "stemmer-ko", "trimmer-fr"]]
+    must(status == 0 and held == [True] * 5 + [False], held)
+
+
+def scripts():
+    made = [committed(ALL, "")] + [committed(own_script(language), language + "\n") for language in PAGES]
+    return made + [("a name that is no language is refused", refused_name), ("a script for two languages", several)]
+
+
+# In node.
+
+def in_node(world, lines):
+    program_text = "\n".join(["const elasticlunr = require('./elasticlunr.min.js');", *lines])
+    ended = subprocess.run(["node", "-e", program_text], cwd=world.folder, stdout=subprocess.PIPE, stderr=subprocess.PIPE, timeout=SECONDS)
+    must(ended.returncode == 0, ended.stderr.decode())
+    return ended.stdout.decode().strip()
+
+
+def node(names):
+    def case(world):
+        site(world, "German")
+        extend = [f"require('./{name}')(elasticlunr);" for name in names]
+        ask = "console.log(elasticlunr.Index.load(require('./German.json')).search('Straße').map((hit) => hit.ref).join())"
+        must(in_node(world, extend + [ask]) == "street", "another answer")
+        must("Overwriting" not in in_node(world, extend), "a stage was registered over another")
+    return f"node: {' and then '.join(names)} by require", case
+
+
+def nodes():
+    return [node([ALL]), node([own_script("German")]), node([ALL, ALL]), node([own_script("Korean"), own_script("German")])]
+
+
+# The sites of sentences.
+
+def job_of(language, pages=None):
+    return {"fields": ["title", "body"], "docs": [list(page) for page in pages or PAGES[language]], "lang": language}
+
+
+def words_of(language):
+    """Each page's words as they stand, between spaces."""
+    return [[ref, word] for ref, *texts in PAGES[language] for text in texts for word in text.split()]
+
+
+def site(world, language):
+    if not os.path.exists(os.path.join(world.folder, language + ".json")):
+        world.index(language, job_of(language))
+        alone = sorted({word for _, word in words_of(language)})
+        world.index(language + "-alone", {"fields": ["word"], "docs": [[word, word] for word in alone], "lang": language})
+
+
+def unloaded(language):
+    def case(world):
+        site(world, language)
+        refuses(lambda: world.call([], "search", language + ".json", [], {}), "Cannot load un-registered function")
+    return f"{language}: elasticlunr.js alone refuses the index", case
+
+
+def same_tokens(world, scripts, name):
+    told = world.call(scripts, "compare", name + ".job.json", name + ".json")
+    must(told["fields"] and told["postings"] and not told["differ"], told)
+    return f"{told['postings']} postings of {told['fields']} texts"
+
+
+def tokens(language, names):
+    def case(world):
+        site(world, language)
+        return same_tokens(world, names, language)
+    return f"{language}: the tokens of {' and '.join(names)} are the postings", case
+
+
+def words(language):
+    def case(world):
+        site(world, language)
+        told = world.call([ALL], "ask", language + ".json", language + "-alone.json", words_of(language))
+        must(told["found"] > 40 and not told["differ"], told)
+        return f"{told['found']} found, {told['dropped']} that the index leaves out"
+    return f"{language}: each word as it stands finds its page", case
+
+
+def beginnings(language):
+    def case(world):
+        site(world, language)
+        told = world.call([ALL], "beginnings", language + ".json")
+        must(told["found"] > 40 and not told["differ"], told)
+        return f"{told['found']} found"
+    return f"{language}: the beginning of a word finds its page with expand", case
+
+
+def languages():
+    made = []
+    for language in PAGES:
+        if language != "English":
+            made.append(unloaded(language))
+        made += [tokens(language, [ALL]), tokens(language, [own_script(language)]), tokens(language, [ALL, own_script(language), ALL])]
+        made += [words(language), beginnings(language)]
+    return made
+
+
+# Every character.
+
+def characters(language, alone):
+    def case(world):
+        postings = 0
+        for first in range(0, LAST, PART):
+            docs = []
+            for block in range(first, min(first + PART, LAST), BLOCK):
+                codes = [chr(code) for code in range(block, block + BLOCK) if not 0xD800 <= code < 0xE000]
+                if codes:
+                    docs.append([f"{block:X}", " ".join(codes if alone else map(AROUND.get(language, "x{}z").format, codes))])
+            if docs:
+                world.index("characters", {"fields": ["text"], "docs": docs, "lang": language, "save": False})
+                told = world.call([ALL], "compare", "characters.job.json", "characters.json")
+                must(not told["differ"], told["differ"])
+                postings += told["postings"]
+        must(alone or postings > 1111000, f"only {postings} postings")
+        return f"{postings} postings"
+    return f"{language}: every character {'alone' if alone else 'inside a word'}", case
+
+
+def is_known(code):
+    """Why elasticlunr.js's own tokenizer may make other words of a character than the library: it lowers each capital that
+    Unicode has, and takes U+FEFF and not U+0085 for white space."""
+    return code in (0x85, 0xFEFF) or chr(code).lower() != chr(code)
+
+
+def own_tokenizer(world):
+    """Without a script, English differs at these characters alone."""
+    told = world.call([own_script("English")], "otherwise", 0, LAST)
+    must(told and 0x85 in told and 0xFEFF in told and 0x3A9 in told, told)
+    must(len(told) < 2000, len(told))
+    strange = [f"{code:X}" for code in told if not is_known(code)]
+    must(len(strange) < 60, strange)  # capitals that are newer than this Python's Unicode
+    return f"{len(told)} characters"
+
+
+def every_character():
+    made = [characters(language, alone) for language in ["English", "German", "Russian", "Korean", "Arabic"] for alone in [True, False]]
+    return made + [("README: English without its script differs at capitals, U+0085 and U+FEFF alone", own_tokenizer)]
+
+
+# A book.
+
+def book_job(**more):
+    return {"fields": ["title", "body"], "docs": [list(section) for section in browser_book.book()], **more}
+
+
+def titles(bool_word, least, most):
+    def case(world):
+        world.index("book", book_job())
+        sections = browser_book.book()
+        asked = [title for _, title, _ in sections]
+        answers = world.call([own_script("English")], "search", "book.json", asked, {"expand": True, "bool": bool_word})
+        first = [title for title, refs in zip(asked, answers) if not refs or sections[int(refs[0])][1] != title]
+        must(not first, first)
+        hits = sum(map(len, answers)) / len(answers)
+        must(least <= hits <= most, hits)
+        return f"{len(asked)} titles, {hits:.0f} sections found for each"
+    return f"book: each title finds its section first, {bool_word}", case
+
+
+def sizes(world):
+    """Short numbers as references, and a list of addresses beside the index."""
+    sections = browser_book.book()
+    address = lambda number, title: f"book/part-{int(number) // 40 + 1}/{title.lower().replace(' ', '-')}.html"
+    world.index("short", book_job(save=False))
+    world.index("long", {"fields": ["title", "body"], "docs": [[address(*s[:2]), *s[1:]] for s in sections], "save": False})
+    world.write("addresses.json", json.dumps({number: address(number, title) for number, title, _ in sections}))
+    size = lambda *names: sum(os.path.getsize(os.path.join(world.folder, name)) for name in names)
+    short, long = size("short.json", "addresses.json"), size("long.json")
+    must(short * 2 < long, f"{short} and {long} bytes")
+    return f"{short} bytes in place of {long}"
+
+
+def order(world):
+    """A `tf` in millionths, rounded down, changes no order of results but between scores that are equal to six digits."""
+    world.index("book", book_job())
+    asked = [title for _, title, _ in browser_book.book()]
+    told = world.call([own_script("English")], "reorder", "book.job.json", "book.json", asked)
+    must(told["queries"] == len(asked) and told["same"] > 0 and not told["differ"], told)
+    return f"{told['same']} neighbours in order"
+
+
+def books():
+    return [titles("OR", 90, 110), titles("AND", 2, 4), ("book: numbers as references halve the index", sizes),
+            ("book: scores of roots and of millionths have one order", order)]
+
+
+# What README says of languages and of references.
+
+def lang_search(world, language, docs, queries, **settings):
+    world.index("told", {"fields": ["body"], "docs": docs, "lang": language})
+    return world.call([ALL], "search", "told.json", queries, settings)
+
+
+SAMPLES = {"Latin": "Zebra", "Cyrillic": "Москва", "Hangul": "자전거", "Arabic": "مدينة", "Greek": "θάλασσα", "numbers": "1998"}
+LETTERS = {"in Latin letters": {"Latin"}, "in all letters": set(SAMPLES) - {"numbers"}, "in Cyrillic letters": {"Cyrillic"},
+           "in Hangul and Latin letters": {"Latin", "Hangul"}}
+
+
+def table_row(language):
+    """What README's table says of a language: the script, what is found and what isn't."""
+    def case(world):
+        with open(os.path.join(TOP, "README.md"), encoding="utf-8") as file:
+            rows = [[cell.strip() for cell in line.split("|")[2:5]] for line in file if line.startswith(f"| {language} |")]
+        must(len(rows) == 1, rows)
+        script, finds, leaves = rows[0]
+        name = script.split("`")[1]
+        must(name == own_script(language), name)
+        parts = finds.split(", ")
+        expected = LETTERS[parts[0]] | ({"numbers"} if "numbers" in parts else set())
+        world.index("told", {"fields": ["body"], "docs": [["1", " ".join(SAMPLES.values())]], "lang": language})
+        answers = world.call([name], "search", "told.json", list(SAMPLES.values()), {})
+        found = {kind for kind, refs in zip(SAMPLES, answers) if refs}
+        must(found == expected, sorted(found))
+        must(("numbers" in leaves) == ("numbers" not in found) and ("in other letters" in leaves) == (len(expected - {"numbers"}) < 5), leaves)
+        stems = lang_search(world, language, [["1", "Searching"]], ["Searches", "Searching"])
+        must(("by its stem" in finds) == bool(stems[0]) and ("other forms" in leaves) != ("by its stem" in finds), stems)
+    return f"README: the table's row of {language}", case
+
+
+def turkish(world):
+    docs = [["1", "İstanbul ve IĞDIR"]]
+    must(lang_search(world, "Turkish", docs, ["İstanbul", "istanbul", "IĞDIR", "iğdir", "ığdır"]) == [["1"], [], ["1"], ["1"], []], "dots")
+
+
+def large_sharp_s(world):
+    docs = [["1", "GROẞE Straße"]]
+    must(lang_search(world, "German", docs, ["GROẞE", "große", "STRASSE", "STRAßE"]) == [["1"], [], [], ["1"]], "sharp s")
+
+
+def forms(world):
+    docs = [["1", "Häuser am Fluss"]]
+    must(lang_search(world, "German", docs, ["Haus", "Häuser", "Häus"]) == [[], ["1"], []], "forms")
+    must(lang_search(world, "German", docs, ["Häus"], expand=True) == [["1"]], "beginning")
+    must(lang_search(world, "English", [["1", "searching and finding"]], ["search", "finds"]) == [["1"], ["1"]], "stems")
+
+
+def bad_references(world):
+    for name in ["constructor", "__proto__"]:
+        docs = [["1", "alpha beta"], [name, "beta gamma"], ["3", "alpha gamma"]]
+        try:
+            answers = lang_search(world, "English", docs, ["alpha beta", "beta", "gamma"], expand=True)
+        except RuntimeError:
+            continue
+        must(any(name not in refs for refs in answers[1:]), f"{name} is found like any other")
+
+
+def astral(world):
+    world.index("told", {"fields": ["body"], "docs": [["1", "the 𝒳𐐨𝒵 and x𝒴z word"]], "lang": "Arabic"})
+    must(world.call([ALL], "search", "told.json", ["𝒳𐐨𝒵", "x𝒴z"], {}) == [["1"], ["1"]], "with the script")
+    world.index("told", {"fields": ["body"], "docs": [["1", "the x𝒴z word"]]})
+    must(world.call([], "search", "told.json", ["x𝒴z"], {}) == [[]], "without the script")
+
+
+def one_field(world):
+    world.index("told", {"fields": ["title", "body"], "docs": [["1", "alpha", "beta"], ["2", "alpha beta", "gamma"]]})
+    answers = world.call([ALL], "search", "told.json", ["alpha beta"], {"bool": "AND"})
+    must(answers == [["2"]], answers)
+
+
+def demo(world):
+    """`make demo` serves three sites with what is in examples/, and each finds its pages."""
+    with socket.socket() as chosen:
+        chosen.bind(("127.0.0.1", 0))
+        port = chosen.getsockname()[1]
+    server = subprocess.Popen([sys.executable, os.path.join(TOP, "bench/browser_demo.py"), str(port)], stdout=subprocess.PIPE, stderr=subprocess.DEVNULL)
+    try:
+        must(server.stdout.readline().decode().startswith(f"http://127.0.0.1:{port}/ "), "not served")
+        for site_name, text, title in [("english", "installing", "Installing the search box"), ("german", "öffnet", "Die Suche einrichten"), ("korean", "강가를", "강변 산책")]:
+            page = browser_page.Page(world, f"{site_name}/search.html", url=f"http://127.0.0.1:{port}/")
+            page.type(text)
+            must(page.titles() and page.titles()[0] == title, [site_name, page.titles()])
+            page.press(page.keys.ENTER)
+            page.until(lambda: page.driver.title == title)
+    finally:
+        server.terminate()
+        server.wait(SECONDS)
+
+
+def readme():
+    return [table_row(language) for language in PAGES] + [
+        ("README: İ and I in Turkish", turkish),
+        ("README: ẞ in German", large_sharp_s),
+        ("README: forms of a word are not joined but in English", forms),
+        ("README: references named as properties of every object break a search", bad_references),
+        ("README: characters above U+FFFF are found with the script alone", astral),
+        ("README: with AND all words have to stand in one field", one_field),
+    ]
+
+
+def groups():
+    return [([], scripts()), (["node", "elasticlunr.min.js"], nodes()), (BROWSER, languages() + readme()),
+            (BROWSER, books()), (BROWSER, browser_page.cases() + [("demo: three sites", demo)]), (BROWSER, every_character())]

@@ -1,0 +1,145 @@
+"""What the cases in the browser run on: the programs, a server on this machine alone, and Chromium."""
+import functools
+import http.server
+import json
+import os
+import shutil
+import subprocess
+import sys
+import threading
+
+TOP = os.path.dirname(os.path.dirname(os.path.abspath(__file__)))
+INDEX = os.path.join(TOP, "crates/elasticlunr_index/out/elasticlunr_index")
+SCRIPT = os.path.join(TOP, "crates/elasticlunr_script/out/elasticlunr_script")
+FETCHED = os.path.join(TOP, "browser/out")
+ELASTICLUNR = os.path.join(FETCHED, "elasticlunr.min.js")
+PACKAGES = {"chromium": "chromium", "chromedriver": "chromium-driver", "node": "nodejs"}
+SYSTEM_PYTHON = "/usr/bin/python3"
+SECONDS = 120
+
+
+def has_selenium(python):
+    if not os.path.exists(python):
+        return False
+    return subprocess.run([python, "-c", "import selenium"], stderr=subprocess.DEVNULL, timeout=SECONDS).returncode == 0
+
+
+def install(packages):
+    """Installs Debian's packages where apt is there and may."""
+    if not packages or not shutil.which("apt-get") or os.geteuid() != 0:
+        return
+    quiet = {"stdout": subprocess.DEVNULL, "stderr": subprocess.DEVNULL, "env": dict(os.environ, DEBIAN_FRONTEND="noninteractive")}
+    try:
+        subprocess.run(["apt-get", "--quiet", "update"], timeout=SECONDS, **quiet)
+        subprocess.run(["apt-get", "--quiet", "--yes", "--no-install-recommends", "install", *packages], timeout=3 * SECONDS, **quiet)
+    except subprocess.TimeoutExpired:
+        pass
+
+
+def prepare():
+    """Installs and fetches what is missing, and names what is missing still. Debian's selenium is for its own Python: where
+    this one has none, the script goes on in that one."""
+    missing = [package for tool, package in PACKAGES.items() if not shutil.which(tool)]
+    if not has_selenium(sys.executable) and not has_selenium(SYSTEM_PYTHON):
+        missing.append("python3-selenium")
+    install(missing)
+    if not has_selenium(sys.executable) and has_selenium(SYSTEM_PYTHON):
+        os.execv(SYSTEM_PYTHON, [SYSTEM_PYTHON, *sys.argv])
+    lacking = {tool for tool in PACKAGES if not shutil.which(tool)}
+    if not has_selenium(sys.executable):
+        lacking.add("selenium")
+    try:
+        subprocess.run([os.path.join(TOP, "bench/fetch_elasticlunr.sh"), FETCHED], stdout=subprocess.DEVNULL, timeout=SECONDS, check=True)
+    except (subprocess.SubprocessError, OSError):
+        lacking.add("elasticlunr.min.js")
+    return lacking
+
+
+def program(path, given):
+    """What a program prints for an input, and its status."""
+    ended = subprocess.run([path], input=given.encode(), stdout=subprocess.PIPE, timeout=SECONDS)
+    return ended.stdout.decode(), ended.returncode
+
+
+def index_of(job):
+    text, status = program(INDEX, json.dumps(job, ensure_ascii=False))
+    assert status == 0, text[:200]
+    return text
+
+
+class Quiet(http.server.SimpleHTTPRequestHandler):
+    def log_message(self, *_):
+        pass
+
+    def end_headers(self):
+        self.send_header("Cache-Control", "no-store")
+        super().end_headers()
+
+
+class World:
+    """A folder, served on this machine alone, and a browser that looks at it."""
+
+    def __init__(self, folder, lacking):
+        self.folder = folder
+        self.driver = None
+        self.at = None
+        if not lacking & {"elasticlunr.min.js"}:
+            shutil.copy(ELASTICLUNR, folder)
+        for name in os.listdir(os.path.join(TOP, "browser")):
+            if name.endswith((".js", ".html")):
+                shutil.copy(os.path.join(TOP, "browser", name), folder)
+        shutil.copy(os.path.join(TOP, "bench/browser_compare.html"), folder)
+        handler = functools.partial(Quiet, directory=folder)
+        self.server = http.server.ThreadingHTTPServer(("127.0.0.1", 0), handler)
+        self.url = f"http://127.0.0.1:{self.server.server_address[1]}/"
+        threading.Thread(target=self.server.serve_forever, daemon=True).start()
+
+    def __enter__(self):
+        return self
+
+    def __exit__(self, *_):
+        if self.driver:
+            self.driver.quit()
+        self.server.shutdown()
+
+    def write(self, name, text):
+        path = os.path.join(self.folder, name)
+        os.makedirs(os.path.dirname(path), exist_ok=True)
+        with open(path, "w", encoding="utf-8") as file:
+            file.write(text)
+        return name
+
+    def index(self, name, job):
+        """Writes a job and the index that the program prints of it."""
+        self.write(name + ".job.json", json.dumps(job, ensure_ascii=False))
+        self.write(name + ".json", index_of(job))
+
+    def browser(self):
+        if not self.driver:
+            from selenium import webdriver
+            from selenium.webdriver.chrome.service import Service
+            options = webdriver.ChromeOptions()
+            options.binary_location = shutil.which("chromium")
+            for word in ["--headless=new", "--disable-dev-shm-usage", "--disable-gpu", "--window-size=1000,800"] + ["--no-sandbox"] * (os.geteuid() == 0):
+                options.add_argument(word)
+            self.driver = webdriver.Chrome(options=options, service=Service(shutil.which("chromedriver")))
+            self.driver.set_page_load_timeout(SECONDS)
+            self.driver.set_script_timeout(SECONDS)
+        return self.driver
+
+    def call(self, scripts, function, *words):
+        """What a function of browser_compare.html tells, with these scripts after elasticlunr.min.js; raises what it throws."""
+        page = self.url + "browser_compare.html?" + "&".join("script=" + name for name in scripts)
+        driver = self.browser()
+        if self.at != page:
+            driver.get(page)
+            self.at = page
+        answer = driver.execute_async_script("call(arguments[0], arguments[1], arguments[2])", function, words)
+        if "thrown" in answer:
+            raise RuntimeError(answer["thrown"])
+        return answer["told"]
+
+    def open(self, page, url=None):
+        self.at = None
+        self.browser().get((url or self.url) + page)
+        return self.driver

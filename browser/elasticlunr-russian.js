@@ -1,0 +1,112 @@
+/* What a page needs so that elasticlunr.js 0.9.5 reads a query as the index was built.
+   Load it after elasticlunr.min.js, by its own script element; in node:
+
+     const elasticlunr = require('./elasticlunr.min.js');
+     require('./elasticlunr-languages.js')(elasticlunr);
+
+   Printed by the program elasticlunr_script; change nothing here. */
+(function (extend) {
+  'use strict';
+  if (typeof module === 'object' && module.exports) module.exports = extend;
+  else if (typeof elasticlunr === 'undefined') throw new Error('elasticlunr.min.js has to be loaded first');
+  else extend(elasticlunr);
+})(function (elasticlunr) {
+  'use strict';
+  var FACTS = {"between":[9,14,32,33,45,46,133,134,160,161,5760,5761,8192,8203,8232,8234,8239,8240,8287,8288,12288,12289],"lower":["Aa","Bb","Cc","Dd","Ee","Ff","Gg","Hh","Ii","Jj","Kk","Ll","Mm","Nn","Oo","Pp","Qq","Rr","Ss","Tt","Uu","Vv","Ww","Xx","Yy","Zz","Àà","Áá","Ââ","Ãã","Ää","Åå","Ææ","Çç","Èè","Éé","Êê","Ëë","Ìì","Íí","Îî","Ïï","Ðð","Ññ","Òò","Óó","Ôô","Õõ","Öö","Øø","Ùù","Úú","Ûû","Üü","Ýý","Þþ","Āā","Ăă","Ąą","Ćć","Ĉĉ","Ċċ","Čč","Ďď","Đđ","Ēē","Ĕĕ","Ėė","Ęę","Ěě","Ĝĝ","Ğğ","Ġġ","Ģģ","Ĥĥ","Ħħ","Ĩĩ","Īī","Ĭĭ","Įį","İi̇","Ĳĳ","Ĵĵ","Ķķ","Ĺĺ","Ļļ","Ľľ","Ŀŀ","Łł","Ńń","Ņņ","Ňň","Ŋŋ","Ōō","Ŏŏ","Őő","Œœ","Ŕŕ","Ŗŗ","Řř","Śś","Ŝŝ","Şş","Šš","Ţţ","Ťť","Ŧŧ","Ũũ","Ūū","Ŭŭ","Ůů","Űű","Ųų","Ŵŵ","Ŷŷ","Ÿÿ","Źź","Żż","Žž","Șș","Țț","Ѐѐ","Ёё","Ђђ","Ѓѓ","Єє","Ѕѕ","Іі","Її","Јј","Љљ","Њњ","Ћћ","Ќќ","Ѝѝ","Ўў","Џџ","Аа","Бб","Вв","Гг","Дд","Ее","Жж","Зз","Ии","Йй","Кк","Лл","Мм","Нн","Оо","Пп","Рр","Сс","Тт","Уу","Фф","Хх","Цц","Чч","Шш","Щщ","Ъъ","Ыы","Ьь","Ээ","Юю","Яя"],"stages":[{"class":[1024,1157,1159,1328,7296,7307,7467,7468,7544,7545,11744,11776,42560,42656,65070,65072,122928,122990,123023,123024],"name":"trimmer-ru"},{"name":"stopWordFilter-ru","words":["","а","алло","без","близко","более","больше","будем","будет","будете","будешь","будто","буду","будут","будь","бы","бывает","бывь","был","была","были","было","быть","в","важная","важное","важные","важный","вам","вами","вас","ваш","ваша","ваше","ваши","вверх","вдали","вдруг","ведь","везде","весь","вниз","внизу","во","вокруг","вон","восемнадцатый","восемнадцать","восемь","восьмой","вот","впрочем","времени","время","все","всегда","всего","всем","всеми","всему","всех","всею","всю","всюду","вся","всё","второй","вы","г","где","говорил","говорит","год","года","году","да","давно","даже","далеко","дальше","даром","два","двадцатый","двадцать","две","двенадцатый","двенадцать","двух","девятнадцатый","девятнадцать","девятый","девять","действительно","дел","день","десятый","десять","для","до","довольно","долго","должно","другая","другие","других","друго","другое","другой","е","его","ее","ей","ему","если","есть","еще","ещё","ею","её","ж","же","жизнь","за","занят","занята","занято","заняты","затем","зато","зачем","здесь","значит","и","из","или","им","именно","иметь","ими","имя","иногда","их","к","каждая","каждое","каждые","каждый","кажется","как","какая","какой","кем","когда","кого","ком","кому","конечно","которая","которого","которой","которые","который","которых","кроме","кругом","кто","куда","лет","ли","лишь","лучше","люди","м","мало","между","меля","менее","меньше","меня","миллионов","мимо","мира","мне","много","многочисленная","многочисленное","многочисленные","многочисленный","мной","мною","мог","могут","мож","может","можно","можхо","мои","мой","мор","мочь","моя","моё","мы","на","наверху","над","надо","назад","наиболее","наконец","нам","нами","нас","начала","наш","наша","наше","наши","не","него","недавно","недалеко","нее","ней","нельзя","нем","немного","нему","непрерывно","нередко","несколько","нет","нею","неё","ни","нибудь","ниже","низко","никогда","никуда","ними","них","ничего","но","ну","нужно","нх","о","об","оба","обычно","один","одиннадцатый","одиннадцать","однажды","однако","одного","одной","около","он","она","они","оно","опять","особенно","от","отовсюду","отсюда","очень","первый","перед","по","под","пожалуйста","позже","пока","пор","пора","после","посреди","потом","потому","почему","почти","прекрасно","при","про","просто","против","процентов","пятнадцатый","пятнадцать","пятый","пять","раз","разве","рано","раньше","рядом","с","сам","сама","сами","самим","самими","самих","само","самого","самой","самом","самому","саму","свое","своего","своей","свои","своих","свою","сеаой","себе","себя","сегодня","седьмой","сейчас","семнадцатый","семнадцать","семь","сих","сказал","сказала","сказать","сколько","слишком","сначала","снова","со","собой","собою","совсем","спасибо","стал","суть","т","та","так","такая","также","такие","такое","такой","там","твой","твоя","твоё","те","тебе","тебя","тем","теми","теперь","тех","то","тобой","тобою","тогда","того","тоже","только","том","тому","тот","тою","третий","три","тринадцатый","тринадцать","ту","туда","тут","ты","тысяч","у","уж","уже","уметь","хорошо","хотеть","хоть","хотя","хочешь","часто","чаще","чего","человек","чем","чему","через","четвертый","четыре","четырнадцатый","четырнадцать","что","чтоб","чтобы","чуть","шестнадцатый","шестнадцать","шестой","шесть","эта","эти","этим","этими","этих","это","этого","этой","этом","этому","этот","эту","я"]}]};
+
+  // A class is a list of marks: it begins at the first, ends before the second, begins again at the third.
+  function has(marks, character) {
+    var code = character.codePointAt(0), low = 0, high = marks.length;
+    while (low < high) {
+      var middle = (low + high) >> 1;
+      if (marks[middle] <= code) low = middle + 1;
+      else high = middle;
+    }
+    return low % 2 === 1;
+  }
+
+  // Each character that changes, with what stands for it.
+  function table(pairs) {
+    return new Map(pairs.map(function (pair) {
+      var characters = Array.from(pair);
+      return [characters[0], characters.slice(1).join('')];
+    }));
+  }
+
+  // The words of a text, in lower case.
+  var LOWER = table(FACTS.lower);
+  function words(text) {
+    var found = [], word = '';
+    for (var character of String(text)) {
+      if (!has(FACTS.between, character)) word += LOWER.get(character) || character;
+      else if (word !== '') {
+        found.push(word);
+        word = '';
+      }
+    }
+    if (word !== '') found.push(word);
+    return found;
+  }
+
+  var before = elasticlunr.tokenizer;
+  elasticlunr.tokenizer = function (text) {
+    var texts = Array.isArray(text) ? text : [text];
+    return [].concat.apply([], texts.map(function (one) {
+      return one === null || one === undefined ? [] : words(one);
+    }));
+  };
+  Object.keys(before).forEach(function (key) { elasticlunr.tokenizer[key] = before[key]; });
+
+  // Cuts off both ends what is not of the class; a token of which nothing is left goes.
+  function trimmer(marks) {
+    return function (token) {
+      var characters = Array.from(token), first = 0, end = characters.length;
+      while (first < end && !has(marks, characters[first])) first++;
+      while (first < end && !has(marks, characters[end - 1])) end--;
+      return first < end ? characters.slice(first, end).join('') : undefined;
+    };
+  }
+
+  function stopWords(list) {
+    var listed = new Set(list);
+    return function (token) { return listed.has(token) ? undefined : token; };
+  }
+
+  // Takes the first character of one class away, and changes the first one of a table.
+  function stemmer(marks, pairs) {
+    var changes = table(pairs);
+    return function (token) {
+      var characters = Array.from(token);
+      var at = characters.findIndex(function (character) { return has(marks, character); });
+      if (at >= 0) characters.splice(at, 1);
+      at = characters.findIndex(function (character) { return changes.has(character); });
+      if (at >= 0) characters[at] = changes.get(characters[at]);
+      return characters.join('') || undefined;
+    };
+  }
+
+  FACTS.stages.forEach(function (stage) {
+    var run = stage['class'] ? trimmer(stage['class'])
+      : stage.words ? stopWords(stage.words)
+      : stage.drops ? stemmer(stage.drops, stage.changes)
+      : function (token) { return token; };
+    delete elasticlunr.Pipeline.registeredFunctions[stage.name];
+    elasticlunr.Pipeline.registerFunction(run, stage.name);
+  });
+
+  // A printed trie has one step for each character; one that elasticlunr.js made has two above U+FFFF.
+  elasticlunr.InvertedIndex.prototype.getNode = function (token) {
+    if (!token) return null;
+    var node = this.root;
+    for (var character of token) {
+      if (node[character]) node = node[character];
+      else if (character.length === 2 && node[character[0]]) node = node[character[0]][character[1]];
+      else node = undefined;
+      if (!node) return null;
+    }
+    return node;
+  };
+  elasticlunr.InvertedIndex.prototype.hasToken = function (token) { return this.getNode(token) !== null; };
+
+  return elasticlunr;
+});

@@ -12,7 +12,7 @@ use Rattle.elasticlunr.specs.Printed.{IsValue}
 use Rattle.elasticlunr.specs.Reading.{LanguageReads}
 use Rattle.elasticlunr.specs.Standing.{Plan}
 use Rattle.elasticlunr_index.specs.Answer.{IsIndexLine, line, printed_text}
-use Rattle.elasticlunr_index.specs.Commands.{AreCommandsOf, IsAdded, in_order, job_plan, language_tokens}
+use Rattle.elasticlunr_index.specs.Commands.{IsAdded, in_order, job_plan, language_tokens}
 use Rattle.elasticlunr_index.specs.Job.{Job}
 
 -- settings and commands have one value

@@ -117,8 +117,8 @@ fn empty_and_whole(alloc: Global, text: &str) -> Result<Vec<String>, AllocError>
     Ok(tokens)
 }
 
-/// The text of an index with no stages, this tokenizer and one document, and whether the field knows
-/// the document's value, and the longer text.
+/// The text of an index with no stages, this tokenizer and one document; whether the field knows
+/// the value of the document, and whether it knows the longer text.
 fn printed_bare(
     builder: IndexBuilder<English>,
     queue: Vec<Stage>,

@@ -56,9 +56,16 @@ def several(_world):
     must(status == 0 and held == [True] * 5 + [False], held)
 
 
+def script_sizes(_world):
+    size = lambda name: round(os.path.getsize(os.path.join(TOP, "browser", name)) / 1000)
+    own = [size(own_script(language)) for language in PAGES]
+    with open(os.path.join(TOP, "README.md"), encoding="utf-8") as file:
+        must(f"all languages in {size(ALL)} kB; that of one language has {min(own)} to {max(own)} kB." in file.read(), [size(ALL), own])
+
+
 def scripts():
     made = [committed(ALL, "")] + [committed(own_script(language), language + "\n") for language in PAGES]
-    return made + [("a name that is no language is refused", refused_name), ("a script for two languages", several)]
+    return made + [("a name that is no language is refused", refused_name), ("a script for two languages", several), ("README: sizes of the scripts", script_sizes)]
 
 
 # In node.

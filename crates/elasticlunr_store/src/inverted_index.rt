@@ -1,6 +1,6 @@
 //! Tries of tokens, each with the frequency of each reference that has it.
 ghost use Rattle.std.specs.FinMap.{get as get_postings, len};
-ghost use Rattle.std.specs.Prelude.{option_map, ◌≡◌, ◌↔◌, [], None, IsTrue, IfOk, IfErr, IsOk, OnOk, OnErr, IsOkUnless, false, unwrap_or, ◌≢◌};
+ghost use Rattle.std.specs.Prelude.{option_map, ◌≡◌, ◌↔◌, [], None, IsTrue, IfOk, IfErr, IsOk, OnOk, OnErr, IsOkUnless, false, unwrap_or, is_some, ◌≢◌};
 ghost use Rattle.std.specs.Str.{chars};
 ghost use Rattle.elasticlunr_text.specs.Text.{Text, Bytes};
 ghost use Rattle.elasticlunr_store.specs.Table.{Table, new_table, knows, posting, postings, IsTable, AddsToken, RemovesToken, same_tables, postings_of};
@@ -9,11 +9,17 @@ ghost use Rattle.elasticlunr_store.specs.Refused.{IsRefused};
 ghost use Rattle.elasticlunr_text.specs.declared.error.IndexError.TheVariants.{Memory};
 ghost use Rattle.serde_json.specs.Written.{has_float};
 ghost use Rattle.elasticlunr_store.specs.Tree.{IsTrieValue};
-ghost use Rattle.elasticlunr_store.specs.Nodes.{IsTrie, table_of};
+ghost use Rattle.elasticlunr_store.specs.Trie.{IsIndex, table_of};
 
 mod add;
+mod branch;
 mod compact;
+mod docs;
+mod lists;
+mod names;
 mod nodes;
+mod numbered;
+mod postings;
 mod read;
 mod remove;
 mod same;
@@ -22,8 +28,10 @@ mod write;
 
 use crate::members::put_member;
 use add::add_posting;
+use docs::copy_docs;
 use elasticlunr_text::IndexError;
-use nodes::{Node, Place, copy_docs, find, find_postings};
+use names::Names;
+use nodes::{Node, Place, Reference, find, find_frequency, find_postings};
 use read::{only_member, read_nodes};
 use remove::{remove_posting, remove_postings};
 use same::same_below;
@@ -42,6 +50,8 @@ use value::tree_value;
 pub struct InvertedIndex {
     root: Vec<(char, usize)>,
     nodes: Vec<Node>,
+    names: Names,
+    references: Vec<Reference>,
 }
 
 impl Model for InvertedIndex {
@@ -53,11 +63,9 @@ impl Model for InvertedIndex {
 
     ghost coded = { map.code (coded_list coded_ℕ) (map.code (coded_list coded_ℕ) coded_ℕ) };
 
-    ghost use Rattle.elasticlunr_store.specs.Nodes.{table_of, IsTrie};
+    ghost view = { λ a. table_of a.root.items a.nodes.items a.names };
 
-    ghost view = { λ a. table_of a.root.items a.nodes.items };
-
-    ghost invariant = { λ a. IsTrie a.root.items a.nodes.items };
+    ghost invariant = { λ a. IsIndex a.root.items a.nodes.items a.names a.references.items };
 }
 
 impl InvertedIndex {
@@ -69,6 +77,8 @@ impl InvertedIndex {
         InvertedIndex {
             root: Vec::new(alloc),
             nodes: Vec::new(alloc),
+            names: Names::new(alloc),
+            references: Vec::new(alloc),
         }
     }
 
@@ -94,6 +104,8 @@ impl InvertedIndex {
             alloc,
             &mut self.root,
             &mut self.nodes,
+            &mut self.names,
+            &mut self.references,
             doc_ref,
             token,
             term_freq,
@@ -107,14 +119,28 @@ impl InvertedIndex {
         ensures gone { (t : Text) → posting self.new t doc_ref.now ≡ None }
         ensures others { (t : Text) (r : Bytes) → r ≢ doc_ref.now → posting self.new t r ≡ posting self.old t r }
     {
-        remove_postings(&mut self.nodes, doc_ref);
+        let alloc = *self.nodes.allocator();
+        remove_postings(
+            alloc,
+            &self.names,
+            &mut self.references,
+            &mut self.nodes,
+            doc_ref,
+        );
     }
 
     /// Takes a posting away if it is there. The known texts stay. Requests no memory.
     pub fn remove_token(&mut self, doc_ref: &str, token: &str)
         ensures { RemovesToken self.old self.new (chars token.now) doc_ref.now }
     {
-        remove_posting(&self.root, &mut self.nodes, doc_ref, token);
+        remove_posting(
+            &self.root,
+            &self.names,
+            &mut self.references,
+            &mut self.nodes,
+            doc_ref,
+            token,
+        );
     }
 
     /// A copy of the postings of a token, `None` where it is unknown.
@@ -122,7 +148,8 @@ impl InvertedIndex {
         ensures ok { IfOk result (λ o. option_map (λ m. postings_of m.entries) o ≡ get_postings self.now (chars token.now)) }
         ensures memory { IsOkUnless result Memory }
     {
-        let docs = copy_docs(&self.root, &self.nodes, token, *self.nodes.allocator())?;
+        let alloc = *self.nodes.allocator();
+        let docs = copy_docs(alloc, &self.root, &self.nodes, &self.names, token)?;
         Ok(docs)
     }
 
@@ -130,10 +157,14 @@ impl InvertedIndex {
     pub fn get_term_frequency(&self, doc_ref: &str, token: &str) -> u64
         ensures { result ≡ unwrap_or (posting self.now (chars token.now) doc_ref.now) 0 }
     {
-        match find_postings(&self.root, &self.nodes, token) {
-            Some(postings) => postings.get(doc_ref).copied().unwrap_or(0),
-            None => 0,
-        }
+        find_frequency(&self.root, &self.nodes, &self.names, token, doc_ref).unwrap_or(0)
+    }
+
+    /// Has a reference a posting at a token? It takes a step for each character of the token, and requests no memory.
+    pub fn has_posting(&self, doc_ref: &str, token: &str) -> bool
+        ensures { result ≡ is_some (posting self.now (chars token.now) doc_ref.now) }
+    {
+        find_frequency(&self.root, &self.nodes, &self.names, token, doc_ref).is_some()
     }
 
     /// How many references have a posting at a token.
@@ -157,7 +188,7 @@ impl InvertedIndex {
         ensures memory { IsOkUnless result Memory }
     {
         let alloc = *self.nodes.allocator();
-        let root = tree_value(alloc, &self.root, &self.nodes)?;
+        let root = tree_value(alloc, &self.root, &self.nodes, &self.names)?;
         let mut members = Map::new(alloc);
         put_member(&mut members, String::from_str(alloc, "root")?, root)?;
         Ok(Value::Object(members))
@@ -174,8 +205,15 @@ impl InvertedIndex {
         let Some(root) = only_member(value, "root") else {
             return Err(IndexError::ForeignValue);
         };
-        let (root, nodes) = read_nodes(alloc, root)?;
-        Ok(InvertedIndex { root, nodes })
+        let mut names = Names::new(alloc);
+        let mut references = Vec::new(alloc);
+        let (root, nodes) = read_nodes(alloc, root, &mut names, &mut references)?;
+        Ok(InvertedIndex {
+            root,
+            nodes,
+            names,
+            references,
+        })
     }
 
     /// Is this text known, as a token or as the beginning of one?
@@ -201,9 +239,11 @@ impl PartialEq for InvertedIndex {
         ensures equal { IsTrue result ↔ (self.now ≡ other.now) }
     {
         same_below(
+            &self.names,
             &self.root,
             &self.nodes,
             Place::Root,
+            &other.names,
             &other.root,
             &other.nodes,
             Place::Root,

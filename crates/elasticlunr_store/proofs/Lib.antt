@@ -18,6 +18,7 @@ pub mod Named
 pub mod Gathered
 pub mod Naming
 pub mod Ranked
+pub mod Keys
 pub mod Growth
 pub mod Docs
 pub mod Finishing

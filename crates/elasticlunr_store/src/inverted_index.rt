@@ -9,7 +9,6 @@ ghost use Rattle.elasticlunr_store.specs.Refused.{IsRefused};
 ghost use Rattle.elasticlunr_text.specs.declared.error.IndexError.TheVariants.{Memory};
 ghost use Rattle.serde_json.specs.Written.{has_float};
 ghost use Rattle.elasticlunr_store.specs.Tree.{IsTrieValue};
-ghost use Rattle.elasticlunr_store.specs.Trie.{IsIndex, table_of};
 
 mod add;
 mod branch;
@@ -21,6 +20,7 @@ mod nodes;
 mod numbered;
 mod postings;
 mod read;
+mod references;
 mod remove;
 mod same;
 mod value;
@@ -45,7 +45,7 @@ use value::tree_value;
 ///
 /// It stands for a table: the known texts, among them the empty one and each beginning of a known one, and for some pairs of a known token and a reference a frequency. Known texts stay known when their postings go, until the trie is compacted.
 ///
-/// The nodes stand in one vector, and name their children by number. So a trie is dropped without recursion, and a text is looked up by halves at each of its characters.
+/// The nodes stand in one vector, and name their children by number. So a trie is dropped without recursion, and a text is looked up by halves at each of its characters. A reference has a number, under which its postings stand; its name is kept once. A name may stay when its postings go, until the trie is compacted; no call shows it.
 #[derive(Debug, Drop)]
 pub struct InvertedIndex {
     root: Vec<(char, usize)>,
@@ -62,6 +62,8 @@ impl Model for InvertedIndex {
     ghost Value = { Table };
 
     ghost coded = { map.code (coded_list coded_ℕ) (map.code (coded_list coded_ℕ) coded_ℕ) };
+
+    ghost use Rattle.elasticlunr_store.specs.Trie.{table_of, IsIndex};
 
     ghost view = { λ a. table_of a.root.items a.nodes.items a.names };
 
@@ -84,7 +86,7 @@ impl InvertedIndex {
 
     /// Sets the posting of a token, which makes its beginnings known. The empty token changes nothing.
     ///
-    /// All requests for memory come before the first change. The work is in proportion to the token.
+    /// Where memory is wanting, the table stays as it was. The work is in proportion to the token; the reference is looked up once among all names, and by halves among the postings of the token.
     pub fn add_token(
         &mut self,
         doc_ref: &str,
@@ -113,7 +115,7 @@ impl InvertedIndex {
         Ok(())
     }
 
-    /// Takes every posting of a reference away. The known texts stay. Visits each node once, and requests no memory.
+    /// Takes every posting of a reference away. The known texts stay. It visits the nodes where the reference has or had a posting, and no others; an unknown reference is looked up and costs no more. Requests no memory.
     pub fn remove_doc(&mut self, doc_ref: &str)
         ensures known { (t : Text) → knows self.new t ≡ knows self.old t }
         ensures gone { (t : Text) → posting self.new t doc_ref.now ≡ None }
@@ -129,7 +131,7 @@ impl InvertedIndex {
         );
     }
 
-    /// Takes a posting away if it is there. The known texts stay. Requests no memory.
+    /// Takes a posting away if it is there. The known texts stay. The work is in proportion to the token and to the postings of the reference. Requests no memory.
     pub fn remove_token(&mut self, doc_ref: &str, token: &str)
         ensures { RemovesToken self.old self.new (chars token.now) doc_ref.now }
     {
@@ -143,7 +145,7 @@ impl InvertedIndex {
         );
     }
 
-    /// A copy of the postings of a token, `None` where it is unknown.
+    /// A copy of the postings of a token, `None` where it is unknown. The work is in proportion to the token and its postings.
     pub fn get_docs(&self, token: &str) -> Result<Option<BTreeMap<String, u64>>, IndexError>
         ensures ok { IfOk result (λ o. option_map (λ m. postings_of m.entries) o ≡ get_postings self.now (chars token.now)) }
         ensures memory { IsOkUnless result Memory }
@@ -153,21 +155,21 @@ impl InvertedIndex {
         Ok(docs)
     }
 
-    /// The frequency of a reference at a token, 0 where it has no posting.
+    /// The frequency of a reference at a token, 0 where it has no posting. A step for each character of the token, and a look-up of the reference; requests no memory.
     pub fn get_term_frequency(&self, doc_ref: &str, token: &str) -> u64
         ensures { result ≡ unwrap_or (posting self.now (chars token.now) doc_ref.now) 0 }
     {
         find_frequency(&self.root, &self.nodes, &self.names, token, doc_ref).unwrap_or(0)
     }
 
-    /// Has a reference a posting at a token? It takes a step for each character of the token, and requests no memory.
+    /// Has a reference a posting at a token? A step for each character of the token, and a look-up of the reference; requests no memory.
     pub fn has_posting(&self, doc_ref: &str, token: &str) -> bool
         ensures { result ≡ is_some (posting self.now (chars token.now) doc_ref.now) }
     {
         find_frequency(&self.root, &self.nodes, &self.names, token, doc_ref).is_some()
     }
 
-    /// How many references have a posting at a token.
+    /// How many references have a posting at a token. A step for each character of the token; requests no memory.
     pub fn get_doc_frequency(&self, token: &str) -> u64
         ensures { result ≡ len (postings self.now (chars token.now)) }
     {
@@ -216,7 +218,7 @@ impl InvertedIndex {
         })
     }
 
-    /// Is this text known, as a token or as the beginning of one?
+    /// Is this text known, as a token or as the beginning of one? A step for each of its characters.
     pub fn has_token(&self, token: &str) -> bool
         ensures { result ≡ knows self.now (chars token.now) }
     {
@@ -233,7 +235,7 @@ impl PartialEq for InvertedIndex {
 
     ghost laws = { partial_equiv_from_equiv tables_equivalence };
 
-    /// Do both stand for the same table? The numbers of their nodes make no difference. A path without branches takes no stack.
+    /// Do both stand for the same table? The numbers of their nodes and references make no difference. Requests no memory. A path without branches takes no stack.
     fn eq(&self, other: &InvertedIndex) -> bool
         ensures test { result ≡ same_tables self.now other.now }
         ensures equal { IsTrue result ↔ (self.now ≡ other.now) }

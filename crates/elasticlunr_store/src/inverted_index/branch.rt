@@ -44,7 +44,7 @@ pub(super) fn new_branch(
 {
     let mut branch = Vec::new(alloc);
     for c in text.chars() {
-        let mut children = Vec::new(alloc);
+        let mut children = Vec::with_capacity(alloc, 1)?;
         children.push((c, number + branch.len()))?;
         branch.push(Node {
             children,

@@ -4,6 +4,7 @@ use Rattle.std.specs.List.Sorted.{IsStrictlySortedBy}
 use Rattle.std.specs.Map.{keys_of}
 use Rattle.std.proofs.lemmas.Cmp.{nat_list_cmp_total}
 use Rattle.std.proofs.lemmas.Str.{IsUtf8-string_bytes}
+use Rattle.std.specs.Str.{IsUtf8}
 use Rattle.elasticlunr_store.specs.Names.{AreNames, at}
 use Rattle.elasticlunr_store.specs.Nodes.{IsListed}
 use Rattle.elasticlunr_store.proofs.Added.{names_entered}
@@ -33,19 +34,21 @@ loop-doc_ref-preserved c =
     let held = c.loop-doc_ref.invariant in
     let e : String Global × ℕ = (c.in-Some.doc_ref.now, c.in-Some.frequency.now) in
     let r = string_bytes c.in-Some.doc_ref.now in
+    let d = c.deref.result.now in
+    let key = c.deref.ensures in
     let more = append_assoc held.done (e ∷ []) c.next.new.self ∙ ap (λ xs. held.done ++ xs) (sym c.in-Some.ensures.steps) ∙ held.split in
     let all = c.args.docs.now.entries in
     let found = sym (finite.get-from_entries nat_list_cmp_total (bytes_of all) r) ∙ get_entry (λ n. n) all held.done e c.next.new.self (ap (λ xs. held.done ++ xs) (sym c.in-Some.ensures.steps) ∙ held.split) c.iter-doc_ref-items.ensures.ordered in
     let ok = c.in_ok-put_posting.ensures in
     record {
-      names_are = subst AreNames (sym ok.names) (names_entered c.loop-doc_ref.names held.names_are r (IsUtf8-string_bytes c.in-Some.doc_ref.now));
-      extends = extends_on _ _ _ held.extends (extends_entered c.loop-doc_ref.names c.put_posting.new.names r ok.names);
+      names_are = subst AreNames (sym ok.names) (names_entered c.loop-doc_ref.names held.names_are d (subst IsUtf8 (sym key) (IsUtf8-string_bytes c.in-Some.doc_ref.now)));
+      extends = extends_on _ _ _ held.extends (extends_entered c.loop-doc_ref.names c.put_posting.new.names d ok.names);
       keeps = λ n k h. ok.keeps n k (held.keeps n k h);
       listed = ok.listed;
       done = held.done ++ e ∷ [];
       split = more;
       gathered = subst (λ es. Gathered (λ q. at c.put_posting.new.names q c.put_posting.new.postings) es (bytes_of all)) (sym (bytes_push held.done e))
-          (gathered_step _ _ _ _ (r, c.in-Some.frequency.now) held.gathered found ok.set ok.others);
+          (gathered_step _ _ _ _ (r, c.in-Some.frequency.now) held.gathered found (ap (λ x. at c.put_posting.new.names x c.put_posting.new.postings) (sym key) ∙ ok.set) (λ q apart. ok.others q (λ is. apart (is ∙ key))));
     }
 
 pub returns-clause-same : goal.returns-clause-same

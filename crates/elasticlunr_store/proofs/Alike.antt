@@ -1,12 +1,15 @@
 -- Places from which the same texts are known.
+use Rattle.elasticlunr_store.specs.Pairs.{key_at, IsStrictlySorted}
+use Rattle.elasticlunr_store.specs.Names.{Names}
+use Rattle.elasticlunr_store.specs.Children.{Children, child}
+use Rattle.elasticlunr_store.specs.Nodes.{entries_of}
+use Rattle.elasticlunr_store.specs.Trie.{named, rank, children_at, step_of, walk, entries_at, IsTrie, table_of}
 use Rattle.std.proofs.Common.{◌≡◌, ◌≢◌, inl, inr, ℕ, zero, suc, ◌<◌, ◌≤◌, cond, true, false, Bool, ◌↔◌, List, [], ◌∷◌, length, map, get_or, Option, Some, None, IsSome, is_some, option_map, option_and_then, refl, sym, ap, subst, ◌∙◌, arith, eqb, ne_eqb}
 use mathlib.Core.Bool.{false≢true}
 use Rattle.std.proofs.lemmas.Bool.{cases_eq, eq-eqb}
 use Rattle.std.specs.List.{slice_get}
 use Rattle.elasticlunr_text.specs.Text.{Text}
-use Rattle.elasticlunr_store.specs.Table.{Postings, postings_of}
-use Rattle.elasticlunr_store.specs.Children.{Children, child, key_at, IsStrictlySorted}
-use Rattle.elasticlunr_store.specs.Nodes.{rank, children_at, step_of, walk, entries_at, entries_of, IsTrie, table_of}
+use Rattle.elasticlunr_store.specs.Table.{Postings}
 use Rattle.std.specs.Bool.{Decides}
 use Rattle.std.specs.FinMap.{get}
 use Rattle.elasticlunr_store.proofs.Tables.{get_table}
@@ -15,14 +18,15 @@ use Rattle.elasticlunr_store.specs.Same.{look_from, IsSameBelow}
 use Rattle.elasticlunr_store.specs.declared.inverted_index.nodes.Node.{Node}
 use Rattle.elasticlunr_store.specs.declared.inverted_index.nodes.Place.{Place}
 use Rattle.elasticlunr_store.specs.declared.inverted_index.nodes.Place.TheVariants.{Root, At}
-use Rattle.elasticlunr_store.proofs.Children.{child_absent, first_key_le}
-use Rattle.elasticlunr_store.proofs.Gap.{child_at_place}
+use Rattle.elasticlunr_store.proofs.Found.{value_absent, first_key_le}
+use Rattle.elasticlunr_store.proofs.Gap.{value_at_place}
+use Rattle.elasticlunr_store.proofs.Named.{no_names}
 
 -- one step, and what is known from there
-pub look_cons : (root : Children) (nodes : List Node) (p : Place) (c : ℕ) (t : Text) → look_from root nodes p (c ∷ t) ≡ option_and_then (λ k. look_from root nodes (At k) t) (child (children_at root nodes p) c)
-look_cons root nodes p c t = by (child (children_at root nodes p) c)
+pub look_cons : (names : Names) (root : Children) (nodes : List Node) (p : Place) (c : ℕ) (t : Text) → look_from names root nodes p (c ∷ t) ≡ option_and_then (λ k. look_from names root nodes (At k) t) (child (children_at root nodes p) c)
+look_cons names root nodes p c t = by (child (children_at root nodes p) c)
   where
-    by : (o : Option ℕ) → option_map (λ q. postings_of (entries_at root nodes q)) (option_and_then (λ k. walk (step_of root nodes) (At k) t) o) ≡ option_and_then (λ k. look_from root nodes (At k) t) o
+    by : (o : Option ℕ) → option_map (λ q. named names (entries_at root nodes q)) (option_and_then (λ k. walk (step_of root nodes) (At k) t) o) ≡ option_and_then (λ k. look_from names root nodes (At k) t) o
     by None = refl
     by (Some k) = refl
 
@@ -30,7 +34,7 @@ pub sorted_tail : (x : ℕ × ℕ) (l : Children) → IsStrictlySorted (x ∷ l)
 sorted_tail x l sorted i j lt in_range = sorted (suc i) (suc j) (omega arith) (omega arith)
 
 pub not_again : (x : ℕ × ℕ) (l : Children) → IsStrictlySorted (x ∷ l) → child l x.0 ≡ None
-not_again x l sorted = child_absent l x.0 (λ j lt same. let up = sorted 0 (suc j) (omega arith) (omega arith) in omega (arith, same, up))
+not_again x l sorted = value_absent l x.0 (λ j lt same. let up = sorted 0 (suc j) (omega arith) (omega arith) in omega (arith, same, up))
 
 found_first : (x : ℕ × ℕ) (l : Children) → IsSome (child (x ∷ l) x.0)
 found_first x l = ap (λ b. is_some (cond b (Some x.1) (child l x.0))) (eq-eqb x.0 x.0 refl)
@@ -110,30 +114,30 @@ module _ (f g : ℕ → Text → Option Postings) where
     pub alike_at : (i : ℕ) → i < length xs → (t : Text) → f (get_or xs i (0, 0)).1 t ≡ g (get_or ys i (0, 0)).1 t
     alike_at i h t =
         let key = alike_key i h in
-        let one = child_at_place xs sx (key_at xs i) i (record { in_range = h; has_key = refl }) in
-        let two = child_at_place ys sy (key_at xs i) i (record { in_range = omega (arith, alike_count, h); has_key = sym key }) in
+        let one = value_at_place xs sx (key_at xs i) i (record { in_range = h; has_key = refl }) in
+        let two = value_at_place ys sy (key_at xs i) i (record { in_range = omega (arith, alike_count, h); has_key = sym key }) in
         sym (ap (option_and_then (λ k. f k t)) one) ∙ alike (key_at xs i) t ∙ ap (option_and_then (λ j. g j t)) two
 
 -- the same of two places
-pub same_below_alike : (root : Children) (nodes : List Node) (p : Place) (root2 : Children) (nodes2 : List Node) (q : Place) → IsSameBelow root nodes p root2 nodes2 q
-    → LeadAlike (λ k. look_from root nodes (At k)) (λ j. look_from root2 nodes2 (At j)) (children_at root nodes p) (children_at root2 nodes2 q)
-same_below_alike root nodes p root2 nodes2 q same c t = sym (look_cons root nodes p c t) ∙ same c t ∙ look_cons root2 nodes2 q c t
+pub same_below_alike : (names : Names) (root : Children) (nodes : List Node) (p : Place) (names2 : Names) (root2 : Children) (nodes2 : List Node) (q : Place) → IsSameBelow names root nodes p names2 root2 nodes2 q
+    → LeadAlike (λ k. look_from names root nodes (At k)) (λ j. look_from names2 root2 nodes2 (At j)) (children_at root nodes p) (children_at root2 nodes2 q)
+same_below_alike names root nodes p names2 root2 nodes2 q same c t = sym (look_cons names root nodes p c t) ∙ same c t ∙ look_cons names2 root2 nodes2 q c t
 
-pub alike_same_below : (root : Children) (nodes : List Node) (p : Place) (root2 : Children) (nodes2 : List Node) (q : Place)
-    → LeadAlike (λ k. look_from root nodes (At k)) (λ j. look_from root2 nodes2 (At j)) (children_at root nodes p) (children_at root2 nodes2 q) → IsSameBelow root nodes p root2 nodes2 q
-alike_same_below root nodes p root2 nodes2 q alike c t = look_cons root nodes p c t ∙ alike c t ∙ sym (look_cons root2 nodes2 q c t)
+pub alike_same_below : (names : Names) (root : Children) (nodes : List Node) (p : Place) (names2 : Names) (root2 : Children) (nodes2 : List Node) (q : Place)
+    → LeadAlike (λ k. look_from names root nodes (At k)) (λ j. look_from names2 root2 nodes2 (At j)) (children_at root nodes p) (children_at root2 nodes2 q) → IsSameBelow names root nodes p names2 root2 nodes2 q
+alike_same_below names root nodes p names2 root2 nodes2 q alike c t = look_cons names root nodes p c t ∙ alike c t ∙ sym (look_cons names2 root2 nodes2 q c t)
 
-pub same_from : (root : Children) (nodes : List Node) (p : Place) (root2 : Children) (nodes2 : List Node) (q : Place) → postings_of (entries_at root nodes p) ≡ postings_of (entries_at root2 nodes2 q) → IsSameBelow root nodes p root2 nodes2 q
-    → (t : Text) → look_from root nodes p t ≡ look_from root2 nodes2 q t
-same_from root nodes p root2 nodes2 q here below [] = ap Some here
-same_from root nodes p root2 nodes2 q here below (c ∷ t) = below c t
+pub same_from : (names : Names) (root : Children) (nodes : List Node) (p : Place) (names2 : Names) (root2 : Children) (nodes2 : List Node) (q : Place) → named names (entries_at root nodes p) ≡ named names2 (entries_at root2 nodes2 q) → IsSameBelow names root nodes p names2 root2 nodes2 q
+    → (t : Text) → look_from names root nodes p t ≡ look_from names2 root2 nodes2 q t
+same_from names root nodes p names2 root2 nodes2 q here below [] = ap Some here
+same_from names root nodes p names2 root2 nodes2 q here below (c ∷ t) = below c t
 
-module _ (root : Children) (nodes : List Node) (trie : IsTrie root nodes) (p : Place) (root2 : Children) (nodes2 : List Node) (trie2 : IsTrie root2 nodes2) (q : Place) (es es2 : Children) (are : es ≡ children_at root nodes p) (are2 : es2 ≡ children_at root2 nodes2 q) where
+module _ (names : Names) (root : Children) (nodes : List Node) (trie : IsTrie root nodes) (p : Place) (names2 : Names) (root2 : Children) (nodes2 : List Node) (trie2 : IsTrie root2 nodes2) (q : Place) (es es2 : Children) (are : es ≡ children_at root nodes p) (are2 : es2 ≡ children_at root2 nodes2 q) where
   abbrev f : ℕ → Text → Option Postings
-  f k = look_from root nodes (At k)
+  f k = look_from names root nodes (At k)
 
   abbrev g : ℕ → Text → Option Postings
-  g j = look_from root2 nodes2 (At j)
+  g j = look_from names2 root2 nodes2 (At j)
 
   sorted : IsStrictlySorted es
   sorted = subst IsStrictlySorted (sym are) (trie.in_order p)
@@ -141,43 +145,43 @@ module _ (root : Children) (nodes : List Node) (trie : IsTrie root nodes) (p : P
   sorted2 : IsStrictlySorted es2
   sorted2 = subst IsStrictlySorted (sym are2) (trie2.in_order q)
 
-  leads : IsSameBelow root nodes p root2 nodes2 q → LeadAlike f g es es2
-  leads same = subst (λ xs. LeadAlike f g xs es2) (sym are) (subst (λ ys. LeadAlike f g (children_at root nodes p) ys) (sym are2) (same_below_alike root nodes p root2 nodes2 q same))
+  leads : IsSameBelow names root nodes p names2 root2 nodes2 q → LeadAlike f g es es2
+  leads same = subst (λ xs. LeadAlike f g xs es2) (sym are) (subst (λ ys. LeadAlike f g (children_at root nodes p) ys) (sym are2) (same_below_alike names root nodes p names2 root2 nodes2 q same))
 
-  pub right_count : IsSameBelow root nodes p root2 nodes2 q → length es ≡ length es2
+  pub right_count : IsSameBelow names root nodes p names2 root2 nodes2 q → length es ≡ length es2
   right_count same = alike_count f g (λ k. refl) (λ k. refl) es es2 sorted sorted2 (leads same)
 
-  pub right_key : (i : ℕ) → i < length es → IsSameBelow root nodes p root2 nodes2 q → key_at es i ≡ key_at es2 i
+  pub right_key : (i : ℕ) → i < length es → IsSameBelow names root nodes p names2 root2 nodes2 q → key_at es i ≡ key_at es2 i
   right_key i h same = alike_key f g (λ k. refl) (λ k. refl) es es2 sorted sorted2 (leads same) i h
 
-  right_at : (i : ℕ) → i < length es → IsSameBelow root nodes p root2 nodes2 q → (t : Text) → f (get_or es i (0, 0)).1 t ≡ g (get_or es2 i (0, 0)).1 t
+  right_at : (i : ℕ) → i < length es → IsSameBelow names root nodes p names2 root2 nodes2 q → (t : Text) → f (get_or es i (0, 0)).1 t ≡ g (get_or es2 i (0, 0)).1 t
   right_at i h same = alike_at f g (λ k. refl) (λ k. refl) es es2 sorted sorted2 (leads same) i h
 
-  pub right_postings : (i : ℕ) → i < length es → IsSameBelow root nodes p root2 nodes2 q → postings_of (entries_of (slice_get nodes (get_or es i (0, 0)).1)) ≡ postings_of (entries_of (slice_get nodes2 (get_or es2 i (0, 0)).1))
-  right_postings i h same = let both : Some (postings_of (entries_of (slice_get nodes (get_or es i (0, 0)).1))) ≡ Some (postings_of (entries_of (slice_get nodes2 (get_or es2 i (0, 0)).1))) = right_at i h same [] in cc
+  pub right_postings : (i : ℕ) → i < length es → IsSameBelow names root nodes p names2 root2 nodes2 q → named names (entries_of (slice_get nodes (get_or es i (0, 0)).1)) ≡ named names2 (entries_of (slice_get nodes2 (get_or es2 i (0, 0)).1))
+  right_postings i h same = let both : Some (named names (entries_of (slice_get nodes (get_or es i (0, 0)).1))) ≡ Some (named names2 (entries_of (slice_get nodes2 (get_or es2 i (0, 0)).1))) = right_at i h same [] in cc
 
-  pub right_below : (i : ℕ) → i < length es → IsSameBelow root nodes p root2 nodes2 q → IsSameBelow root nodes (At (get_or es i (0, 0)).1) root2 nodes2 (At (get_or es2 i (0, 0)).1)
+  pub right_below : (i : ℕ) → i < length es → IsSameBelow names root nodes p names2 root2 nodes2 q → IsSameBelow names root nodes (At (get_or es i (0, 0)).1) names2 root2 nodes2 (At (get_or es2 i (0, 0)).1)
   right_below i h same c t = right_at i h same (c ∷ t)
 
-  pub all_right : length es ≡ length es2 → ((i : ℕ) → i < length es → AreAlike f g (get_or es i (0, 0)) (get_or es2 i (0, 0))) → IsSameBelow root nodes p root2 nodes2 q
-  all_right count each = alike_same_below root nodes p root2 nodes2 q
+  pub all_right : length es ≡ length es2 → ((i : ℕ) → i < length es → AreAlike f g (get_or es i (0, 0)) (get_or es2 i (0, 0))) → IsSameBelow names root nodes p names2 root2 nodes2 q
+  all_right count each = alike_same_below names root nodes p names2 root2 nodes2 q
       (subst (λ xs. LeadAlike f g xs (children_at root2 nodes2 q)) are (subst (λ ys. LeadAlike f g es ys) are2 (lead_alike f g es es2 count each)))
 
   pub in_nodes : (i : ℕ) → i < length es → (rank p ≤ (get_or es i (0, 0)).1) × ((get_or es i (0, 0)).1 < length nodes)
   in_nodes i h =
-      let found = ap (λ xs. child xs (key_at es i)) (sym are) ∙ child_at_place es sorted (key_at es i) i (record { in_range = h; has_key = refl }) in
+      let found = ap (λ xs. child xs (key_at es i)) (sym are) ∙ value_at_place es sorted (key_at es i) i (record { in_range = h; has_key = refl }) in
       (trie.forest.higher p (key_at es i) _ found, trie.forest.is_node p (key_at es i) _ found)
 
   pub in_nodes2 : (i : ℕ) → i < length es2 → (get_or es2 i (0, 0)).1 < length nodes2
   in_nodes2 i h =
-      let found = ap (λ xs. child xs (key_at es2 i)) (sym are2) ∙ child_at_place es2 sorted2 (key_at es2 i) i (record { in_range = h; has_key = refl }) in
+      let found = ap (λ xs. child xs (key_at es2 i)) (sym are2) ∙ value_at_place es2 sorted2 (key_at es2 i) i (record { in_range = h; has_key = refl }) in
       trie2.forest.is_node q (key_at es2 i) _ found
 
 -- the roots lead to the same texts exactly if the tables are one
-pub same_roots : (root : Children) (nodes : List Node) (root2 : Children) (nodes2 : List Node) → IsTrie root nodes → IsTrie root2 nodes2 → IsSameBelow root nodes Root root2 nodes2 Root ↔ (table_of root nodes ≡ table_of root2 nodes2)
-same_roots root nodes root2 nodes2 trie trie2 = (
-  λ below. same_table (table_of root nodes) (table_of root2 nodes2) (λ t. get_table root nodes trie t ∙ same_from root nodes Root root2 nodes2 Root refl below t ∙ sym (get_table root2 nodes2 trie2 t)),
-  λ same c t. sym (get_table root nodes trie (c ∷ t)) ∙ ap (λ T. get T (c ∷ t)) same ∙ get_table root2 nodes2 trie2 (c ∷ t),
+pub same_roots : (names : Names) (root : Children) (nodes : List Node) (names2 : Names) (root2 : Children) (nodes2 : List Node) → IsTrie root nodes → IsTrie root2 nodes2 → IsSameBelow names root nodes Root names2 root2 nodes2 Root ↔ (table_of root nodes names ≡ table_of root2 nodes2 names2)
+same_roots names root nodes names2 root2 nodes2 trie trie2 = (
+  λ below. same_table (table_of root nodes names) (table_of root2 nodes2 names2) (λ t. get_table root nodes trie names t ∙ same_from names root nodes Root names2 root2 nodes2 Root (no_names names ∙ sym (no_names names2)) below t ∙ sym (get_table root2 nodes2 trie2 names2 t)),
+  λ same c t. sym (get_table root nodes trie names (c ∷ t)) ∙ ap (λ T. get T (c ∷ t)) same ∙ get_table root2 nodes2 trie2 names2 (c ∷ t),
 )
 
 -- tests of one fact answer alike

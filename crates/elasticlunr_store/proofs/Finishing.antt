@@ -1,4 +1,8 @@
 -- The trees of nodes, from those of their children.
+use Rattle.elasticlunr_store.specs.Pairs.{IsStrictlySorted}
+use Rattle.elasticlunr_store.specs.Names.{Names}
+use Rattle.elasticlunr_store.specs.Children.{Children, child}
+use Rattle.elasticlunr_store.specs.Trie.{rank, children_at, entries_at, step_of, walk, table_of, IsTrie, named}
 use Rattle.std.proofs.Common.{◌≡◌, ◌≢◌, inl, inr, ◌↔◌, ℕ, suc, ◌<◌, ◌≤◌, cond, List, [], ◌∷◌, ◌++◌, length, set, take, get_or, Option, Some, None, IsSome, IsTrue, is_some, option_map, option_and_then, codes, encode_utf8, refl, sym, ap, subst, ◌∙◌, arith, append-nil, Less, Greater, string_bytes, string_cmp, String, Global}
 use mathlib.Core.Bool.{false≢true}
 use Rattle.std.proofs.lemmas.Bool.{cases_eq, eq-eqb}
@@ -8,7 +12,7 @@ use Rattle.std.proofs.Common.{le_refl}
 use Rattle.std.proofs.lemmas.Cmp.{nat_list_cmp_total, tied_itself}
 use Rattle.std.proofs.lemmas.List.{take-append-drop, get_or-take}
 use Rattle.std.proofs.Common.{length-take, drop}
-use Rattle.elasticlunr_store.proofs.Children.{child_absent}
+use Rattle.elasticlunr_store.proofs.Found.{value_absent}
 use Rattle.std.specs.Ordering.{nat_cmp, match_ordering, ordering_reverse}
 use Rattle.std.specs.Cmp.Lexicographic.{slice_cmp}
 use Rattle.std.specs.List.{slice_get, AllByRecursion}
@@ -22,10 +26,8 @@ use Rattle.serde_json.specs.declared.value.Value.{Value}
 use Rattle.std.specs.FinMap as map
 use Rattle.elasticlunr_text.specs.Text.{Text}
 use Rattle.elasticlunr_store.specs.Table.{knows, postings_of, Entries}
-use Rattle.elasticlunr_store.specs.Children.{Children, child, IsStrictlySorted}
 use Rattle.elasticlunr_store.specs.Tree.{IsTree, AreParts, IsBelow, HasKeysInOrder, frequencies}
 use Rattle.elasticlunr_store.specs.Finished.{value_at, HasChildren, IsNode}
-use Rattle.elasticlunr_store.specs.Nodes.{rank, children_at, entries_at, step_of, walk, table_of, IsTrie}
 use Rattle.elasticlunr_store.proofs.Sorted.{len_seen}
 use Rattle.elasticlunr_store.proofs.Docs.{sorted_entries}
 use Rattle.elasticlunr_store.proofs.Places.{get_set, get_set_other, get_within}
@@ -71,7 +73,7 @@ child_within es i c k e = subst (λ l. child l c ≡ Some k) (take-append-drop i
 
 -- no child before the place i has its character
 pub child_before : (es : Children) → IsStrictlySorted es → (i : ℕ) → i < length es → child (take i es) (get_or es i (0, 0)).0 ≡ None
-child_before es sorted i lt = child_absent (take i es) (get_or es i (0, 0)).0 (λ j below same.
+child_before es sorted i lt = value_absent (take i es) (get_or es i (0, 0)).0 (λ j below same.
     let short : j < i = omega (arith, length-take i es) in
     let letter = ap (λ (e : ℕ × ℕ). e.0) (get_or-take i es j (0, 0) short) in
     let rising = sorted j i short lt in
@@ -135,25 +137,25 @@ all_found (member k d ms) h =
     (ap (λ o. match_ordering o (get_member k ms) (Some d) (get_member k ms)) (tied_itself nat_list_cmp_total k), skip_first k d ms ms h.0 (all_found ms h.1))
 
 -- The values of the nodes from i on, but for those whose parents are done, are trees.
-abbrev pub IsFinishedFrom : Children → List Node → List Value → ℕ → Type 0
-IsFinishedFrom root nodes vs i =
+abbrev pub IsFinishedFrom : Names → Children → List Node → List Value → ℕ → Type 0
+IsFinishedFrom names root nodes vs i =
     (t : Text) (p : Place) (c k : ℕ) (v : Value) → walk (step_of root nodes) Root t ≡ Some p → rank p ≤ i → step_of root nodes p c ≡ Some k → i ≤ k → slice_get vs k ≡ Some v
-    → IsTree (table_of root nodes) (t ++ c ∷ []) (view v)
+    → IsTree (table_of root nodes names) (t ++ c ∷ []) (view v)
 
-module _ (root : Children) (nodes : List Node) (trie : IsTrie root nodes) (t : Text) (p : Place) (leads : walk (step_of root nodes) Root t ≡ Some p) (vs : List Value) (docs : Data) (df : ℕ) (ms : Members) (node : IsNode (children_at root nodes p) vs docs df ms)
-    (enough : length vs ≡ length nodes) (docs_are : docs ≡ object (frequencies (map.entries (postings_of (entries_at root nodes p))))) (df_is : df ≡ map.len (postings_of (entries_at root nodes p)))
-    (trees : (c k : ℕ) (v : Value) → step_of root nodes p c ≡ Some k → slice_get vs k ≡ Some v → IsTree (table_of root nodes) (t ++ c ∷ []) (view v)) where
+module _ (root : Children) (nodes : List Node) (trie : IsTrie root nodes) (names : Names) (t : Text) (p : Place) (leads : walk (step_of root nodes) Root t ≡ Some p) (vs : List Value) (docs : Data) (df : ℕ) (ms : Members) (node : IsNode (children_at root nodes p) vs docs df ms)
+    (enough : length vs ≡ length nodes) (docs_are : docs ≡ object (frequencies (map.entries (named names (entries_at root nodes p))))) (df_is : df ≡ map.len (named names (entries_at root nodes p)))
+    (trees : (c k : ℕ) (v : Value) → step_of root nodes p c ≡ Some k → slice_get vs k ≡ Some v → IsTree (table_of root nodes names) (t ++ c ∷ []) (view v)) where
   there : (c k : ℕ) → step_of root nodes p c ≡ Some k → (v : Value) × (slice_get vs k ≡ Some v)
   there c k e = get_within vs k (omega (arith, trie.forest.is_node p c k e, enough))
 
-  child_value : (c k : ℕ) (d : Data) → step_of root nodes p c ≡ Some k → get_member (encode_utf8 c) ms ≡ Some d → IsTree (table_of root nodes) (t ++ c ∷ []) d
+  child_value : (c k : ℕ) (d : Data) → step_of root nodes p c ≡ Some k → get_member (encode_utf8 c) ms ≡ Some d → IsTree (table_of root nodes names) (t ++ c ∷ []) d
   child_value c k d e found =
       let val = there c k e in
       let is : get_member (encode_utf8 c) ms ≡ Some (view val.0) = node.present c ∙ ap (option_and_then (value_at vs)) e ∙ ap (option_map view) val.1 in
       let same : view val.0 ≡ d = (cc) in
-      subst (IsTree (table_of root nodes) (t ++ c ∷ [])) same (trees c k val.0 e val.1)
+      subst (IsTree (table_of root nodes names) (t ++ c ∷ [])) same (trees c k val.0 e val.1)
 
-  parts : (part : Members) → AllFound ms part → AreParts (table_of root nodes) t part
+  parts : (part : Members) → AllFound ms part → AreParts (table_of root nodes names) t part
   parts no_members found = tt
   parts (member k d part) found = (
     elim (node.only k (ap is_some found.0)) [
@@ -166,38 +168,38 @@ module _ (root : Children) (nodes : List Node) (trie : IsTrie root nodes) (t : T
     parts part found.1,
   )
 
-  same_known : (c : ℕ) → knows (table_of root nodes) (t ++ c ∷ []) ≡ is_some (get_member (encode_utf8 c) ms)
+  same_known : (c : ℕ) → knows (table_of root nodes names) (t ++ c ∷ []) ≡ is_some (get_member (encode_utf8 c) ms)
   same_known c =
-      knows_walk root nodes trie (t ++ c ∷ []) ∙ ap is_some (walk_push (step_of root nodes) t Root c ∙ ap (option_and_then (last_step (step_of root nodes) c)) leads)
+      knows_walk root nodes trie names (t ++ c ∷ []) ∙ ap is_some (walk_push (step_of root nodes) t Root c ∙ ap (option_and_then (last_step (step_of root nodes) c)) leads)
       ∙ by (step_of root nodes p c) refl ∙ sym (ap is_some (node.present c))
     where
       by : (o : Option ℕ) → step_of root nodes p c ≡ o → is_some (option_map At (step_of root nodes p c)) ≡ is_some (option_and_then (value_at vs) (step_of root nodes p c))
       by None e = ap (λ x. is_some (option_map At x)) e ∙ sym (ap (λ x. is_some (option_and_then (value_at vs) x)) e)
       by (Some k) e = ap (λ x. is_some (option_map At x)) e ∙ sym (ap (λ x. is_some (option_and_then (value_at vs) x)) e ∙ ap (λ x. is_some (option_map view x)) (there c k e).1)
 
-  known : (c : ℕ) → IsTrue (knows (table_of root nodes) (t ++ c ∷ [])) ↔ IsSome (get_member (encode_utf8 c) ms)
+  known : (c : ℕ) → IsTrue (knows (table_of root nodes names) (t ++ c ∷ [])) ↔ IsSome (get_member (encode_utf8 c) ms)
   known c = (λ h. sym (same_known c) ∙ h, λ h. same_known c ∙ h)
 
-  pub node_tree : IsTree (table_of root nodes) t (object ms)
+  pub node_tree : IsTree (table_of root nodes names) t (object ms)
   node_tree = (
     node.order,
-    node.docs_there ∙ ap Some (docs_are ∙ ap (λ P. object (frequencies (map.entries P))) (sym (postings_walk root nodes trie t p leads))),
-    node.df_there ∙ ap (λ n. Some (number (unsigned n))) (df_is ∙ ap map.len (sym (postings_walk root nodes trie t p leads))),
+    node.docs_there ∙ ap Some (docs_are ∙ ap (λ P. object (frequencies (map.entries P))) (sym (postings_walk root nodes trie names t p leads))),
+    node.df_there ∙ ap (λ n. Some (number (unsigned n))) (df_is ∙ ap map.len (sym (postings_walk root nodes trie names t p leads))),
     known,
     parts ms (all_found ms node.order),
   )
 
 -- the next node is done
-pub finished_step : (root : Children) (nodes : List Node) (trie : IsTrie root nodes) (vs vs2 : List Value) (i : ℕ) (v : Value) → IsFinishedFrom root nodes vs (suc i) → i < length vs2 → length vs ≡ length nodes
+pub finished_step : (root : Children) (nodes : List Node) (trie : IsTrie root nodes) (names : Names) (vs vs2 : List Value) (i : ℕ) (v : Value) → IsFinishedFrom names root nodes vs (suc i) → i < length vs2 → length vs ≡ length nodes
     → ((k : ℕ) → ((c : ℕ) → step_of root nodes (At i) c ≢ Some k) → slice_get vs2 k ≡ slice_get vs k)
-    → ((t : Text) → walk (step_of root nodes) Root t ≡ Some (At i) → ((c k : ℕ) (w : Value) → step_of root nodes (At i) c ≡ Some k → slice_get vs k ≡ Some w → IsTree (table_of root nodes) (t ++ c ∷ []) (view w)) → IsTree (table_of root nodes) t (view v))
-    → IsFinishedFrom root nodes (set vs2 i v) i
-finished_step root nodes trie vs vs2 i v done in_range enough kept made t p c k w leads low step up value = elim (cases_eq k i) [
+    → ((t : Text) → walk (step_of root nodes) Root t ≡ Some (At i) → ((c k : ℕ) (w : Value) → step_of root nodes (At i) c ≡ Some k → slice_get vs k ≡ Some w → IsTree (table_of root nodes names) (t ++ c ∷ []) (view w)) → IsTree (table_of root nodes names) t (view v))
+    → IsFinishedFrom names root nodes (set vs2 i v) i
+finished_step root nodes trie names vs vs2 i v done in_range enough kept made t p c k w leads low step up value = elim (cases_eq k i) [
   | inl here ↦
       let path = walk_to (step_of root nodes) t c k Root p leads step ∙ ap (λ x. Some (At x)) here in
       let is : Some v ≡ Some w = sym (get_set vs2 i v in_range) ∙ ap (slice_get (set vs2 i v)) (sym here) ∙ value in
       let same : v ≡ w = (cc) in
-      subst (λ x. IsTree (table_of root nodes) (t ++ c ∷ []) (view x)) same
+      subst (λ x. IsTree (table_of root nodes names) (t ++ c ∷ []) (view x)) same
       (made (t ++ c ∷ []) path (λ d j u down there. done (t ++ c ∷ []) (At i) d j u path (le_refl (suc i)) down (trie.forest.higher (At i) d j down) there))
   | inr later ↦
       let is : slice_get vs k ≡ Some w = sym (kept k (λ d down. apart p c k d low step down)) ∙ sym (get_set_other vs2 k i v later) ∙ value in
@@ -238,8 +240,8 @@ made_node children vs docs df ms has order =
     }
 
 -- before the last node there is nothing to show
-pub no_nodes_yet : (root : Children) (nodes : List Node) (vs : List Value) → IsTrie root nodes → IsFinishedFrom root nodes vs (length nodes)
-no_nodes_yet root nodes vs trie t p c k v leads low step up value = absurd (omega (arith, trie.forest.is_node p c k step))
+pub no_nodes_yet : (names : Names) (root : Children) (nodes : List Node) (vs : List Value) → IsTrie root nodes → IsFinishedFrom names root nodes vs (length nodes)
+no_nodes_yet names root nodes vs trie t p c k v leads low step up value = absurd (omega (arith, trie.forest.is_node p c k step))
 
 -- how many postings there are
 pub len_postings : (es : Entries) → IsStrictlySortedBy string_cmp (keys_of es) → map.len (postings_of es) ≡ length es
@@ -248,10 +250,3 @@ len_postings es sorted = len_seen (λ n. n) es sorted
 pub none_sorted : IsStrictlySortedBy string_cmp (keys_of {K = String Global} {X = ℕ} [])
 unfolding IsStrictlySortedBy
 none_sorted = tt
-
--- no postings
-pub no_docs : object (frequencies (map.entries (postings_of []))) ≡ object no_members
-no_docs = ap (λ es. object (frequencies es)) (sorted_entries [] none_sorted)
-
-pub no_df : map.len (postings_of []) ≡ 0
-no_df = len_postings [] none_sorted

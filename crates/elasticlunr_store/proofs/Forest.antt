@@ -4,7 +4,7 @@ use Rattle.std.proofs.lemmas.Bool.{cases_eq, cases_lt}
 use Rattle.std.specs.Str.{bytes_eq}
 use Rattle.std.proofs.Common.{◌≡◌, ◌≢◌, ◌⊎◌, inl, inr, ℕ, suc, ◌+◌, ◌<◌, ◌≤◌, Bool, true, false, [], ◌∷◌, ◌++◌, length, Option, Some, None, option_map, option_and_then, refl, sym, ap, subst, ◌∙◌, arith, true≢false, append-nil, append_assoc, add-zero, le_refl}
 use Rattle.elasticlunr_text.specs.Text.{Text}
-use Rattle.elasticlunr_store.specs.Nodes.{rank, Step, walk, IsForest}
+use Rattle.elasticlunr_store.specs.Trie.{rank, Step, walk, IsForest}
 use Rattle.elasticlunr_store.specs.declared.inverted_index.nodes.Place.{Place}
 use Rattle.elasticlunr_store.specs.declared.inverted_index.nodes.Place.TheVariants.{Root, At}
 
@@ -130,13 +130,13 @@ module _ (step : Step) (n : ℕ) (forest : IsForest step n) where
       let front = same v one.0 one.2 (two.2 ∙ ap Some (sym place)) in
       λ i. front i ++ letter i ∷ []) t there) s
 
--- `to` is `from`, with the child k of the place p under the character c
+-- `to` is `from`, with the value_of k of the place p under the character c
 pub record Attaches (from to : Step) (p : Place) (c k : ℕ) : Type 0 where
   pub here : to p c ≡ Some k
   pub other_place : (q : Place) (d : ℕ) → q ≢ p → to q d ≡ from q d
   pub other_character : (q : Place) (d : ℕ) → d ≢ c → to q d ≡ from q d
 
--- a node that is not made yet has no child
+-- a node that is not made yet has no value_of
 abbrev pub IsBlankFrom : Step → ℕ → Type 0
 IsBlankFrom step n = (k d : ℕ) → n ≤ k → step (At k) d ≡ None
 
@@ -194,7 +194,7 @@ module _ (from to : Step) (n : ℕ) (forest : IsForest from n) (blank : IsBlankF
   pub attached_blank : IsBlankFrom to (suc n)
   attached_blank k d h = attaches.other_place (At k) d (λ e. let r : rank (At k) ≡ rank p = ap rank e in omega (arith, low)) ∙ blank k d (omega arith)
 
-  -- the new node has no child yet
+  -- the new node has no value_of yet
   pub attached_leaf : (d : ℕ) → to (At n) d ≡ None
   attached_leaf d = attaches.other_place (At n) d (λ h. let r : rank (At n) ≡ rank p = ap rank h in omega (arith, low)) ∙ blank n d (omega arith)
 
@@ -304,7 +304,7 @@ grown (c ∷ cs) t from to n p forest blank leads free (mid, attaches, more) =
       ];
     }
 
--- `to` has the nodes k, k + 1 and so on below the place p, one under each character of cs, and there no other child
+-- `to` has the nodes k, k + 1 and so on below the place p, one under each character of cs, and there no other value_of
 abbrev pub Chains : Step → Step → Place → ℕ → Text → Type 0
 Chains from to p k [] = (d : ℕ) → to p d ≡ from p d
 Chains from to p k (c ∷ cs) = (to p c ≡ Some k) × ((d : ℕ) → d ≢ c → to p d ≡ from p d) × Chains from to (At k) (suc k) cs

@@ -1,4 +1,9 @@
 -- The tree of a place, as the list of its members, is its tree in the table.
+use Rattle.elasticlunr_store.specs.Pairs.{key_at, IsStrictlySorted}
+use Rattle.elasticlunr_store.specs.Names.{Names}
+use Rattle.elasticlunr_store.specs.Children.{Children, child}
+use Rattle.elasticlunr_store.specs.Nodes.{children_of}
+use Rattle.elasticlunr_store.specs.Trie.{children_at, entries_at, step_of, walk, table_of, IsTrie, named}
 use Rattle.std.proofs.Common.{◌≡◌, ◌≢◌, inl, inr, ℕ, zero, suc, ◌+◌, ◌<◌, ◌≤◌, List, [], ◌∷◌, ◌++◌, length, Option, Some, None, is_some, option_map, option_and_then, codes, encode_utf8, cond, refl, sym, ap, subst, ◌∙◌, arith, Less, Equal, Greater, ne_eqb}
 use Rattle.std.proofs.lemmas.Bool.{cases_eq, eq-eqb, cases_lt, lt-ltb, le-ltb}
 use Rattle.std.proofs.lemmas.Cmp.{nat_list_cmp_total, tied_itself}
@@ -9,10 +14,8 @@ use Rattle.std.specs.FinMap as map
 use Rattle.serde_json.specs.Data.{Data, object, number, unsigned, Members, member}
 use Rattle.serde_json.specs.Find.{get_member}
 use Rattle.elasticlunr_text.specs.Text.{Text}
-use Rattle.elasticlunr_store.specs.Table.{Postings, knows, postings_of}
-use Rattle.elasticlunr_store.specs.Children.{Children, child, key_at, IsStrictlySorted}
+use Rattle.elasticlunr_store.specs.Table.{Postings, knows}
 use Rattle.elasticlunr_store.specs.Tree.{IsTree, AreParts, IsBelow, HasKeysInOrder, frequencies}
-use Rattle.elasticlunr_store.specs.Nodes.{children_of, children_at, entries_at, step_of, walk, table_of, IsTrie}
 use Rattle.elasticlunr_store.specs.Printed.{children_members, postings_before, place_members, tree_of, part, HasTrees}
 use Rattle.elasticlunr_store.proofs.Forest.{walk_push, walk_to, last_step}
 use Rattle.elasticlunr_store.proofs.Tables.{In, knows_walk, postings_walk, text_tie}
@@ -159,34 +162,34 @@ module _ (value : ℕ → Data) where
 
 -- ---- the tree of a place
 
-module _ (root : Children) (nodes : List Node) (trie : IsTrie root nodes) (t : Text) (p : Place) (leads : walk (step_of root nodes) Root t ≡ Some p) (value : ℕ → Data)
-    (trees : (c k : ℕ) → step_of root nodes p c ≡ Some k → IsTree (table_of root nodes) (t ++ c ∷ []) (value k)) where
+module _ (root : Children) (nodes : List Node) (trie : IsTrie root nodes) (names : Names) (t : Text) (p : Place) (leads : walk (step_of root nodes) Root t ≡ Some p) (value : ℕ → Data)
+    (trees : (c k : ℕ) → step_of root nodes p c ≡ Some k → IsTree (table_of root nodes names) (t ++ c ∷ []) (value k)) where
   abbrev P : Postings
-  P = postings_of (entries_at root nodes p)
+  P = named names (entries_at root nodes p)
 
-  child_parts : (es : Children) → ((c k : ℕ) → In (c, k) es → step_of root nodes p c ≡ Some k) → AreParts (table_of root nodes) t (children_members value es)
+  child_parts : (es : Children) → ((c k : ℕ) → In (c, k) es → step_of root nodes p c ≡ Some k) → AreParts (table_of root nodes names) t (children_members value es)
   child_parts [] h = tt
   child_parts ((c, k) ∷ es) h = (inr (inr (c, refl, trees c k (h c k (inl refl)))), child_parts es (λ d j there. h d j (inr there)))
 
-  parts : (es : Children) → ((c k : ℕ) → In (c, k) es → step_of root nodes p c ≡ Some k) → AreParts (table_of root nodes) t (place_members value P es)
-  parts = members_by value P (λ es ms. ((c k : ℕ) → In (c, k) es → step_of root nodes p c ≡ Some k) → AreParts (table_of root nodes) t ms)
+  parts : (es : Children) → ((c k : ℕ) → In (c, k) es → step_of root nodes p c ≡ Some k) → AreParts (table_of root nodes names) t (place_members value P es)
+  parts = members_by value P (λ es ms. ((c k : ℕ) → In (c, k) es → step_of root nodes p c ≡ Some k) → AreParts (table_of root nodes names) t ms)
       (λ es all h. (inr (inl refl), (inl refl, child_parts es h)))
       (λ c k es low more h. (inr (inr (c, refl, trees c k (h c k (inl refl)))), more (λ d j there. h d j (inr there))))
 
-  same_known : (c : ℕ) → knows (table_of root nodes) (t ++ c ∷ []) ≡ is_some (get_member (encode_utf8 c) (place_members value P (children_at root nodes p)))
+  same_known : (c : ℕ) → knows (table_of root nodes names) (t ++ c ∷ []) ≡ is_some (get_member (encode_utf8 c) (place_members value P (children_at root nodes p)))
   same_known c =
-      knows_walk root nodes trie (t ++ c ∷ []) ∙ ap is_some (walk_push (step_of root nodes) t Root c ∙ ap (option_and_then (last_step (step_of root nodes) c)) leads)
+      knows_walk root nodes trie names (t ++ c ∷ []) ∙ ap is_some (walk_push (step_of root nodes) t Root c ∙ ap (option_and_then (last_step (step_of root nodes) c)) leads)
       ∙ either (step_of root nodes p c) ∙ sym (ap is_some (get_letter value P c (children_at root nodes p)))
     where
       either : (o : Option ℕ) → is_some (option_map At o) ≡ is_some (option_map value o)
       either None = refl
       either (Some k) = refl
 
-  pub place_tree : IsTree (table_of root nodes) t (object (place_members value P (children_at root nodes p)))
+  pub place_tree : IsTree (table_of root nodes names) t (object (place_members value P (children_at root nodes p)))
   place_tree =
       let es = children_at root nodes p in
       let rising = are_rising es (trie.in_order p) in
-      let here = sym (postings_walk root nodes trie t p leads) in (
+      let here = sym (postings_walk root nodes trie names t p leads) in (
         ordered value P es rising,
         get_docs value P es ∙ ap (λ Q. Some (object (frequencies (map.entries Q)))) here,
         get_df value P es ∙ ap (λ Q. Some (number (unsigned (map.len Q)))) here,
@@ -194,16 +197,16 @@ module _ (root : Children) (nodes : List Node) (trie : IsTrie root nodes) (t : T
         parts es (λ c k there. found es rising c k there),
       )
 
-module _ (root : Children) (nodes : List Node) (trie : IsTrie root nodes) where
+module _ (root : Children) (nodes : List Node) (trie : IsTrie root nodes) (names : Names) where
   -- a tree that is deep enough is whole
-  tree_at : (n : ℕ) (t : Text) (k : ℕ) → walk (step_of root nodes) Root t ≡ Some (At k) → length nodes ≤ n + suc k → IsTree (table_of root nodes) t (tree_of nodes n k)
-  tree_at zero t k leads deep = place_tree root nodes trie t (At k) leads _ (λ c j step. absurd (omega (arith, trie.forest.higher (At k) c j step, trie.forest.is_node (At k) c j step)))
-  tree_at (suc n) t k leads deep = place_tree root nodes trie t (At k) leads (tree_of nodes n)
+  tree_at : (n : ℕ) (t : Text) (k : ℕ) → walk (step_of root nodes) Root t ≡ Some (At k) → length nodes ≤ n + suc k → IsTree (table_of root nodes names) t (tree_of names nodes n k)
+  tree_at zero t k leads deep = place_tree root nodes trie names t (At k) leads _ (λ c j step. absurd (omega (arith, trie.forest.higher (At k) c j step, trie.forest.is_node (At k) c j step)))
+  tree_at (suc n) t k leads deep = place_tree root nodes trie names t (At k) leads (tree_of names nodes n)
       (λ c j step. tree_at n (t ++ c ∷ []) j (walk_to (step_of root nodes) t c j Root (At k) leads step) (omega (arith, trie.forest.higher (At k) c j step)))
 
-  pub root_tree : IsTree (table_of root nodes) [] (object (place_members (part nodes) (postings_of []) root))
+  pub root_tree : IsTree (table_of root nodes names) [] (object (place_members (part names nodes) (named names map.empty) root))
   unfolding part
-  root_tree = place_tree root nodes trie [] Root refl (part nodes) (λ c k step. tree_at (length nodes) (c ∷ []) k (walk_to (step_of root nodes) [] c k Root Root refl step) (omega arith))
+  root_tree = place_tree root nodes trie names [] Root refl (part names nodes) (λ c k step. tree_at (length nodes) (c ∷ []) k (walk_to (step_of root nodes) [] c k Root Root refl step) (omega arith))
 
   -- the depth makes no difference
   same_children : (value other : ℕ → Data) (es : Children) → ((c k : ℕ) → In (c, k) es → value k ≡ other k) → children_members value es ≡ children_members other es
@@ -220,13 +223,13 @@ module _ (root : Children) (nodes : List Node) (trie : IsTrie root nodes) where
   child_of : (k c j : ℕ) → In (c, j) (children_of (slice_get nodes k)) → step_of root nodes (At k) c ≡ Some j
   child_of k c j there = found (children_of (slice_get nodes k)) (are_rising _ (trie.in_order (At k))) c j there
 
-  deep_enough : (n m k : ℕ) → length nodes ≤ n + suc k → length nodes ≤ m + suc k → tree_of nodes n k ≡ tree_of nodes m k
+  deep_enough : (n m k : ℕ) → length nodes ≤ n + suc k → length nodes ≤ m + suc k → tree_of names nodes n k ≡ tree_of names nodes m k
   deep_enough zero zero k h g = refl
   deep_enough zero (suc m) k h g = ap object (same_members _ _ _ (children_of (slice_get nodes k)) (λ c j there. absurd (omega (arith, h, trie.forest.higher (At k) c j (child_of k c j there), trie.forest.is_node (At k) c j (child_of k c j there)))))
   deep_enough (suc n) zero k h g = ap object (same_members _ _ _ (children_of (slice_get nodes k)) (λ c j there. absurd (omega (arith, g, trie.forest.higher (At k) c j (child_of k c j there), trie.forest.is_node (At k) c j (child_of k c j there)))))
   deep_enough (suc n) (suc m) k h g = ap object (same_members _ _ _ (children_of (slice_get nodes k))
       (λ c j there. deep_enough n m j (omega (arith, h, trie.forest.higher (At k) c j (child_of k c j there))) (omega (arith, g, trie.forest.higher (At k) c j (child_of k c j there)))))
 
-  pub has_trees : HasTrees nodes
+  pub has_trees : HasTrees names nodes
   unfolding part
   has_trees k = deep_enough (length nodes) (suc (length nodes)) k (omega arith) (omega arith)

@@ -17,7 +17,8 @@ use Rattle.serde_json.specs.Events.{members_len}
 use Rattle.serde_json.specs.View.{view, members_view}
 use Rattle.serde_json.proofs.Views.{Entry, get_member-put, get_member-put_other}
 use Rattle.serde_json.specs.declared.value.Value.{Value}
-use Rattle.elasticlunr_store.specs.Children.{Children, child, IsGapFor, IsStrictlySorted}
+use Rattle.elasticlunr_store.specs.Pairs.{IsGapFor, IsStrictlySorted}
+use Rattle.elasticlunr_store.specs.Children.{Children, child}
 use Rattle.elasticlunr_store.specs.Table.{Entries}
 use Rattle.elasticlunr_store.specs.Tree.{frequency, frequencies}
 use Rattle.elasticlunr_store.specs.Finished.{value_at}

@@ -13,7 +13,7 @@ use Rattle.elasticlunr_store.specs.Options.{FieldMap, IsPart, ReadsAt, ReadsFiel
 use Rattle.elasticlunr_store.specs.declared.config.SearchOptionsField.{SearchOptionsField}
 use Rattle.elasticlunr_store.proofs.Forest.{same_or_not}
 use Rattle.elasticlunr_store.proofs.Seen.{text_tied}
-use Rattle.elasticlunr_store.proofs.Postings.{no_tie}
+use Rattle.elasticlunr_store.proofs.Tables.{no_tie}
 use Rattle.elasticlunr_store.proofs.Reading.{found_among}
 
 -- a value that is none of a part's

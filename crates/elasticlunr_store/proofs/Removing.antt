@@ -1,102 +1,107 @@
 -- One posting is taken away.
-use Rattle.std.proofs.Common.{◌≡◌, ◌≢◌, ◌⊎◌, inl, inr, ℕ, ◌<◌, List, length, set, get_or, Option, Some, None, is_some, refl, sym, ap, subst, ◌∙◌, length-set}
+use Rattle.std.proofs.Common.{◌≡◌, ◌≢◌, ◌⊎◌, inl, inr, ℕ, IsTrue, List, length, Option, Some, None, option_and_then, is_some, refl, sym, ap, subst, ◌∙◌}
 use Rattle.std.proofs.lemmas.Bool.{cases_eq}
-use Rattle.std.specs.List.{slice_get}
+use Rattle.std.specs.FinMap.{get, remove}
 use Rattle.elasticlunr_text.specs.Text.{Text, Bytes}
 use Rattle.elasticlunr_store.specs.Table.{knows, posting, RemovesToken}
-use Rattle.elasticlunr_store.specs.Children.{Children}
-use Rattle.elasticlunr_store.specs.Nodes.{at, children_of, entries_of, children_at, entries_at, step_of, walk, table_of, IsTrie, AreSmall, ClearsPosting, RemovesPosting}
+use Rattle.elasticlunr_store.specs.Pairs.{Pairs}
+use Rattle.elasticlunr_store.specs.Names.{Names, at, number_of}
+use Rattle.elasticlunr_store.specs.Nodes.{postings_at, list_at, has, AreListed, ClearsNumber, KeepsOtherNodes}
+use Rattle.elasticlunr_store.specs.Trie.{entries_at, step_of, walk, table_of, IsTrie, RemovesPosting}
 use Rattle.elasticlunr_store.specs.declared.inverted_index.nodes.Node.{Node}
+use Rattle.elasticlunr_store.specs.declared.inverted_index.nodes.Reference.{Reference}
 use Rattle.elasticlunr_store.specs.declared.inverted_index.nodes.Place.{Place}
 use Rattle.elasticlunr_store.specs.declared.inverted_index.nodes.Place.TheVariants.{Root, At}
-use Rattle.elasticlunr_store.proofs.Places.{get_set, get_set_other, get_there}
 use Rattle.elasticlunr_store.proofs.Forest.{one_path, same_or_not}
 use Rattle.elasticlunr_store.proofs.Tables.{knows_walk}
 use Rattle.elasticlunr_store.proofs.Adding.{posting_walk, posting_none}
-use Rattle.elasticlunr_store.proofs.Settled.{same_steps, settled_trie}
+use Rattle.elasticlunr_store.proofs.Removed.{removed_here, removed_other, one_name}
+use Rattle.elasticlunr_store.proofs.Settled.{bare_root, same_walk, settled_trie}
 
--- one node is written over
-pub clears_at : (ns : List Node) (k : ℕ) (was two : Node) (r : Bytes) → k < length ns → was ≡ get_or ns k was → two.children.items ≡ was.children.items → at r two.postings.entries ≡ None
-    → ((q : Bytes) → q ≢ r → at q two.postings.entries ≡ at q was.postings.entries) → ClearsPosting ns (set ns k two) k r
-clears_at ns k was two r in_range here same gone others =
-    let was_there : slice_get ns k ≡ Some was = get_there ns k was in_range ∙ ap Some (sym here) in
-    let now : slice_get (set ns k two) k ≡ Some two = get_set ns k two in_range in
-    record {
-      count = length-set ns k two;
-      children = λ j. elim (cases_eq j k) [
-        | inl e ↦ subst (λ x. children_of (slice_get (set ns k two) x) ≡ children_of (slice_get ns x)) (sym e) (ap children_of now ∙ same ∙ sym (ap children_of was_there))
-        | inr apart ↦ ap children_of (get_set_other ns j k two apart)
+module _ (root : Pairs) (names : Names) (old new : List Node) (t : Text) (r : Bytes) where
+  module _ (k n : ℕ) (leads : walk (step_of root old) Root t ≡ Some (At k)) (numbered : number_of names r ≡ Some n) (clears : ClearsNumber old new k n) where
+    here : at names r (postings_at new k) ≡ None
+    here = ap (λ o. option_and_then (λ m. get (postings_at new k) m) o) numbered ∙ ap (λ P. get P n) clears.here ∙ removed_here (postings_at old k) n
+
+    other_name : (q : Bytes) → q ≢ r → at names q (postings_at new k) ≡ at names q (postings_at old k)
+    other_name q apart = by (number_of names q) refl
+      where
+        by : (o : Option ℕ) → number_of names q ≡ o → option_and_then (λ m. get (postings_at new k) m) o ≡ option_and_then (λ m. get (postings_at old k) m) o
+        by None is = refl
+        by (Some m) is = ap (λ P. get P m) clears.here ∙ removed_other (postings_at old k) n m (λ same. apart (one_name names q r n (is ∙ ap Some same) numbered))
+
+    pub clears_text : RemovesPosting root names old new t r
+    clears_text = record {
+      shape = clears.shape;
+      gone = λ j there. let both : Some (At j) ≡ Some (At k) = sym there ∙ leads in let same : j ≡ k = cc in subst (λ x. at names r (postings_at new x) ≡ None) (sym same) here;
+      others = λ j q other. elim (cases_eq j k) [
+        | inr apart ↦ ap (at names q) (clears.elsewhere j apart)
+        | inl same ↦ subst (λ x. at names q (postings_at new x) ≡ at names q (postings_at old x)) (sym same)
+            (other_name q (λ e. other (leads ∙ ap (λ x. Some (At x)) (sym same), e)))
       ];
-      other_nodes = λ j apart. ap entries_of (get_set_other ns j k two apart);
-      gone = ap (λ o. at r (entries_of o)) now ∙ gone;
-      others = λ q other. ap (λ o. at q (entries_of o)) now ∙ others q other ∙ sym (ap (λ o. at q (entries_of o)) was_there);
     }
 
-pub clears_text : (root : Children) (old new : List Node) (t : Text) (k : ℕ) (r : Bytes) → walk (step_of root old) Root t ≡ Some (At k) → ClearsPosting old new k r → RemovesPosting root old new t r
-clears_text root old new t k r leads clears = record {
-  count = clears.count;
-  children = clears.children;
-  gone = λ j there. let both : Some (At j) ≡ Some (At k) = sym there ∙ leads in let same : j ≡ k = cc in subst (λ x. at r (entries_of (slice_get new x)) ≡ None) (sym same) clears.gone;
-  others = λ j q other. elim (cases_eq j k) [
-    | inr apart ↦ ap (at q) (clears.other_nodes j apart)
-    | inl same ↦ subst (λ x. at q (entries_of (slice_get new x)) ≡ at q (entries_of (slice_get old x))) (sym same)
-        (clears.others q (λ e. other (leads ∙ ap (λ x. Some (At x)) (sym same), e)))
-  ];
+pub nothing_there : (root : Pairs) (names : Names) (old : List Node) (t : Text) (r : Bytes) → ((k : ℕ) → walk (step_of root old) Root t ≡ Some (At k) → ⊥) → RemovesPosting root names old old t r
+nothing_there root names old t r none = record { shape = record { count = refl; children = λ j. refl }; gone = λ k there. absurd (none k there); others = λ k q other. refl }
+
+pub nobody_there : (root : Pairs) (names : Names) (old : List Node) (t : Text) (r : Bytes) → number_of names r ≡ None → RemovesPosting root names old old t r
+nobody_there root names old t r none = record {
+  shape = record { count = refl; children = λ j. refl };
+  gone = λ k there. ap (λ o. option_and_then (λ m. get (postings_at old k) m) o) none;
+  others = λ k q other. refl;
 }
 
-pub nothing_there : (root : Children) (old : List Node) (t : Text) (r : Bytes) → ((k : ℕ) → walk (step_of root old) Root t ≡ Some (At k) → ⊥) → RemovesPosting root old old t r
-nothing_there root old t r none = record { count = refl; children = λ j. refl; gone = λ k there. absurd (none k there); others = λ k q other. refl }
+-- the lists of the other postings stay
+pub cleared_listed : (names : Names) (references references2 : List Reference) (nodes nodes2 : List Node) (k n : ℕ) → AreListed names references nodes → ClearsNumber nodes nodes2 k n → KeepsOtherNodes references references2 n k → AreListed names references2 nodes2
+cleared_listed names references references2 nodes nodes2 k n are clears keeps = record {
+  listed = λ j m f e. keeps m j (other j m f e) (are.listed j m f (was j m f e));
+  named = λ j m f e. are.named j m f (was j m f e);
+  small = λ j m f e. are.small j m f (was j m f e);
+}
+  where
+    other : (j m f : ℕ) → get (postings_at nodes2 j) m ≡ Some f → ((m ≡ n) × (j ≡ k)) → ⊥
+    other j m f e both =
+        let none : get (postings_at nodes2 j) m ≡ None = ap (λ x. get (postings_at nodes2 x) m) both.1 ∙ ap (λ P. get P m) clears.here ∙ ap (get (remove (postings_at nodes k) n)) both.0 ∙ removed_here (postings_at nodes k) n in
+        cc
 
-module _ (root : Children) (nodes : List Node) (trie : IsTrie root nodes) (nodes2 : List Node) (t : Text) (r : Bytes) (removes : RemovesPosting root nodes nodes2 t r) where
-  children : (q : Place) → children_at root nodes2 q ≡ children_at root nodes q
-  children Root = refl
-  children (At k) = removes.children k
-
-  removed_small : (q : Place) → AreSmall (entries_at root nodes2 q)
-  removed_small Root = trie.small Root
-  removed_small (At k) = by
-    where
-      leads : (o : Option Place) → walk (step_of root nodes) Root t ≡ o → ((o ≡ Some (At k)) ⊎ (o ≡ Some (At k) → ⊥))
-      leads None is = inr (λ h. cc)
-      leads (Some Root) is = inr (λ h. cc)
-      leads (Some (At j)) is = elim (cases_eq j k) [ inl same ↦ inl (ap (λ x. Some (At x)) same) | inr apart ↦ inr (λ h. apart (cc)) ]
-
-      by : AreSmall (entries_of (slice_get nodes2 k))
-      by q n e = elim (same_or_not q r) [
-        | inr apart ↦ trie.small (At k) q n (sym (removes.others k q (λ both. apart both.1)) ∙ e)
-        | inl same ↦ elim (leads (walk (step_of root nodes) Root t) refl) [
-          | inl there ↦ let none = sym (removes.gone k there) ∙ ap (λ x. at x (entries_of (slice_get nodes2 k))) (sym same) ∙ e in absurd (cc)
-          | inr away ↦ trie.small (At k) q n (sym (removes.others k q (λ both. away both.0)) ∙ e)
-        ]
+    was : (j m f : ℕ) → get (postings_at nodes2 j) m ≡ Some f → get (postings_at nodes j) m ≡ Some f
+    was j m f e = elim (cases_eq j k) [
+      | inr apart ↦ ap (λ P. get P m) (sym (clears.elsewhere j apart)) ∙ e
+      | inl same ↦ elim (cases_eq m n) [
+        | inl is ↦ absurd (other j m f e (is, same))
+        | inr apart ↦
+            ap (λ x. get (postings_at nodes x) m) same ∙ sym (removed_other (postings_at nodes k) n m apart) ∙ ap (λ P. get P m) (sym clears.here) ∙ ap (λ x. get (postings_at nodes2 x) m) (sym same) ∙ e
       ]
+    ]
 
+module _ (root : Pairs) (nodes : List Node) (trie : IsTrie root nodes) (names : Names) (nodes2 : List Node) (t : Text) (r : Bytes) (removes : RemovesPosting root names nodes nodes2 t r) where
   pub removed_trie : IsTrie root nodes2
-  removed_trie = settled_trie root nodes trie root nodes2 removes.count children removed_small
+  removed_trie = settled_trie root nodes trie nodes2 removes.shape
 
   steps : (s : Text) → walk (step_of root nodes2) Root s ≡ walk (step_of root nodes) Root s
-  steps s = λ i. walk (sym (same_steps root nodes trie root nodes2 removes.count children) i) Root s
+  steps s = same_walk root nodes trie nodes2 removes.shape s
 
-  pub removed_known : (s : Text) → knows (table_of root nodes2) s ≡ knows (table_of root nodes) s
-  removed_known s = knows_walk root nodes2 removed_trie s ∙ ap is_some (steps s) ∙ sym (knows_walk root nodes trie s)
+  removed_known : (s : Text) → knows (table_of root nodes2 names) s ≡ knows (table_of root nodes names) s
+  removed_known s = knows_walk root nodes2 removed_trie names s ∙ ap is_some (steps s) ∙ sym (knows_walk root nodes trie names s)
 
-  pub removed_gone : posting (table_of root nodes2) t r ≡ None
+  removed_gone : posting (table_of root nodes2 names) t r ≡ None
   removed_gone = by (walk (step_of root nodes) Root t) refl
     where
-      by : (o : Option Place) → walk (step_of root nodes) Root t ≡ o → posting (table_of root nodes2) t r ≡ None
-      by None e = posting_none root nodes2 removed_trie t r (steps t ∙ e)
-      by (Some Root) e = posting_walk root nodes2 removed_trie t Root r (steps t ∙ e)
-      by (Some (At k)) e = posting_walk root nodes2 removed_trie t (At k) r (steps t ∙ e) ∙ removes.gone k e
+      by : (o : Option Place) → walk (step_of root nodes) Root t ≡ o → posting (table_of root nodes2 names) t r ≡ None
+      by None e = posting_none root nodes2 removed_trie names t r (steps t ∙ e)
+      by (Some Root) e = posting_walk root nodes2 removed_trie names t Root r (steps t ∙ e) ∙ bare_root names r _ refl root nodes2
+      by (Some (At k)) e = posting_walk root nodes2 removed_trie names t (At k) r (steps t ∙ e) ∙ removes.gone k e
 
-  pub removed_others : (s : Text) (q : Bytes) → ¬ ((s ≡ t) × (q ≡ r)) → posting (table_of root nodes2) s q ≡ posting (table_of root nodes) s q
+  removed_others : (s : Text) (q : Bytes) → ¬ ((s ≡ t) × (q ≡ r)) → posting (table_of root nodes2 names) s q ≡ posting (table_of root nodes names) s q
   removed_others s q other = by (walk (step_of root nodes) Root s) refl
     where
-      same : (p : Place) → walk (step_of root nodes) Root s ≡ Some p → at q (entries_at root nodes2 p) ≡ at q (entries_at root nodes p)
-      same Root e = refl
+      same : (p : Place) → walk (step_of root nodes) Root s ≡ Some p → at names q (entries_at root nodes2 p) ≡ at names q (entries_at root nodes p)
+      same Root e = bare_root names q _ refl root nodes2 ∙ sym (bare_root names q _ refl root nodes)
       same (At k) e = removes.others k q (λ both. other (one_path (step_of root nodes) (length nodes) trie.forest s t (At k) e both.0, both.1))
 
-      by : (o : Option Place) → walk (step_of root nodes) Root s ≡ o → posting (table_of root nodes2) s q ≡ posting (table_of root nodes) s q
-      by None e = posting_none root nodes2 removed_trie s q (steps s ∙ e) ∙ sym (posting_none root nodes trie s q e)
-      by (Some p) e = posting_walk root nodes2 removed_trie s p q (steps s ∙ e) ∙ same p e ∙ sym (posting_walk root nodes trie s p q e)
+      by : (o : Option Place) → walk (step_of root nodes) Root s ≡ o → posting (table_of root nodes2 names) s q ≡ posting (table_of root nodes names) s q
+      by None e = posting_none root nodes2 removed_trie names s q (steps s ∙ e) ∙ sym (posting_none root nodes trie names s q e)
+      by (Some p) e = posting_walk root nodes2 removed_trie names s p q (steps s ∙ e) ∙ same p e ∙ sym (posting_walk root nodes trie names s p q e)
 
-  pub removed : RemovesToken (table_of root nodes) (table_of root nodes2) t r
+  pub removed : RemovesToken (table_of root nodes names) (table_of root nodes2 names) t r
   removed = record { known = removed_known; gone = removed_gone; others = removed_others }

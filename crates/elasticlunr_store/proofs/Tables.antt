@@ -1,6 +1,6 @@
 -- What the table of numbered nodes has at a text.
 use Rattle.std.proofs.lemmas.Bool.{cases_eq, eq-eqb}
-use Rattle.std.proofs.Common.{◌≡◌, ◌⊎◌, inl, inr, is_some, ne_eqb, ℕ, zero, suc, ◌≤◌, true, false, cond, List, [], ◌∷◌, ◌++◌, map, length, Option, Some, None, option_map, unwrap_or, refl, sym, ap, subst, ◌∙◌, arith}
+use Rattle.std.proofs.Common.{Bool, ◌≢◌, ◌≡◌, ◌⊎◌, inl, inr, is_some, ne_eqb, ℕ, zero, suc, ◌≤◌, true, false, cond, List, [], ◌∷◌, ◌++◌, map, length, Option, Some, None, option_map, option_and_then, slice_get, unwrap_or, refl, sym, ap, subst, ◌∙◌, arith}
 use Rattle.std.specs.Ordering.{nat_cmp, eq_by_cmp, is_eq}
 use Rattle.std.specs.Cmp.Lexicographic.{slice_cmp}
 use Rattle.std.specs.FinMap.{find, get, empty, from_entries, get-from_entries}
@@ -8,9 +8,12 @@ use Rattle.std.proofs.lemmas.Cmp.{nat_list_cmp_total, tied_itself}
 use Rattle.std.proofs.lemmas.Map.Text.{is_eq-slice_cmp}
 use Rattle.std.proofs.lemmas.Slice.Eq.{bytes_eq-Decides}
 use Rattle.elasticlunr_text.specs.Text.{Text}
-use Rattle.elasticlunr_store.specs.Table.{Postings, knows, postings, postings_of}
-use Rattle.elasticlunr_store.specs.Children.{Children, child, IsStrictlySorted}
-use Rattle.elasticlunr_store.specs.Nodes.{pairs, given, branches, children_at, entries_at, step_of, walk, look, paths, table_of, IsTrie, AreSmall}
+use Rattle.elasticlunr_store.specs.Table.{Postings, knows, postings}
+use Rattle.elasticlunr_store.specs.Pairs.{Pairs, value_of, IsStrictlySorted}
+use Rattle.elasticlunr_store.specs.Frequencies.{Frequencies}
+use Rattle.elasticlunr_store.specs.Names.{Names, number_of, at}
+use Rattle.elasticlunr_store.specs.Trie.{pairs, given, branches, children_at, entries_at, step_of, walk, look, named, paths, table_of, IsTrie}
+use Rattle.elasticlunr_store.proofs.Removed.{number-name}
 use Rattle.elasticlunr_store.proofs.Forest.{walk_cons, rises, within}
 use Rattle.elasticlunr_store.specs.declared.inverted_index.nodes.Node.{Node}
 use Rattle.elasticlunr_store.specs.declared.inverted_index.nodes.Place.{Place}
@@ -82,21 +85,21 @@ get_pairs f q ts listed =
       | Some x ↦ λ is. find_some f q x ts is (listed x is)
     ] refl
 
--- a child's text stands among the branches
-in_branches : (from : ℕ → List Text) (es : Children) (c k : ℕ) (t : Text) → child es c ≡ Some k → In t (from k) → In (c ∷ t) (branches from es)
+-- a value_of's text stands among the branches
+in_branches : (from : ℕ → List Text) (es : Pairs) (c k : ℕ) (t : Text) → value_of es c ≡ Some k → In t (from k) → In (c ∷ t) (branches from es)
 in_branches from [] c k t e h = absurd (cc)
 in_branches from ((d, j) ∷ es) c k t e h =
     elim (cases_eq d c) [
       | inl same ↦
-          let number : Some j ≡ Some k = sym (ap (λ b. cond b (Some j) (child es c)) (eq-eqb d c same)) ∙ e in
+          let number : Some j ≡ Some k = sym (ap (λ b. cond b (Some j) (value_of es c)) (eq-eqb d c same)) ∙ e in
           let here : j ≡ k = cc in
           in_left _ _ _ (subst (λ x. In (x ∷ t) (map (λ u. d ∷ u) (from j))) same (in_map (λ u. d ∷ u) t (from j) (subst (λ x. In t (from x)) (sym here) h)))
       | inr other ↦
-          let later : child es c ≡ Some k = sym (ap (λ b. cond b (Some j) (child es c)) (ne_eqb d c other)) ∙ e in
+          let later : value_of es c ≡ Some k = sym (ap (λ b. cond b (Some j) (value_of es c)) (ne_eqb d c other)) ∙ e in
           in_right _ _ _ (in_branches from es c k t later h)
     ]
 
-module _ (root : Children) (nodes : List Node) where
+module _ (root : Pairs) (nodes : List Node) where
   in_paths : (n : ℕ) (p q : Place) (t : Text) → walk (step_of root nodes) p t ≡ Some q → length t ≤ n → In t (paths root nodes n p)
   in_paths zero p q [] e h = inl refl
   in_paths (suc n) p q [] e h = inl refl
@@ -105,8 +108,8 @@ module _ (root : Children) (nodes : List Node) where
       let step = walk_cons (step_of root nodes) p q c t e in
       inr (in_branches _ _ c step.0 t step.1 (in_paths n (At step.0) q t step.2 (omega arith)))
 
-module _ (root : Children) (nodes : List Node) (trie : IsTrie root nodes) where
-  walked : (t : Text) (o : Option Place) → walk (step_of root nodes) Root t ≡ o → (x : Postings) → option_map (λ p. postings_of (entries_at root nodes p)) o ≡ Some x → In t (paths root nodes (length nodes) Root)
+module _ (root : Pairs) (nodes : List Node) (trie : IsTrie root nodes) (names : Names) where
+  walked : (t : Text) (o : Option Place) → walk (step_of root nodes) Root t ≡ o → (x : Postings) → option_map (λ p. named names (entries_at root nodes p)) o ≡ Some x → In t (paths root nodes (length nodes) Root)
   walked t None is x e = absurd (cc)
   walked t (Some q) is x e =
       let far = rises _ _ trie.forest t Root q is in
@@ -114,24 +117,38 @@ module _ (root : Children) (nodes : List Node) (trie : IsTrie root nodes) where
       in_paths root nodes (length nodes) Root q t is (omega arith)
 
   -- the table has at each text what its path leads to
-  pub get_table : (t : Text) → get (table_of root nodes) t ≡ look root nodes t
+  pub get_table : (t : Text) → get (table_of root nodes names) t ≡ look root nodes names t
   unfolding table_of
-  get_table t = get_pairs (look root nodes) t _ (λ x e. walked t _ refl x e)
+  get_table t = get_pairs (look root nodes names) t _ (λ x e. walked t _ refl x e)
 
   some_either : {A B : Type 0} (o : Option A) (f : A → B) → is_some (option_map f o) ≡ is_some o
   some_either None f = refl
   some_either (Some x) f = refl
 
   -- a text is known where its path leads somewhere
-  pub knows_walk : (t : Text) → knows (table_of root nodes) t ≡ is_some (walk (step_of root nodes) Root t)
+  pub knows_walk : (t : Text) → knows (table_of root nodes names) t ≡ is_some (walk (step_of root nodes) Root t)
   knows_walk t = ap is_some (get_table t) ∙ some_either (walk (step_of root nodes) Root t) _
 
   -- and its postings are those of the place where it leads
-  pub postings_walk : (t : Text) (p : Place) → walk (step_of root nodes) Root t ≡ Some p → postings (table_of root nodes) t ≡ postings_of (entries_at root nodes p)
-  postings_walk t p e = ap (λ o. unwrap_or o empty) (get_table t ∙ ap (option_map (λ q. postings_of (entries_at root nodes q))) e)
+  pub postings_walk : (t : Text) (p : Place) → walk (step_of root nodes) Root t ≡ Some p → postings (table_of root nodes names) t ≡ named names (entries_at root nodes p)
+  postings_walk t p e = ap (λ o. unwrap_or o empty) (get_table t ∙ ap (option_map (λ q. named names (entries_at root nodes q))) e)
 
-  pub no_postings : (t : Text) → walk (step_of root nodes) Root t ≡ None → postings (table_of root nodes) t ≡ empty
-  no_postings t e = ap (λ o. unwrap_or o empty) (get_table t ∙ ap (option_map (λ q. postings_of (entries_at root nodes q))) e)
+  pub no_postings : (t : Text) → walk (step_of root nodes) Root t ≡ None → postings (table_of root nodes names) t ≡ empty
+  no_postings t e = ap (λ o. unwrap_or o empty) (get_table t ∙ ap (option_map (λ q. named names (entries_at root nodes q))) e)
+
+-- a name that has a number is one of the names
+in_names : (names : Names) (r : Text) (n : ℕ) → slice_get names n ≡ Some r → In r names
+in_names [] r n e = absurd (cc)
+in_names (name ∷ names) r zero e = let same : name ≡ r = cc in inl (sym same)
+in_names (name ∷ names) r (suc n) e = inr (in_names names r n e)
+
+-- the posting that frequencies by number have under a name
+pub get_named : (names : Names) (P : Frequencies) (r : Text) → get (named names P) r ≡ at names r P
+get_named names P r = get_pairs (λ q. at names q P) r names (λ x e. by (number_of names r) refl x e)
+  where
+    by : (o : Option ℕ) → number_of names r ≡ o → (x : ℕ) → option_and_then (λ n. get P n) o ≡ Some x → In r names
+    by None is x e = absurd (cc)
+    by (Some n) is x e = in_names names r n (number-name names r n is)
 
 -- no nodes
 pub empty_trie : IsTrie [] []
@@ -144,13 +161,8 @@ empty_trie = record {
     one_character = λ p q c d k e f. absurd (none p c k e);
   };
   characters = λ p c k e. absurd (none p c k e);
-  small = small;
 }
   where
-    small : (p : Place) → AreSmall (entries_at [] [] p)
-    small Root = λ r n e. absurd (cc)
-    small (At k) = λ r n e. absurd (cc)
-
     none : (p : Place) (c k : ℕ) → step_of [] [] p c ≡ Some k → ⊥
     none Root c k e = cc
     none (At j) c k e = cc
@@ -158,3 +170,11 @@ empty_trie = record {
     by : (p : Place) → IsStrictlySorted (children_at [] [] p)
     by Root i j lt in_range = absurd (omega arith)
     by (At k) i j lt in_range = absurd (omega arith)
+
+-- texts that differ do not tie
+pub no_tie : (q r : Text) → q ≢ r → eq_by_cmp (slice_cmp nat_cmp) q r ≡ false
+no_tie q r apart = by (eq_by_cmp (slice_cmp nat_cmp) q r) refl
+  where
+    by : (b : Bool) → eq_by_cmp (slice_cmp nat_cmp) q r ≡ b → eq_by_cmp (slice_cmp nat_cmp) q r ≡ false
+    by true e = absurd (apart (text_tie q r e))
+    by false e = e

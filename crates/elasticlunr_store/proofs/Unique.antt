@@ -1,4 +1,7 @@
 -- A value is the trie value of one table at most.
+use Rattle.elasticlunr_store.specs.Names.{Names}
+use Rattle.elasticlunr_store.specs.Children.{Children}
+use Rattle.elasticlunr_store.specs.Trie.{IsTrie, table_of, step_of, walk}
 use Rattle.std.proofs.Common.{◌≡◌, inl, inr, ℕ, Bool, true, false, List, [], ◌∷◌, ◌++◌, Option, Some, None, IsTrue, is_some, unwrap_or, encode_utf8, refl, sym, ap, subst, ◌∙◌, arith, append_assoc, append-nil, Less, Equal, Greater}
 use mathlib.Core.Bool.{false≢true}
 use Rattle.std.specs.Ordering.{nat_cmp, match_ordering, is_eq}
@@ -9,8 +12,6 @@ use Rattle.serde_json.specs.Find.{get_member}
 use Rattle.elasticlunr_text.specs.Text.{Text}
 use Rattle.elasticlunr_store.specs.Table.{Table, Postings, knows, postings, IsPrefix, IsTable}
 use Rattle.elasticlunr_store.specs.Tree.{IsTree, AreParts, IsTrieValue, frequency, frequencies}
-use Rattle.elasticlunr_store.specs.Children.{Children}
-use Rattle.elasticlunr_store.specs.Nodes.{IsTrie, table_of, step_of, walk}
 use Rattle.elasticlunr_store.specs.declared.inverted_index.nodes.Node.{Node}
 use Rattle.elasticlunr_store.specs.declared.inverted_index.nodes.Place.TheVariants.{Root}
 use Rattle.elasticlunr_store.proofs.Forest.{walk_front}
@@ -108,11 +109,11 @@ one_table T U t_closed u_closed v one two =
     same_table T U (λ t. agree T U t_closed u_closed t [] is.0 t_closed.empty_known u_closed.empty_known (subst (IsTree T []) is.1 one.2) (subst (IsTree U []) is.1 second))
 
 -- the table of nodes knows the beginnings of what it knows
-pub closed_nodes : (root : Children) (nodes : List Node) → IsTrie root nodes → IsClosed (table_of root nodes)
-closed_nodes root nodes trie = record {
-  empty_known = known_from root nodes trie [] Root refl;
+pub closed_nodes : (root : Children) (nodes : List Node) → IsTrie root nodes → (names : Names) → IsClosed (table_of root nodes names)
+closed_nodes root nodes trie names = record {
+  empty_known = known_from root nodes trie names [] Root refl;
   beginnings = λ s t prefix known.
-      let whole = known_to root nodes trie t known in
+      let whole = known_to root nodes trie names t known in
       let front = walk_front (step_of root nodes) s prefix.0 Root whole.0 (ap (walk (step_of root nodes) Root) prefix.1 ∙ whole.1) in
-      known_from root nodes trie s front.0 front.1;
+      known_from root nodes trie names s front.0 front.1;
 }

@@ -11,8 +11,11 @@ use Rattle.serde_json.specs.declared.value.Value.{Value}
 use Rattle.elasticlunr_text.specs.Text.{Text}
 use Rattle.elasticlunr_store.specs.Table.{Table, IsTable, postings, posting, Entries, postings_of}
 use Rattle.elasticlunr_store.specs.Tree.{IsTree, frequencies}
-use Rattle.elasticlunr_store.specs.Children.{Children, child, IsStrictlySorted}
-use Rattle.elasticlunr_store.specs.Nodes.{rank, walk, IsForest, at, children_of, entries_of, children_at, entries_at, step_of, table_of, IsTrie, AreCharacters, AreSmall}
+use Rattle.elasticlunr_store.specs.Pairs.{IsStrictlySorted}
+use Rattle.elasticlunr_store.specs.Names.{Names}
+use Rattle.elasticlunr_store.specs.Children.{Children, child}
+use Rattle.elasticlunr_store.specs.Nodes.{children_of, entries_of}
+use Rattle.elasticlunr_store.specs.Trie.{rank, walk, IsForest, children_at, entries_at, step_of, table_of, IsTrie, AreCharacters, named}
 use Rattle.elasticlunr_store.specs.Finished.{value_at, IsNode}
 use Rattle.elasticlunr_store.specs.Reading.{ReadsNode}
 use Rattle.elasticlunr_store.specs.declared.inverted_index.nodes.Node.{Node}
@@ -22,7 +25,8 @@ use Rattle.elasticlunr_store.proofs.Places.{get_before, get_behind, get_past}
 use Rattle.elasticlunr_store.proofs.Forest.{same_place, walk_to}
 use Rattle.elasticlunr_store.proofs.Finishing.{node_tree}
 use Rattle.elasticlunr_store.proofs.Unique.{part_at, same_docs}
-use Rattle.elasticlunr_store.proofs.Postings.{get_postings_of}
+use Rattle.elasticlunr_store.proofs.Docs.{bytes_of}
+use Rattle.elasticlunr_store.proofs.Named.{no_names}
 
 -- the value that a place is read from
 abbrev pub data_at : Data → List Value → Place → Option Data
@@ -30,19 +34,18 @@ data_at d vs Root = Some d
 data_at d vs (At k) = value_at vs k
 
 -- a place has the children and the entries that its value tells
-pub record HasNode (root : Children) (nodes : List Node) (d : Data) (vs : List Value) (p : Place) : Type 0 where
+pub record HasNode (names : Names) (root : Children) (nodes : List Node) (d : Data) (vs : List Value) (p : Place) : Type 0 where
   pub members : Members
   pub is : data_at d vs p ≡ Some (object members)
-  pub node : IsNode (children_at root nodes p) vs (object (frequencies (map.entries (postings_of (entries_at root nodes p))))) (map.len (postings_of (entries_at root nodes p))) members
+  pub node : IsNode (children_at root nodes p) vs (object (frequencies (map.entries (named names (entries_at root nodes p))))) (map.len (named names (entries_at root nodes p))) members
 
 -- The nodes are read from the first of the values. A table with the whole value has at some text what each of these values tells.
-pub record IsRead (root : Children) (nodes : List Node) (d : Data) (vs : List Value) : Type 0 where
+pub record IsRead (names : Names) (root : Children) (nodes : List Node) (d : Data) (vs : List Value) : Type 0 where
   pub low : length nodes ≤ length vs
   pub in_order : (p : Place) → IsStrictlySorted (children_at root nodes p)
   pub forest : IsForest (step_of root nodes) (length vs)
   pub characters : (p : Place) → AreCharacters (children_at root nodes p)
-  pub small : (p : Place) → AreSmall (entries_at root nodes p)
-  pub read : (p : Place) → rank p ≤ length nodes → HasNode root nodes d vs p
+  pub read : (p : Place) → rank p ≤ length nodes → HasNode names root nodes d vs p
   pub possible : (T : Table) → IsTable T → IsTree T [] d → (k : ℕ) (v : Value) → slice_get vs k ≡ Some v → (p : Text) × IsTree T p (view v)
 
 -- a node stays what it is when more values wait
@@ -80,9 +83,12 @@ no_node : (root : Children) (p : Place) → p ≢ Root → children_at root [] p
 no_node root Root apart = absurd (apart refl)
 no_node root (At k) apart = refl
 
+none_of : postings_of [] ≡ map.empty
+none_of = refl
+
 -- the root is read
-pub root_read : (kids : Children) (es : Entries) (new : List Value) (d : Data) → ReadsNode kids es [] new d → es ≡ [] → IsRead kids [] d new
-root_read kids es new d reads bare = record {
+pub root_read : (names : Names) (kids : Children) (es : Entries) (new : List Value) (d : Data) → ReadsNode kids es [] new d → es ≡ [] → IsRead names kids [] d new
+root_read names kids es new d reads bare = record {
   low = omega arith;
   in_order = order;
   forest = record {
@@ -92,7 +98,6 @@ root_read kids es new d reads bare = record {
     one_character = character;
   };
   characters = letters;
-  small = few;
   read = at_root;
   possible = λ T table tree k v there. child_possible kids es [] new d reads T [] tree k v (omega arith) there;
 }
@@ -104,10 +109,6 @@ root_read kids es new d reads bare = record {
     letters : (p : Place) → AreCharacters (children_at kids [] p)
     letters Root = reads.values.characters
     letters (At k) = λ c j e. absurd (cc)
-
-    few : (p : Place) → AreSmall (entries_at kids [] p)
-    few Root = λ r n e. absurd (cc)
-    few (At k) = λ r n e. absurd (cc)
 
     higher : (p : Place) (c k : ℕ) → step_of kids [] p c ≡ Some k → rank p ≤ k
     higher Root c k e = omega arith
@@ -127,11 +128,11 @@ root_read kids es new d reads bare = record {
     character Root (At j) c d k e f = absurd (cc)
     character (At j) q c d k e f = absurd (cc)
 
-    at_root : (p : Place) → rank p ≤ 0 → HasNode kids [] d new p
+    at_root : (p : Place) → rank p ≤ 0 → HasNode names kids [] d new p
     at_root Root low = record {
       members = reads.members;
       is = ap Some reads.is;
-      node = subst (λ xs. IsNode kids new (object (frequencies (map.entries (postings_of xs)))) (map.len (postings_of xs)) reads.members) bare reads.node;
+      node = subst (λ P. IsNode kids new (object (frequencies (map.entries P))) (map.len P) reads.members) (ap postings_of bare ∙ none_of ∙ sym (no_names names)) reads.node;
     }
     at_root (At k) low = absurd (omega arith)
 
@@ -142,7 +143,8 @@ get_other [] x (suc k) other = refl
 get_other (y ∷ xs) x zero other = refl
 get_other (y ∷ xs) x (suc k) other = get_other xs x k (λ e. other (ap suc e))
 
-module _ (root : Children) (nodes : List Node) (d : Data) (vs new : List Value) (before : IsRead root nodes d vs) (v : Value) (there : slice_get vs (length nodes) ≡ Some v) (node : Node) (reads : ReadsNode node.children.items node.postings.entries vs new (view v)) where
+module _ (names names2 : Names) (root : Children) (nodes : List Node) (d : Data) (vs new : List Value) (before : IsRead names root nodes d vs) (v : Value) (there : slice_get vs (length nodes) ≡ Some v) (node : Node) (es : Entries) (reads : ReadsNode node.children.items es vs new (view v))
+    (told : named names2 node.postings ≡ postings_of es) (same_postings : (q : Place) → named names2 (entries_at root nodes q) ≡ named names (entries_at root nodes q)) where
   abbrev pub after : List Node
   after = nodes ++ node ∷ []
 
@@ -169,7 +171,7 @@ module _ (root : Children) (nodes : List Node) (d : Data) (vs new : List Value) 
   new_children : (q : Place) → q ≡ At (length nodes) → children_at root after q ≡ node.children.items
   new_children q is = ap (children_at root after) is ∙ ap children_of here
 
-  new_entries : (q : Place) → q ≡ At (length nodes) → entries_at root after q ≡ node.postings.entries
+  new_entries : (q : Place) → q ≡ At (length nodes) → entries_at root after q ≡ node.postings
   new_entries q is = ap (entries_at root after) is ∙ ap entries_of here
 
   -- each child is the new node's, or an old one
@@ -221,23 +223,23 @@ module _ (root : Children) (nodes : List Node) (d : Data) (vs new : List Value) 
   same_data Root low = refl
   same_data (At k) low = ap (option_map view) (same_value k (omega arith))
 
-  new_node : (q : Place) → q ≡ At (length nodes) → HasNode root after d new q
+  new_node : (q : Place) → q ≡ At (length nodes) → HasNode names2 root after d new q
   new_node q is = record {
     members = reads.members;
     is = ap (data_at d new) is ∙ ap (option_map view) (same_value (length nodes) in_range ∙ there) ∙ ap Some reads.is;
-    node = subst (λ es. IsNode es new (object (frequencies (map.entries (postings_of (entries_at root after q))))) (map.len (postings_of (entries_at root after q))) reads.members) (sym (new_children q is))
-        (subst (λ es. IsNode node.children.items new (object (frequencies (map.entries (postings_of es)))) (map.len (postings_of es)) reads.members) (sym (new_entries q is)) reads.node);
+    node = subst (λ kids. IsNode kids new (object (frequencies (map.entries (named names2 (entries_at root after q))))) (map.len (named names2 (entries_at root after q))) reads.members) (sym (new_children q is))
+        (subst (λ P. IsNode node.children.items new (object (frequencies (map.entries P))) (map.len P) reads.members) (sym (ap (named names2) (new_entries q is) ∙ told)) reads.node);
   }
 
-  old_node : (q : Place) → q ≢ At (length nodes) → rank q ≤ length nodes → HasNode root after d new q
+  old_node : (q : Place) → q ≢ At (length nodes) → rank q ≤ length nodes → HasNode names2 root after d new q
   old_node q apart low =
       let old = before.read q low in
       record {
         members = old.members;
         is = same_data q (omega (arith, before.low)) ∙ old.is;
-        node = subst (λ xs. IsNode (children_at root after q) xs (object (frequencies (map.entries (postings_of (entries_at root after q))))) (map.len (postings_of (entries_at root after q))) old.members) (sym reads.values.grown)
-            (subst (λ es. IsNode es (vs ++ reads.values.more) (object (frequencies (map.entries (postings_of (entries_at root after q))))) (map.len (postings_of (entries_at root after q))) old.members) (sym (other_children q apart))
-            (subst (λ es. IsNode (children_at root nodes q) (vs ++ reads.values.more) (object (frequencies (map.entries (postings_of es)))) (map.len (postings_of es)) old.members) (sym (other_entries q apart))
+        node = subst (λ xs. IsNode (children_at root after q) xs (object (frequencies (map.entries (named names2 (entries_at root after q))))) (map.len (named names2 (entries_at root after q))) old.members) (sym reads.values.grown)
+            (subst (λ kids. IsNode kids (vs ++ reads.values.more) (object (frequencies (map.entries (named names2 (entries_at root after q))))) (map.len (named names2 (entries_at root after q))) old.members) (sym (other_children q apart))
+            (subst (λ P. IsNode (children_at root nodes q) (vs ++ reads.values.more) (object (frequencies (map.entries P))) (map.len P) old.members) (sym (ap (named names2) (other_entries q apart) ∙ same_postings q))
             (later_node (children_at root nodes q) vs reads.values.more _ _ old.members (λ c k e. before.forest.is_node q c k e) old.node)));
       }
 
@@ -246,7 +248,7 @@ module _ (root : Children) (nodes : List Node) (d : Data) (vs new : List Value) 
   rank_other (At k) apart low = elim (cases_eq k (length nodes)) [ inl same ↦ absurd (apart (ap At same)) | inr other ↦ omega arith ]
 
   -- one more node is read
-  pub node_read : IsRead root after d new
+  pub node_read : IsRead names2 root after d new
   node_read = record {
     low = omega (arith, longer, in_range, grows);
     in_order = λ q. elim (same_place q (At (length nodes))) [
@@ -258,10 +260,6 @@ module _ (root : Children) (nodes : List Node) (d : Data) (vs new : List Value) 
       | inl is ↦ subst AreCharacters (sym (new_children q is)) reads.values.characters
       | inr apart ↦ subst AreCharacters (sym (other_children q apart)) (before.characters q)
     ];
-    small = λ q. elim (same_place q (At (length nodes))) [
-      | inl is ↦ subst AreSmall (sym (new_entries q is)) reads.small
-      | inr apart ↦ subst AreSmall (sym (other_entries q apart)) (before.small q)
-    ];
     read = λ q low. elim (same_place q (At (length nodes))) [
       | inl is ↦ new_node q is
       | inr apart ↦ old_node q apart (rank_other q apart (omega (arith, longer)))
@@ -270,36 +268,36 @@ module _ (root : Children) (nodes : List Node) (d : Data) (vs new : List Value) 
       | inl lt ↦ before.possible T table tree k w (sym (same_value k lt) ∙ value)
       | inr past ↦
           let at = before.possible T table tree (length nodes) v there in
-          child_possible node.children.items node.postings.entries vs new (view v) reads T at.0 at.1 k w past value
+          child_possible node.children.items es vs new (view v) reads T at.0 at.1 k w past value
     ];
   }
 
 -- all nodes are read
-module _ (root : Children) (nodes : List Node) (d : Data) (vs : List Value) (all : IsRead root nodes d vs) (count : length vs ≡ length nodes) where
+module _ (names : Names) (root : Children) (nodes : List Node) (d : Data) (vs : List Value) (all : IsRead names root nodes d vs) (count : length vs ≡ length nodes) where
   pub read_trie : IsTrie root nodes
-  read_trie = record { in_order = all.in_order; forest = subst (IsForest (step_of root nodes)) count all.forest; characters = all.characters; small = all.small }
+  read_trie = record { in_order = all.in_order; forest = subst (IsForest (step_of root nodes)) count all.forest; characters = all.characters }
 
-  tree_from : (fuel : ℕ) (t : Text) (p : Place) → walk (step_of root nodes) Root t ≡ Some p → rank p ≤ length nodes → length nodes ≤ rank p + fuel → (x : Data) → data_at d vs p ≡ Some x → IsTree (table_of root nodes) t x
+  tree_from : (fuel : ℕ) (t : Text) (p : Place) → walk (step_of root nodes) Root t ≡ Some p → rank p ≤ length nodes → length nodes ≤ rank p + fuel → (x : Data) → data_at d vs p ≡ Some x → IsTree (table_of root nodes names) t x
   tree_from zero t p leads low far x is =
       let has = all.read p low in
       let same : object has.members ≡ x = let both = sym has.is ∙ is in (cc) in
-      subst (IsTree (table_of root nodes) t) same
-      (node_tree root nodes read_trie t p leads vs _ _ has.members has.node count refl refl
+      subst (IsTree (table_of root nodes names) t) same
+      (node_tree root nodes read_trie names t p leads vs _ _ has.members has.node count refl refl
       (λ c k v step there. absurd (omega (arith, read_trie.forest.higher p c k step, read_trie.forest.is_node p c k step, far))))
   tree_from (suc fuel) t p leads low far x is =
       let has = all.read p low in
       let same : object has.members ≡ x = let both = sym has.is ∙ is in (cc) in
-      subst (IsTree (table_of root nodes) t) same
-      (node_tree root nodes read_trie t p leads vs _ _ has.members has.node count refl refl
+      subst (IsTree (table_of root nodes names) t) same
+      (node_tree root nodes read_trie names t p leads vs _ _ has.members has.node count refl refl
       (λ c k v step there. tree_from fuel (t ++ c ∷ []) (At k) (walk_to (step_of root nodes) t c k Root p leads step) (read_trie.forest.is_node p c k step)
       (omega (arith, read_trie.forest.higher p c k step, far)) (view v) (ap (option_map view) there)))
 
-  pub read_tree : IsTree (table_of root nodes) [] d
+  pub read_tree : IsTree (table_of root nodes names) [] d
   read_tree = tree_from (length nodes) [] Root refl (omega arith) (omega arith) d refl
 
 -- the root of a table has no postings
-pub first_found : (e : String Global × ℕ) (es : Entries) → at (string_bytes e.0) (e ∷ es) ≡ Some e.1
-first_found e es = rw (tied_itself nat_list_cmp_total (string_bytes e.0))
+first_found : (e : String Global × ℕ) (es : Entries) → map.get (postings_of (e ∷ es)) (string_bytes e.0) ≡ Some e.1
+first_found e es = map.get-from_entries nat_list_cmp_total (bytes_of (e ∷ es)) (string_bytes e.0) ∙ rw (tied_itself nat_list_cmp_total (string_bytes e.0))
 
 pub root_refused : (kids : Children) (es : Entries) (old new : List Value) (d : Data) → ReadsNode kids es old new d → (length es ≡ 0 → ⊥) → (T : Table) → IsTable T → IsTree T [] d → ⊥
 root_refused kids [] old new d reads more T table tree = more refl
@@ -308,6 +306,6 @@ root_refused kids (e ∷ es) old new d reads more T table tree =
     let both : Some (object (frequencies (map.entries (postings T [])))) ≡ Some (object (frequencies (map.entries (postings_of (e ∷ es))))) = sym whole.1 ∙ reads.node.docs_there in
     let docs : object (frequencies (map.entries (postings T []))) ≡ object (frequencies (map.entries (postings_of (e ∷ es)))) = cc in
     let same = same_docs (postings T []) (postings_of (e ∷ es)) docs in
-    let there : posting T [] (string_bytes e.0) ≡ Some e.1 = ap (λ P. map.get P (string_bytes e.0)) same ∙ get_postings_of (e ∷ es) (string_bytes e.0) ∙ first_found e es in
+    let there : posting T [] (string_bytes e.0) ≡ Some e.1 = ap (λ P. map.get P (string_bytes e.0)) same ∙ first_found e es in
     let none = table.bare_root (string_bytes e.0) in
     absurd (cc)

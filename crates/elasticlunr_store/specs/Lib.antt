@@ -4,8 +4,13 @@ pub mod Tree
 pub mod Contents
 pub mod Refused
 pub mod Equal
+pub mod Pairs
+pub mod Frequencies
+pub mod Names
 pub mod Children
 pub mod Nodes
+pub mod Trie
+pub mod Branch
 pub mod Finished
 pub mod Reading
 pub mod Same

@@ -7,11 +7,13 @@ use Rattle.serde_json.specs.Data.{Data, null, number, unsigned, object, Members,
 use Rattle.serde_json.specs.Written.{members_outline}
 use Rattle.elasticlunr_store.specs.Table.{Postings}
 use Rattle.elasticlunr_store.specs.Tree.{frequencies}
+use Rattle.elasticlunr_store.specs.Names.{Names, AreNames, AreRanks}
 use Rattle.elasticlunr_store.specs.Children.{Children}
-use Rattle.elasticlunr_store.specs.Table.{postings_of}
-use Rattle.elasticlunr_store.specs.Nodes.{children_of, entries_of, entries_at}
+use Rattle.elasticlunr_store.specs.Nodes.{children_of, entries_of}
+use Rattle.elasticlunr_store.specs.Trie.{named, entries_at}
 use Rattle.elasticlunr_store.specs.declared.inverted_index.nodes.Node.{Node}
 use Rattle.elasticlunr_store.specs.declared.inverted_index.write.Left.{Left}
+use Rattle.elasticlunr_store.specs.declared.inverted_index.write.Order.{Order}
 use Rattle.elasticlunr_store.specs.declared.inverted_index.write.Left.TheVariants.{WithPostings, WithoutPostings}
 
 -- the values of children, under their characters
@@ -35,11 +37,15 @@ tokens_of ms = members_tokens (members_outline ms)
 abbrev pub postings_tokens : Postings → List Token
 postings_tokens P = Token.key (codes "df") ∷ Token.number (decimal (len P)) ∷ Token.key (codes "docs") ∷ Token.begin_object ∷ tokens_of (frequencies (entries P))
 
-module _ (nodes : List Node) where
+-- the names differ, and the ranks are theirs
+abbrev pub IsOrder : Order → Type 0
+IsOrder order = AreNames order.names.now × AreRanks order.names.now order.ranks.now
+
+module _ (names : Names) (nodes : List Node) where
   -- the tree of the node k, n characters deep
   abbrev pub tree_of : ℕ → ℕ → Data
-  tree_of zero k = object (place_members (λ j. null) (postings_of (entries_of (slice_get nodes k))) (children_of (slice_get nodes k)))
-  tree_of (suc n) k = object (place_members (tree_of n) (postings_of (entries_of (slice_get nodes k))) (children_of (slice_get nodes k)))
+  tree_of zero k = object (place_members (λ j. null) (named names (entries_of (slice_get nodes k))) (children_of (slice_get nodes k)))
+  tree_of (suc n) k = object (place_members (tree_of n) (named names (entries_of (slice_get nodes k))) (children_of (slice_get nodes k)))
 
   -- the tree of the node k
   unfoldable pub part : ℕ → Data
@@ -47,14 +53,14 @@ module _ (nodes : List Node) where
 
   -- its members
   abbrev pub node_members : ℕ → Members
-  node_members k = place_members part (postings_of (entries_of (slice_get nodes k))) (children_of (slice_get nodes k))
+  node_members k = place_members part (named names (entries_of (slice_get nodes k))) (children_of (slice_get nodes k))
 
   -- each node has a tree
   abbrev pub HasTrees : Type 0
   HasTrees = (k : ℕ) → part k ≡ object (node_members k)
 
   abbrev pub left_members : Left → Members
-  left_members (WithPostings p es) = place_members part (postings_of (entries_at [] nodes p)) es.now
+  left_members (WithPostings p es) = place_members part (named names (entries_at [] nodes p)) es.now
   left_members (WithoutPostings es) = children_members part es.now
 
   -- the last comes first

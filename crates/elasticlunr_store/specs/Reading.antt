@@ -6,9 +6,10 @@ use Rattle.std.specs.FinMap.{entries, len}
 use Rattle.serde_json.specs.Data.{Data, object, Members}
 use Rattle.serde_json.specs.Find.{get_member}
 use Rattle.serde_json.specs.declared.value.Value.{Value}
-use Rattle.elasticlunr_store.specs.Children.{Children, child, IsStrictlySorted}
+use Rattle.elasticlunr_store.specs.Pairs.{IsStrictlySorted}
+use Rattle.elasticlunr_store.specs.Children.{Children, child}
+use Rattle.elasticlunr_store.specs.Trie.{AreCharacters}
 use Rattle.elasticlunr_store.specs.Table.{Entries, postings_of}
-use Rattle.elasticlunr_store.specs.Nodes.{AreCharacters, AreSmall}
 use Rattle.elasticlunr_store.specs.Tree.{frequencies}
 use Rattle.elasticlunr_store.specs.Finished.{value_at, IsNode}
 
@@ -39,7 +40,6 @@ HasForeignKey ms = (q : List ℕ) × IsSome (get_member q ms) × (q ≢ codes "d
 -- d is the value of a node with these children and entries
 pub record ReadsNode (children : Children) (es : Entries) (old new : List Value) (d : Data) : Type 0 where
   pub values : HasNewValues children old new
-  pub small : AreSmall es
   pub members : Members
   pub is : d ≡ object members
   pub node : IsNode children new (object (frequencies (entries (postings_of es)))) (len (postings_of es)) members

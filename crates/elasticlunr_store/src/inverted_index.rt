@@ -1,6 +1,6 @@
 //! Tries of tokens, each with the frequency of each reference that has it.
 ghost use Rattle.std.specs.FinMap.{get as get_postings, len};
-ghost use Rattle.std.specs.Prelude.{option_map, ◌≡◌, ◌↔◌, [], None, IsTrue, IfOk, IfErr, IsOk, OnOk, OnErr, IsOkUnless, false, unwrap_or, ◌≢◌};
+ghost use Rattle.std.specs.Prelude.{option_map, ◌≡◌, ◌↔◌, [], None, IsTrue, IfOk, IfErr, IsOk, OnOk, OnErr, IsOkUnless, false, unwrap_or, is_some, ◌≢◌};
 ghost use Rattle.std.specs.Str.{chars};
 ghost use Rattle.elasticlunr_text.specs.Text.{Text, Bytes};
 ghost use Rattle.elasticlunr_store.specs.Table.{Table, new_table, knows, posting, postings, IsTable, AddsToken, RemovesToken, same_tables, postings_of};
@@ -9,12 +9,18 @@ ghost use Rattle.elasticlunr_store.specs.Refused.{IsRefused};
 ghost use Rattle.elasticlunr_text.specs.declared.error.IndexError.TheVariants.{Memory};
 ghost use Rattle.serde_json.specs.Written.{has_float};
 ghost use Rattle.elasticlunr_store.specs.Tree.{IsTrieValue};
-ghost use Rattle.elasticlunr_store.specs.Nodes.{IsTrie, table_of};
 
 mod add;
+mod branch;
 mod compact;
+mod docs;
+mod lists;
+mod names;
 mod nodes;
+mod numbered;
+mod postings;
 mod read;
+mod references;
 mod remove;
 mod same;
 mod value;
@@ -22,8 +28,10 @@ mod write;
 
 use crate::members::put_member;
 use add::add_posting;
+use docs::copy_docs;
 use elasticlunr_text::IndexError;
-use nodes::{Node, Place, copy_docs, find, find_postings};
+use names::Names;
+use nodes::{Node, Place, Reference, find, find_frequency, find_postings};
 use read::{only_member, read_nodes};
 use remove::{remove_posting, remove_postings};
 use same::same_below;
@@ -37,11 +45,13 @@ use value::tree_value;
 ///
 /// It stands for a table: the known texts, among them the empty one and each beginning of a known one, and for some pairs of a known token and a reference a frequency. Known texts stay known when their postings go, until the trie is compacted.
 ///
-/// The nodes stand in one vector, and name their children by number. So a trie is dropped without recursion, and a text is looked up by halves at each of its characters.
+/// The nodes stand in one vector, and name their children by number. So a trie is dropped without recursion, and a text is looked up by halves at each of its characters. A reference has a number, under which its postings stand; its name is kept once. A name may stay when its postings go, until the trie is compacted; no call shows it.
 #[derive(Debug, Drop)]
 pub struct InvertedIndex {
     root: Vec<(char, usize)>,
     nodes: Vec<Node>,
+    names: Names,
+    references: Vec<Reference>,
 }
 
 impl Model for InvertedIndex {
@@ -53,11 +63,11 @@ impl Model for InvertedIndex {
 
     ghost coded = { map.code (coded_list coded_ℕ) (map.code (coded_list coded_ℕ) coded_ℕ) };
 
-    ghost use Rattle.elasticlunr_store.specs.Nodes.{table_of, IsTrie};
+    ghost use Rattle.elasticlunr_store.specs.Trie.{table_of, IsIndex};
 
-    ghost view = { λ a. table_of a.root.items a.nodes.items };
+    ghost view = { λ a. table_of a.root.items a.nodes.items a.names };
 
-    ghost invariant = { λ a. IsTrie a.root.items a.nodes.items };
+    ghost invariant = { λ a. IsIndex a.root.items a.nodes.items a.names a.references.items };
 }
 
 impl InvertedIndex {
@@ -69,12 +79,14 @@ impl InvertedIndex {
         InvertedIndex {
             root: Vec::new(alloc),
             nodes: Vec::new(alloc),
+            names: Names::new(alloc),
+            references: Vec::new(alloc),
         }
     }
 
     /// Sets the posting of a token, which makes its beginnings known. The empty token changes nothing.
     ///
-    /// All requests for memory come before the first change. The work is in proportion to the token.
+    /// Where memory is wanting, the table stays as it was. The work is in proportion to the token; the reference is looked up once among all names, and by halves among the postings of the token.
     pub fn add_token(
         &mut self,
         doc_ref: &str,
@@ -94,6 +106,8 @@ impl InvertedIndex {
             alloc,
             &mut self.root,
             &mut self.nodes,
+            &mut self.names,
+            &mut self.references,
             doc_ref,
             token,
             term_freq,
@@ -101,42 +115,61 @@ impl InvertedIndex {
         Ok(())
     }
 
-    /// Takes every posting of a reference away. The known texts stay. Visits each node once, and requests no memory.
+    /// Takes every posting of a reference away. The known texts stay. It visits the nodes where the reference has or had a posting, and no others; an unknown reference is looked up and costs no more. Requests no memory.
     pub fn remove_doc(&mut self, doc_ref: &str)
         ensures known { (t : Text) → knows self.new t ≡ knows self.old t }
         ensures gone { (t : Text) → posting self.new t doc_ref.now ≡ None }
         ensures others { (t : Text) (r : Bytes) → r ≢ doc_ref.now → posting self.new t r ≡ posting self.old t r }
     {
-        remove_postings(&mut self.nodes, doc_ref);
+        let alloc = *self.nodes.allocator();
+        remove_postings(
+            alloc,
+            &self.names,
+            &mut self.references,
+            &mut self.nodes,
+            doc_ref,
+        );
     }
 
-    /// Takes a posting away if it is there. The known texts stay. Requests no memory.
+    /// Takes a posting away if it is there. The known texts stay. The work is in proportion to the token and to the postings of the reference. Requests no memory.
     pub fn remove_token(&mut self, doc_ref: &str, token: &str)
         ensures { RemovesToken self.old self.new (chars token.now) doc_ref.now }
     {
-        remove_posting(&self.root, &mut self.nodes, doc_ref, token);
+        remove_posting(
+            &self.root,
+            &self.names,
+            &mut self.references,
+            &mut self.nodes,
+            doc_ref,
+            token,
+        );
     }
 
-    /// A copy of the postings of a token, `None` where it is unknown.
+    /// A copy of the postings of a token, `None` where it is unknown. The work is in proportion to the token and its postings.
     pub fn get_docs(&self, token: &str) -> Result<Option<BTreeMap<String, u64>>, IndexError>
         ensures ok { IfOk result (λ o. option_map (λ m. postings_of m.entries) o ≡ get_postings self.now (chars token.now)) }
         ensures memory { IsOkUnless result Memory }
     {
-        let docs = copy_docs(&self.root, &self.nodes, token, *self.nodes.allocator())?;
+        let alloc = *self.nodes.allocator();
+        let docs = copy_docs(alloc, &self.root, &self.nodes, &self.names, token)?;
         Ok(docs)
     }
 
-    /// The frequency of a reference at a token, 0 where it has no posting.
+    /// The frequency of a reference at a token, 0 where it has no posting. A step for each character of the token, and a look-up of the reference; requests no memory.
     pub fn get_term_frequency(&self, doc_ref: &str, token: &str) -> u64
         ensures { result ≡ unwrap_or (posting self.now (chars token.now) doc_ref.now) 0 }
     {
-        match find_postings(&self.root, &self.nodes, token) {
-            Some(postings) => postings.get(doc_ref).copied().unwrap_or(0),
-            None => 0,
-        }
+        find_frequency(&self.root, &self.nodes, &self.names, token, doc_ref).unwrap_or(0)
     }
 
-    /// How many references have a posting at a token.
+    /// Has a reference a posting at a token? A step for each character of the token, and a look-up of the reference; requests no memory.
+    pub fn has_posting(&self, doc_ref: &str, token: &str) -> bool
+        ensures { result ≡ is_some (posting self.now (chars token.now) doc_ref.now) }
+    {
+        find_frequency(&self.root, &self.nodes, &self.names, token, doc_ref).is_some()
+    }
+
+    /// How many references have a posting at a token. A step for each character of the token; requests no memory.
     pub fn get_doc_frequency(&self, token: &str) -> u64
         ensures { result ≡ len (postings self.now (chars token.now)) }
     {
@@ -157,7 +190,7 @@ impl InvertedIndex {
         ensures memory { IsOkUnless result Memory }
     {
         let alloc = *self.nodes.allocator();
-        let root = tree_value(alloc, &self.root, &self.nodes)?;
+        let root = tree_value(alloc, &self.root, &self.nodes, &self.names)?;
         let mut members = Map::new(alloc);
         put_member(&mut members, String::from_str(alloc, "root")?, root)?;
         Ok(Value::Object(members))
@@ -174,11 +207,18 @@ impl InvertedIndex {
         let Some(root) = only_member(value, "root") else {
             return Err(IndexError::ForeignValue);
         };
-        let (root, nodes) = read_nodes(alloc, root)?;
-        Ok(InvertedIndex { root, nodes })
+        let mut names = Names::new(alloc);
+        let mut references = Vec::new(alloc);
+        let (root, nodes) = read_nodes(alloc, root, &mut names, &mut references)?;
+        Ok(InvertedIndex {
+            root,
+            nodes,
+            names,
+            references,
+        })
     }
 
-    /// Is this text known, as a token or as the beginning of one?
+    /// Is this text known, as a token or as the beginning of one? A step for each of its characters.
     pub fn has_token(&self, token: &str) -> bool
         ensures { result ≡ knows self.now (chars token.now) }
     {
@@ -195,15 +235,17 @@ impl PartialEq for InvertedIndex {
 
     ghost laws = { partial_equiv_from_equiv tables_equivalence };
 
-    /// Do both stand for the same table? The numbers of their nodes make no difference. A path without branches takes no stack.
+    /// Do both stand for the same table? The numbers of their nodes and references make no difference. Requests no memory. A path without branches takes no stack.
     fn eq(&self, other: &InvertedIndex) -> bool
         ensures test { result ≡ same_tables self.now other.now }
         ensures equal { IsTrue result ↔ (self.now ≡ other.now) }
     {
         same_below(
+            &self.names,
             &self.root,
             &self.nodes,
             Place::Root,
+            &other.names,
             &other.root,
             &other.nodes,
             Place::Root,

@@ -1,14 +1,20 @@
 //! A trie without the paths that lead to no posting.
 ghost use Rattle.std.specs.Prelude.{◌≡◌, ◌↔◌, ◌⊎◌, ℕ, ◌<◌, [], length, Some, IsTrue, IsSome, IfOk, IsOkUnless};
+ghost use Rattle.std.specs.FinMap.{get};
 ghost use Rattle.elasticlunr_text.specs.Text.{Text, Bytes};
 ghost use Rattle.elasticlunr_text.specs.declared.error.IndexError.TheVariants.{Memory};
 ghost use Rattle.elasticlunr_store.specs.Table.{IsTable, IsPrefix, knows, posting};
-ghost use Rattle.elasticlunr_store.specs.Nodes.{IsTrie, at, table_of};
-ghost use Rattle.elasticlunr_store.specs.Children.{child, IsStrictlySorted};
+ghost use Rattle.elasticlunr_store.specs.Pairs.{IsStrictlySorted};
+ghost use Rattle.elasticlunr_store.specs.Names.{AreNames};
+ghost use Rattle.elasticlunr_store.specs.Children.{child};
+ghost use Rattle.elasticlunr_store.specs.Nodes.{AreAllNumbered, AreListed};
+ghost use Rattle.elasticlunr_store.specs.Trie.{IsTrie, IsIndex, table_of};
 ghost use Rattle.elasticlunr_store.specs.Compact.{Bears, is_marked, AreNumbers, kept_children, KeepsBelow};
 
 use super::InvertedIndex;
-use super::nodes::{Node, copy_postings};
+use super::names::Names;
+use super::nodes::{Node, Reference};
+use super::numbered::renumber;
 use elasticlunr_text::IndexError;
 use std::alloc::{AllocError, Global};
 
@@ -23,27 +29,50 @@ impl InvertedIndex {
         ensures memory { IsOkUnless result Memory }
     {
         let alloc = *self.nodes.allocator();
-        let (root, nodes) = compact(alloc, &self.root, &self.nodes)?;
-        Ok(InvertedIndex { root, nodes })
+        let (root, nodes, names, references) = compact(
+            alloc,
+            &self.root,
+            &self.nodes,
+            &self.names,
+        )?;
+        Ok(InvertedIndex {
+            root,
+            nodes,
+            names,
+            references,
+        })
     }
 }
 
-// The children and the nodes from which a posting is reached, numbered anew.
+// The children and the nodes from which a posting is reached, numbered anew, with the names that their postings have.
 fn compact(
     alloc: Global,
     root: &[(char, usize)],
     nodes: &[Node],
-) -> Result<(Vec<(char, usize)>, Vec<Node>), AllocError>
-    requires { IsTrie root.now nodes.now }
-    ensures trie { IfOk result (λ t. IsTrie t.0.items t.1.items) }
-    ensures known { IfOk result (λ t. (s : Text) → IsTrue (knows (table_of t.0.items t.1.items) s) ↔ ((s ≡ []) ⊎ ((u : Text) × (r : Bytes) × IsPrefix s u × IsSome (posting (table_of root.now nodes.now) u r)))) }
-    ensures postings { IfOk result (λ t. (s : Text) (r : Bytes) → posting (table_of t.0.items t.1.items) s r ≡ posting (table_of root.now nodes.now) s r) }
+    names: &Names,
+) -> Result<(Vec<(char, usize)>, Vec<Node>, Names, Vec<Reference>), AllocError>
+    requires trie { IsTrie root.now nodes.now }
+    requires names { AreNames names.now }
+    requires numbered { AreAllNumbered names.now nodes.now }
+    ensures index { IfOk result (λ t. IsIndex t.0.items t.1.items t.2 t.3.items) }
+    ensures known { IfOk result (λ t. (s : Text) → IsTrue (knows (table_of t.0.items t.1.items t.2) s) ↔ ((s ≡ []) ⊎ ((u : Text) × (r : Bytes) × IsPrefix s u × IsSome (posting (table_of root.now nodes.now names.now) u r)))) }
+    ensures postings { IfOk result (λ t. (s : Text) (r : Bytes) → posting (table_of t.0.items t.1.items t.2) s r ≡ posting (table_of root.now nodes.now names.now) s r) }
 {
     let marks = bearing(alloc, nodes)?;
     let numbers = new_numbers(alloc, &marks)?;
     let kept_root = keep_children(alloc, root, &marks, &numbers)?;
-    let kept = keep_nodes(alloc, nodes, &marks, &numbers)?;
-    Ok((kept_root, kept))
+    let mut kept_names = Names::new(alloc);
+    let mut references = Vec::new(alloc);
+    let kept = keep_nodes(
+        alloc,
+        nodes,
+        names,
+        &marks,
+        &numbers,
+        &mut kept_names,
+        &mut references,
+    )?;
+    Ok((kept_root, kept, kept_names, references))
 }
 
 // For each node, whether a posting is reached from it.
@@ -79,9 +108,9 @@ fn mark(nodes: &[Node], marks: &mut [bool])
 fn bears_posting(node: &Node, marks: &[bool]) -> bool
     requires sorted { IsStrictlySorted node.now.children.items }
     requires in_range { (c : ℕ) (k : ℕ) → child node.now.children.items c ≡ Some k → k < length marks.now }
-    ensures { IsTrue result ↔ (((r : Bytes) × (n : ℕ) × (at r node.now.postings.entries ≡ Some n)) ⊎ ((c : ℕ) × (k : ℕ) × (child node.now.children.items c ≡ Some k) × IsTrue (is_marked marks.now k))) }
+    ensures { IsTrue result ↔ (((n : ℕ) × (f : ℕ) × (get node.now.postings n ≡ Some f)) ⊎ ((c : ℕ) × (k : ℕ) × (child node.now.children.items c ≡ Some k) × IsTrue (is_marked marks.now k))) }
 {
-    if !node.postings.is_empty() {
+    if !node.postings.pairs().is_empty() {
         return true;
     }
     has_marked(&node.children, marks)
@@ -138,43 +167,42 @@ fn keep_children(
     Ok(kept)
 }
 
-// A node with its marked children and its postings.
-fn keep_node(
-    alloc: Global,
-    node: &Node,
-    marks: &[bool],
-    numbers: &[usize],
-) -> Result<Node, AllocError>
-    requires sorted { IsStrictlySorted node.now.children.items }
-    requires in_range { (c : ℕ) (k : ℕ) → child node.now.children.items c ≡ Some k → k < length marks.now }
-    requires numbers { AreNumbers marks.now numbers.now }
-    ensures children { IfOk result (λ kept. kept.children.items ≡ kept_children marks.now node.now.children.items) }
-    ensures entries { IfOk result (λ kept. (r : Bytes) → at r kept.postings.entries ≡ at r node.now.postings.entries) }
-{
-    let children = keep_children(alloc, &node.children, marks, numbers)?;
-    let postings = copy_postings(&node.postings)?;
-    Ok(Node { children, postings })
-}
-
 // The marked nodes, in order.
 fn keep_nodes(
     alloc: Global,
     nodes: &[Node],
+    names: &Names,
     marks: &[bool],
     numbers: &[usize],
+    kept_names: &mut Names,
+    references: &mut Vec<Reference>,
 ) -> Result<Vec<Node>, AllocError>
     requires trie { IsTrie [] nodes.now }
+    requires names { AreNames names.now }
+    requires numbered { AreAllNumbered names.now nodes.now }
     requires marks { length marks.now ≡ length nodes.now }
     requires numbers { AreNumbers marks.now numbers.now }
-    ensures { IfOk result (λ kept. KeepsBelow marks.now nodes.now kept.items (length nodes.now)) }
+    requires no_names { kept_names.old ≡ [] }
+    ensures names { IfOk result (λ _. AreNames kept_names.new) }
+    ensures listed { IfOk result (λ kept. AreListed kept_names.new references.new.items kept.items) }
+    ensures kept { IfOk result (λ kept. KeepsBelow marks.now names.now nodes.now kept_names.new kept.items (length nodes.now)) }
 {
     let mut kept = Vec::new(alloc);
     for i in 0..nodes.len() {
         if !marks[i] {
             continue;
         }
-        let node = keep_node(alloc, &nodes[i], marks, numbers)?;
-        kept.push(node)?;
+        let node = &nodes[i];
+        let children = keep_children(alloc, &node.children, marks, numbers)?;
+        let postings = renumber(
+            alloc,
+            kept_names,
+            references,
+            kept.len(),
+            names,
+            node.postings.pairs(),
+        )?;
+        kept.push(Node { children, postings })?;
     }
     Ok(kept)
 }

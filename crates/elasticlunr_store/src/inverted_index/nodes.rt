@@ -1,24 +1,33 @@
 //! The numbered nodes of a trie, and where a path leads.
-ghost use Rattle.std.specs.Prelude.{option_map, ◌≡◌, ◌<◌, [], length, None, IfOk, IfErr, slice_get};
+ghost use Rattle.std.specs.Prelude.{◌≡◌, ◌<◌, length, None, IfSome, IfOk, IfErr, slice_get};
 ghost use Rattle.std.specs.Str.{chars};
-ghost use Rattle.elasticlunr_store.specs.Table.{postings, postings_of};
+ghost use Rattle.elasticlunr_store.specs.Pairs.{value_of, IsStrictlySorted, IsAt, IsGapFor};
+ghost use Rattle.elasticlunr_store.specs.Names.{at, Names, AreNumbered};
+ghost use Rattle.elasticlunr_store.specs.Nodes.{children_of, postings_at, AreAllNumbered};
+ghost use Rattle.elasticlunr_store.specs.Trie.{children_at, named, step_of, table_of, walk, IsTrie};
+ghost use Rattle.elasticlunr_store.specs.Table.{posting, postings};
+ghost use Rattle.std.specs.FinMap.{empty};
 ghost use Rattle.std.specs.Option.{option_map_or};
-ghost use Rattle.elasticlunr_store.specs.Children.{child, IsStrictlySorted, IsAt, IsGapFor};
-ghost use Rattle.elasticlunr_store.specs.Nodes.{children_at, children_of, entries_of, step_of, walk, IsTrie, table_of, look};
 
-use std::alloc::{AllocError, Global};
-use std::collections::BTreeMap;
+use super::names::Names;
+use super::postings::Postings;
 
 #[derive(Debug, Drop)]
 pub(super) struct Node {
     pub children: Vec<(char, usize)>,
-    pub postings: BTreeMap<String, u64>,
+    pub postings: Postings,
 }
 
 #[derive(Clone, Copy)]
 pub(super) enum Place {
     Root,
     At(usize),
+}
+
+// What a trie keeps for the number of a reference: the nodes where it has a posting, and maybe others.
+#[derive(Debug, Drop)]
+pub(super) struct Reference {
+    pub nodes: Vec<usize>,
 }
 
 // The children of a node.
@@ -57,7 +66,7 @@ fn search(children: &[(char, usize)], c: char) -> Result<usize, usize>
 // The number of the child under a character.
 pub(super) fn child(children: &[(char, usize)], c: char) -> Option<usize>
     requires { IsStrictlySorted children.now }
-    ensures { result ≡ child children.now c }
+    ensures { result ≡ value_of children.now c }
 {
     match search(children, c) {
         Ok(at) => Some(children[at].1),
@@ -80,7 +89,7 @@ pub(super) fn find(root: &[(char, usize)], nodes: &[Node], token: &str) -> Optio
 // Where the child under a new character goes.
 pub(super) fn gap(children: &[(char, usize)], c: char) -> usize
     requires sorted { IsStrictlySorted children.now }
-    requires free { child children.now c ≡ None }
+    requires free { value_of children.now c ≡ None }
     ensures { IsGapFor children.now c result }
 {
     match search(children, c) {
@@ -89,55 +98,53 @@ pub(super) fn gap(children: &[(char, usize)], c: char) -> usize
     }
 }
 
-// A copy of the postings of a token, if it is known.
-pub(super) fn copy_docs(
-    root: &[(char, usize)],
-    nodes: &[Node],
-    token: &str,
-    alloc: Global,
-) -> Result<Option<BTreeMap<String, u64>>, AllocError>
-    requires { IsTrie root.now nodes.now }
-    ensures { IfOk result (λ o. option_map (λ m. postings_of m.entries) o ≡ look root.now nodes.now (chars token.now)) }
-{
-    match find(root, nodes, token) {
-        None => Ok(None),
-        Some(Place::Root) => Ok(Some(BTreeMap::new(alloc))),
-        Some(Place::At(k)) => {
-            let copy = copy_postings(postings_at(nodes, k))?;
-            Ok(Some(copy))
-        }
-    }
-}
-
-// A copy of the postings of a node.
-pub(super) fn copy_postings(
-    postings: &BTreeMap<String, u64>,
-) -> Result<BTreeMap<String, u64>, AllocError>
-    ensures { IfOk result (λ m. postings_of m.entries ≡ postings_of postings.now.entries) }
-{
-    let copy = postings.clone()?;
-    Ok(copy)
-}
-
-// The map of the postings of a node.
-pub(super) fn postings_at(nodes: &[Node], k: usize) -> &BTreeMap<String, u64>
+// The postings of a node.
+pub(super) fn postings_at(nodes: &[Node], k: usize) -> &Postings
     requires { k < length nodes.now }
-    ensures { result.now.entries ≡ entries_of (slice_get nodes.now k) }
+    ensures { result.now ≡ postings_at nodes.now k }
 {
     &nodes[k].postings
 }
 
-// The map of the postings of a token, none where it is unknown or empty.
+// The frequency of a reference among postings.
+pub(super) fn frequency_of(names: &Names, postings: &Postings, doc_ref: &str) -> Option<u64>
+    ensures { result ≡ at names.now doc_ref.now postings.now }
+{
+    let number = names.number_of(doc_ref)?;
+    postings.get(number)
+}
+
+// The frequency of a reference at a token, if it has a posting there.
+pub(super) fn find_frequency(
+    root: &[(char, usize)],
+    nodes: &[Node],
+    names: &Names,
+    token: &str,
+    doc_ref: &str,
+) -> Option<u64>
+    requires { IsTrie root.now nodes.now }
+    ensures { result ≡ posting (table_of root.now nodes.now names.now) (chars token.now) doc_ref.now }
+{
+    match find(root, nodes, token) {
+        Some(Place::At(k)) => frequency_of(names, postings_at(nodes, k), doc_ref),
+        Some(Place::Root) => None,
+        None => None,
+    }
+}
+
+// The postings of a token, none where it is unknown or empty.
 pub(super) fn find_postings<'a>(
     root: &[(char, usize)],
     nodes: &'a [Node],
     token: &str,
-) -> Option<&'a BTreeMap<String, u64>>
+) -> Option<&'a Postings>
     requires { IsTrie root.now nodes.now }
-    ensures { postings (table_of root.now nodes.now) (chars token.now) ≡ postings_of (option_map_or (λ m. m.now.entries) result []) }
+    ensures postings { (names : Names) → postings (table_of root.now nodes.now names) (chars token.now) ≡ named names (option_map_or (λ p. p.now) result empty) }
+    ensures numbered { (names : Names) → AreAllNumbered names nodes.now → IfSome result (λ p. AreNumbered names p.now) }
 {
-    match find(root, nodes, token)? {
-        Place::Root => None,
-        Place::At(k) => Some(postings_at(nodes, k)),
+    match find(root, nodes, token) {
+        Some(Place::At(k)) => Some(postings_at(nodes, k)),
+        Some(Place::Root) => None,
+        None => None,
     }
 }

@@ -10,9 +10,11 @@ ghost use Rattle.elasticlunr_store.specs.Refused.{IsRefused};
 ghost use Rattle.elasticlunr_store.specs.Tree.{frequency, frequencies, HasKeysInOrder, IsTree};
 ghost use Rattle.elasticlunr_store.specs.Reading.{seen, ReadsChildren, ReadsNode, HasForeignKey};
 ghost use Rattle.std.specs.Str.{all_scalars};
-ghost use Rattle.elasticlunr_store.specs.Nodes.{IsTrie, AreSmall, table_of};
+ghost use Rattle.elasticlunr_store.specs.Trie.{IsIndex, table_of};
 
-use super::nodes::{Node, gap};
+use super::names::Names;
+use super::nodes::{Node, Reference, gap};
+use super::numbered::number_docs;
 use elasticlunr_text::IndexError;
 use serde_json::{Map, Value};
 use std::alloc::Global;
@@ -42,7 +44,6 @@ fn read_frequency(value: &Value) -> Option<u64>
 // The postings that the value under `docs` tells.
 fn read_docs(alloc: Global, value: &Value) -> Result<BTreeMap<String, u64>, IndexError>
     ensures ok { IfOk result (λ m. view value.now ≡ object (frequencies (entries (postings_of m.entries)))) }
-    ensures small { IfOk result (λ m. AreSmall m.entries) }
     ensures foreign { IfErr result (IsRefused ((es : List (Bytes × ℕ)) → view value.now ≢ object (frequencies es))) }
 {
     let Some(docs) = value.as_object() else {
@@ -113,13 +114,13 @@ fn has_count(value: &Value, count: u64) -> bool
     }
 }
 
-// The node that a value tells.
+// The children and the postings of the node that a value tells.
 fn read_node<'a>(
     alloc: Global,
     value: &'a Value,
     waiting: &mut Vec<&'a Value>,
-) -> Result<Node, IndexError>
-    ensures ok { IfOk result (λ n. ReadsNode n.children.items n.postings.entries (seen waiting.old.items) (seen waiting.new.items) (view value.now)) }
+) -> Result<(Vec<(char, usize)>, BTreeMap<String, u64>), IndexError>
+    ensures ok { IfOk result (λ n. ReadsNode n.0.items n.1.entries (seen waiting.old.items) (seen waiting.new.items) (view value.now)) }
     ensures foreign { IfErr result (IsRefused ((T : Table) (p : Text) → IsTable T → ¬ (IsTree T p (view value.now)))) }
 {
     let Some(members) = value.as_object() else {
@@ -133,27 +134,31 @@ fn read_node<'a>(
         return Err(IndexError::ForeignValue);
     }
     let children = read_children(alloc, members, waiting)?;
-    Ok(Node { children, postings })
+    Ok((children, postings))
 }
 
-// The root's children and the nodes that a value tells.
+// The root's children and the nodes that a value tells, with the names and the lists of their references.
 pub(super) fn read_nodes(
     alloc: Global,
     value: &Value,
+    names: &mut Names,
+    references: &mut Vec<Reference>,
 ) -> Result<(Vec<(char, usize)>, Vec<Node>), IndexError>
-    ensures trie { IfOk result (λ t. IsTrie t.0.items t.1.items) }
-    ensures tree { IfOk result (λ t. IsTree (table_of t.0.items t.1.items) [] (view value.now)) }
+    requires { names.old ≡ [] }
+    ensures index { IfOk result (λ t. IsIndex t.0.items t.1.items names.new references.new.items) }
+    ensures tree { IfOk result (λ t. IsTree (table_of t.0.items t.1.items names.new) [] (view value.now)) }
     ensures foreign { IfErr result (IsRefused ((T : Table) → IsTable T → ¬ (IsTree T [] (view value.now)))) }
 {
     let mut waiting = Vec::new(alloc);
-    let root = read_node(alloc, value, &mut waiting)?;
-    if !root.postings.is_empty() {
+    let (root, docs) = read_node(alloc, value, &mut waiting)?;
+    if !docs.is_empty() {
         return Err(IndexError::ForeignValue);
     }
     let mut nodes = Vec::new(alloc);
     while nodes.len() < waiting.len() {
-        let node = read_node(alloc, waiting[nodes.len()], &mut waiting)?;
-        nodes.push(node)?;
+        let (children, docs) = read_node(alloc, waiting[nodes.len()], &mut waiting)?;
+        let postings = number_docs(alloc, names, references, nodes.len(), &docs)?;
+        nodes.push(Node { children, postings })?;
     }
-    Ok((root.children, nodes))
+    Ok((root, nodes))
 }

@@ -1,47 +1,102 @@
 //! Comparing two tries.
-ghost use Rattle.std.specs.Prelude.{◌≡◌, ◌<◌, ◌↔◌, length, IsTrue, slice_get};
+ghost use Rattle.std.specs.Prelude.{◌≡◌, ◌<◌, ◌↔◌, ℕ, Some, length, IsTrue, slice_get};
+ghost use Rattle.elasticlunr_text.specs.Text.{Bytes};
+ghost use Rattle.std.specs.FinMap.{get};
+ghost use Rattle.elasticlunr_store.specs.Names.{ArePostings, named_pairs, AreNames, AreNumbered, at};
+ghost use Rattle.elasticlunr_store.specs.Nodes.{postings_at, AreAllNumbered};
+ghost use Rattle.elasticlunr_store.specs.Trie.{named, IsTrie};
 ghost use Rattle.elasticlunr_store.specs.Same.{IsSameBelow};
-ghost use Rattle.elasticlunr_store.specs.Children.{child};
-ghost use Rattle.elasticlunr_store.specs.Table.{postings_of};
-ghost use Rattle.elasticlunr_store.specs.Nodes.{entries_of, IsTrie};
 
-use super::nodes::{Node, Place, children_at, postings_at};
-use std::collections::BTreeMap;
+use super::names::Names;
+use super::nodes::{Node, Place, children_at, frequency_of, postings_at};
+use super::postings::Postings;
+
+// Has the name of a number this posting on the other side?
+fn same_posting(
+    names: &Names,
+    number: usize,
+    frequency: u64,
+    names2: &Names,
+    postings2: &Postings,
+) -> bool
+    requires { number < length names.now }
+    ensures { IsTrue result ↔ ((r : Bytes) → slice_get names.now number ≡ Some r → at names2.now r postings2.now ≡ Some frequency) }
+{
+    frequency_of(names2, postings2, names.name(number)) == Some(frequency)
+}
+
+// Is each of these postings one of the others?
+fn includes(names: &Names, pairs: &[(usize, u64)], names2: &Names, postings2: &Postings) -> bool
+    requires names { AreNames names.now }
+    requires postings { ArePostings names.now pairs.now }
+    ensures { IsTrue result ↔ ((r : Bytes) → (f : ℕ) → get (named_pairs names.now pairs.now) r ≡ Some f → at names2.now r postings2.now ≡ Some f) }
+{
+    for &(number, frequency) in pairs {
+        if !same_posting(names, number, frequency, names2, postings2) {
+            return false;
+        }
+    }
+    true
+}
 
 // Are these the same postings?
-fn same_postings(a: &BTreeMap<String, u64>, b: &BTreeMap<String, u64>) -> bool
-    ensures { IsTrue result ↔ (postings_of a.now.entries ≡ postings_of b.now.entries) }
+fn same_postings(names: &Names, postings: &Postings, names2: &Names, postings2: &Postings) -> bool
+    requires names { AreNames names.now }
+    requires numbered { AreNumbered names.now postings.now }
+    requires names2 { AreNames names2.now }
+    requires numbered2 { AreNumbered names2.now postings2.now }
+    ensures { IsTrue result ↔ (named names.now postings.now ≡ named names2.now postings2.now) }
 {
-    if a.len() != b.len() {
-        return false;
-    }
-    *a == *b
+    includes(names, postings.pairs(), names2, postings2)
+        && includes(names2, postings2.pairs(), names, postings)
 }
 
 // Have these children the same character and the same postings?
-fn same_child(nodes: &[Node], child: (char, usize), nodes2: &[Node], child2: (char, usize)) -> bool
+fn same_child(
+    names: &Names,
+    nodes: &[Node],
+    child: (char, usize),
+    names2: &Names,
+    nodes2: &[Node],
+    child2: (char, usize),
+) -> bool
+    requires names { AreNames names.now }
+    requires numbered { AreAllNumbered names.now nodes.now }
+    requires names2 { AreNames names2.now }
+    requires numbered2 { AreAllNumbered names2.now nodes2.now }
     requires in_range { child.1 < length nodes.now }
     requires in_range2 { child2.1 < length nodes2.now }
-    ensures { IsTrue result ↔ ((child.0 ≡ child2.0) × (postings_of (entries_of (slice_get nodes.now child.1)) ≡ postings_of (entries_of (slice_get nodes2.now child2.1)))) }
+    ensures { IsTrue result ↔ ((child.0 ≡ child2.0) × (named names.now (postings_at nodes.now child.1) ≡ named names2.now (postings_at nodes2.now child2.1))) }
 {
     if child.0 != child2.0 {
         return false;
     }
-    same_postings(postings_at(nodes, child.1), postings_at(nodes2, child2.1))
+    same_postings(
+        names,
+        postings_at(nodes, child.1),
+        names2,
+        postings_at(nodes2, child2.1),
+    )
 }
 
 // Are the texts below two places the same, with the same postings? Goes on with the last of the children, and comes back to the others, so a path without branches needs no stack.
 pub(super) fn same_below(
+    names: &Names,
     root: &[(char, usize)],
     nodes: &[Node],
     place: Place,
+    names2: &Names,
     root2: &[(char, usize)],
     nodes2: &[Node],
     place2: Place,
 ) -> bool
     requires trie { IsTrie root.now nodes.now }
+    requires names { AreNames names.now }
+    requires numbered { AreAllNumbered names.now nodes.now }
     requires trie2 { IsTrie root2.now nodes2.now }
-    ensures { IsTrue result ↔ IsSameBelow root.now nodes.now place root2.now nodes2.now place2 }
+    requires names2 { AreNames names2.now }
+    requires numbered2 { AreAllNumbered names2.now nodes2.now }
+    ensures { IsTrue result ↔ IsSameBelow names.now root.now nodes.now place names2.now root2.now nodes2.now place2 }
 {
     let mut here = place;
     let mut here2 = place2;
@@ -56,16 +111,23 @@ pub(super) fn same_below(
         }
         let last = children.len() - 1;
         for i in 0..last {
-            if !same_child(nodes, children[i], nodes2, children2[i]) {
+            if !same_child(names, nodes, children[i], names2, nodes2, children2[i]) {
                 return false;
             }
             let below = Place::At(children[i].1);
             let below2 = Place::At(children2[i].1);
-            if !same_below(root, nodes, below, root2, nodes2, below2) {
+            if !same_below(names, root, nodes, below, names2, root2, nodes2, below2) {
                 return false;
             }
         }
-        if !same_child(nodes, children[last], nodes2, children2[last]) {
+        if !same_child(
+            names,
+            nodes,
+            children[last],
+            names2,
+            nodes2,
+            children2[last],
+        ) {
             return false;
         }
         here = Place::At(children[last].1);

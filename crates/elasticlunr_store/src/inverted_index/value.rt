@@ -1,33 +1,47 @@
 //! The JSON value of a trie, made from the last node to the first.
-ghost use Rattle.std.specs.Prelude.{Some, ◌≡◌, ℕ, ◌<◌, [], length, IfOk, OnOk, slice_set, ◌≢◌, slice_get};
-ghost use Rattle.elasticlunr_store.specs.Table.{postings, postings_of};
+ghost use Rattle.std.specs.Prelude.{Some, map, ◌≡◌, ℕ, ◌<◌, [], length, IfOk, OnOk, slice_set, ◌≢◌, slice_get};
+ghost use Rattle.elasticlunr_store.specs.Table.{Postings};
+ghost use Rattle.elasticlunr_store.specs.Pairs.{IsStrictlySorted};
+ghost use Rattle.elasticlunr_store.specs.Names.{AreNames, AreRanks, AreThere, under_names};
+ghost use Rattle.elasticlunr_store.specs.Children.{child};
+ghost use Rattle.elasticlunr_store.specs.Nodes.{AreAllNumbered};
+ghost use Rattle.elasticlunr_store.specs.Trie.{IsTrie, table_of};
 ghost use Rattle.std.specs.FinMap.{entries};
 ghost use Rattle.serde_json.specs.Data.{Members, object, put};
 ghost use Rattle.serde_json.specs.View.{view, members_view};
 ghost use Rattle.elasticlunr_store.specs.Tree.{frequencies, IsTree};
 ghost use Rattle.elasticlunr_store.specs.Finished.{HasChildren, KeepsOtherValues, IsNode};
-ghost use Rattle.elasticlunr_store.specs.Children.{child, IsStrictlySorted};
-ghost use Rattle.elasticlunr_store.specs.Nodes.{IsTrie, table_of};
 
+use super::docs::in_order;
+use super::names::Names;
 use super::nodes::Node;
 use crate::members::put_member;
 use serde_json::{Map, Value};
 use std::alloc::{AllocError, Global};
-use std::collections::BTreeMap;
 
-// The value of the postings of a text.
-fn docs_value(alloc: Global, postings: &BTreeMap<String, u64>) -> Result<Value, AllocError>
-    ensures { IfOk result (λ v. view v ≡ object (frequencies (entries (postings_of postings.now.entries)))) }
+// The value of postings.
+fn docs_value(
+    alloc: Global,
+    names: &Names,
+    ranked: &[(usize, usize, u64)],
+) -> Result<Value, AllocError>
+    requires there { AreThere names.now ranked.now }
+    requires shown { (P : Postings) × (entries P ≡ under_names names.now (map (λ e. (e.1, e.2)) ranked.now)) }
+    ensures { IfOk result (λ v. view v ≡ object (frequencies (under_names names.now (map (λ e. (e.1, e.2)) ranked.now)))) }
 {
     let mut docs = Map::new(alloc);
-    for (doc_ref, term_freq) in postings.iter() {
+    for &(_, number, term_freq) in ranked {
         let mut frequency = Map::new(alloc);
         put_member(
             &mut frequency,
             String::from_str(alloc, "tf")?,
-            Value::from(*term_freq),
+            Value::from(term_freq),
         )?;
-        put_member(&mut docs, doc_ref.clone()?, Value::Object(frequency))?;
+        put_member(
+            &mut docs,
+            String::from_str(alloc, names.name(number))?,
+            Value::Object(frequency),
+        )?;
     }
     Ok(Value::Object(docs))
 }
@@ -101,18 +115,24 @@ fn root_value(
     alloc: Global,
     root: &[(char, usize)],
     nodes: &[Node],
+    names: &Names,
+    ranks: &[usize],
     finished: &mut [Value],
 ) -> Result<Value, AllocError>
     requires trie { IsTrie root.now nodes.now }
+    requires names { AreNames names.now }
+    requires ranks { AreRanks names.now ranks.now }
+    requires numbered { AreAllNumbered names.now nodes.now }
     requires one_each { length finished.old ≡ length nodes.now }
-    ensures { IfOk result (λ v. IsTree (table_of root.now nodes.now) [] (view v)) }
+    ensures { IfOk result (λ v. IsTree (table_of root.now nodes.now names.now) [] (view v)) }
 {
     let mut i = nodes.len();
     while i > 0 {
         i -= 1;
         let node = &nodes[i];
-        let docs = docs_value(alloc, &node.postings)?;
-        let df = node.postings.len() as u64;
+        let ranked = in_order(alloc, names, ranks, node.postings.pairs())?;
+        let docs = docs_value(alloc, names, &ranked)?;
+        let df = ranked.len() as u64;
         let value = node_value(alloc, &node.children, docs, df, finished)?;
         set_value(finished, i, value);
     }
@@ -126,13 +146,17 @@ pub(super) fn tree_value(
     alloc: Global,
     root: &[(char, usize)],
     nodes: &[Node],
+    names: &Names,
 ) -> Result<Value, AllocError>
-    requires { IsTrie root.now nodes.now }
-    ensures { IfOk result (λ v. IsTree (table_of root.now nodes.now) [] (view v)) }
+    requires trie { IsTrie root.now nodes.now }
+    requires names { AreNames names.now }
+    requires numbered { AreAllNumbered names.now nodes.now }
+    ensures { IfOk result (λ v. IsTree (table_of root.now nodes.now names.now) [] (view v)) }
 {
-    let mut finished = Vec::new(alloc);
+    let ranks = names.ranks(alloc)?;
+    let mut finished = Vec::with_capacity(alloc, nodes.len())?;
     for _ in nodes {
         finished.push(Value::Null)?;
     }
-    root_value(alloc, root, nodes, &mut finished)
+    root_value(alloc, root, nodes, names, &ranks, &mut finished)
 }

@@ -1,19 +1,24 @@
 //! The JSON text of an inverted index, with no JSON value built.
-ghost use Rattle.std.specs.Prelude.{◌≡◌, [], ◌∷◌, ◌++◌, OnOk, encode_utf8, decimal, codes};
+ghost use Rattle.std.specs.Prelude.{◌≡◌, map, [], ◌∷◌, ◌++◌, OnOk, encode_utf8, decimal, codes};
 ghost use Rattle.json.specs.Token.{key, number, begin_object, end_object};
 ghost use Rattle.json.specs.Tree.{json_tokens};
 ghost use Rattle.serde_json.specs.Data.{Data};
 ghost use Rattle.serde_json.specs.Written.{outline};
-ghost use Rattle.elasticlunr_store.specs.Table.{IsTable, postings_of};
-ghost use Rattle.elasticlunr_store.specs.Tree.{IsTrieValue};
-ghost use Rattle.elasticlunr_store.specs.Nodes.{IsTrie, table_of, entries_at};
-ghost use Rattle.elasticlunr_store.specs.Printed.{place_members, part, tokens_of, postings_tokens, left_members, node_members, stack_tokens, Advances, HasTrees};
+ghost use Rattle.std.specs.FinMap.{empty};
+ghost use Rattle.elasticlunr_store.specs.Table.{IsTable};
+ghost use Rattle.elasticlunr_store.specs.Names.{Names, AreNumbered, AreThere, under_names};
+ghost use Rattle.elasticlunr_store.specs.Nodes.{AreAllNumbered, postings_at};
+ghost use Rattle.elasticlunr_store.specs.Trie.{IsTrie, named, table_of, entries_at};
+ghost use Rattle.elasticlunr_store.specs.Tree.{IsTrieValue, frequencies};
+ghost use Rattle.elasticlunr_store.specs.Printed.{IsOrder, place_members, part, tokens_of, postings_tokens, left_members, node_members, stack_tokens, Advances, HasTrees};
 
 use super::InvertedIndex;
-use super::nodes::{Node, Place, children_of};
+use super::docs::in_order;
+use super::names::Names;
+use super::nodes::{Node, Place, children_of, postings_at};
+use super::postings::Postings;
 use crate::tokens::{Token, Tokens};
 use std::alloc::{AllocError, Global};
-use std::collections::BTreeMap;
 
 // What is left to write of an object: children, and before them or among them `df` and `docs` of a place.
 #[derive(Clone, Copy)]
@@ -22,62 +27,83 @@ enum Left<'a> {
     WithoutPostings(&'a [(char, usize)]),
 }
 
+// The names of references, and for each the place of its name among the names in order.
+#[derive(Clone, Copy)]
+struct Order<'a> {
+    alloc: Global,
+    names: &'a Names,
+    ranks: &'a [usize],
+}
+
 impl InvertedIndex {
-    /// Writes the JSON value of the trie, without making it. Takes a few bytes of memory a level, beside what is written.
+    /// Writes the JSON value of the trie, without making it. Takes 8 bytes of memory a reference and a few a level, beside what is written, and 24 for each posting of the node that is written. The names are put in order once, and each node's postings by them.
     pub fn write<W: Tokens>(&self, out: &mut W) -> Result<(), AllocError>
         ensures written { OnOk result ((v : Data) × IsTrieValue self.now v × (W.Tokens.written out.new ≡ W.Tokens.written out.old ++ json_tokens (outline v))) }
         ensures table { IsTable self.now }
     {
         let alloc = *self.nodes.allocator();
-        write_trie(alloc, &self.root, &self.nodes, out)
+        let ranks = self.names.ranks(alloc)?;
+        let order = Order {
+            alloc,
+            names: &self.names,
+            ranks: &ranks,
+        };
+        write_trie(order, &self.root, &self.nodes, out)
     }
 }
 
 // Writes the tree of the root under its key.
 fn write_trie<W: Tokens>(
-    alloc: Global,
+    order: Order,
     root: &[(char, usize)],
     nodes: &[Node],
     out: &mut W,
 ) -> Result<(), AllocError>
-    requires { IsTrie root.now nodes.now }
-    ensures { OnOk result ((v : Data) × IsTrieValue (table_of root.now nodes.now) v × (W.Tokens.written out.new ≡ W.Tokens.written out.old ++ json_tokens (outline v))) }
+    requires trie { IsTrie root.now nodes.now }
+    requires order { IsOrder order }
+    requires numbered { AreAllNumbered order.names.now nodes.now }
+    ensures { OnOk result ((v : Data) × IsTrieValue (table_of root.now nodes.now order.entry.names.now) v × (W.Tokens.written out.new ≡ W.Tokens.written out.old ++ json_tokens (outline v))) }
 {
     out.token(Token::BeginObject)?;
     out.token(Token::Key("root"))?;
     out.token(Token::BeginObject)?;
-    write_members(alloc, root, nodes, out)?;
+    write_members(order, root, nodes, out)?;
     out.token(Token::EndObject)?;
     Ok(())
 }
 
 // Writes the members of the root's tree, and the end of the object.
 fn write_members<W: Tokens>(
-    alloc: Global,
+    order: Order,
     root: &[(char, usize)],
     nodes: &[Node],
     out: &mut W,
 ) -> Result<(), AllocError>
-    requires { HasTrees nodes.now }
-    ensures { OnOk result (W.Tokens.written out.new ≡ W.Tokens.written out.old ++ tokens_of (place_members (part nodes.now) (postings_of []) root.now)) }
+    requires trees { HasTrees order.names.now nodes.now }
+    requires order { IsOrder order }
+    requires numbered { AreAllNumbered order.names.now nodes.now }
+    ensures { OnOk result (W.Tokens.written out.new ≡ W.Tokens.written out.old ++ tokens_of (place_members (part order.entry.names.now nodes.now) (named order.entry.names.now empty) root.now)) }
 {
-    let mut stack = Vec::new(alloc);
+    let mut stack = Vec::new(order.alloc);
     stack.push(Left::WithPostings(Place::Root, root))?;
     while let Some(left) = stack.pop() {
-        write_next(nodes, left, &mut stack, out)?;
+        write_next(order, nodes, left, &mut stack, out)?;
     }
     Ok(())
 }
 
 // Writes the first tokens of what is left of an object, and keeps the rest.
 fn write_next<'a, W: Tokens>(
+    order: Order,
     nodes: &'a [Node],
     left: Left<'a>,
     stack: &mut Vec<Left<'a>>,
     out: &mut W,
 ) -> Result<(), AllocError>
-    requires { HasTrees nodes.now }
-    ensures { OnOk result (Advances (W.Tokens.written out.old) (tokens_of (left_members nodes.now left.entry) ++ stack_tokens nodes.now stack.old.items) (W.Tokens.written out.new) (stack_tokens nodes.now stack.new.items)) }
+    requires trees { HasTrees order.names.now nodes.now }
+    requires order { IsOrder order }
+    requires numbered { AreAllNumbered order.names.now nodes.now }
+    ensures { OnOk result (Advances (W.Tokens.written out.old) (tokens_of (left_members order.entry.names.now nodes.now left.entry) ++ stack_tokens order.entry.names.now nodes.now stack.old.items) (W.Tokens.written out.new) (stack_tokens order.entry.names.now nodes.now stack.new.items)) }
 {
     match left {
         Left::WithPostings(place, children) => match children.split_first() {
@@ -87,7 +113,7 @@ fn write_next<'a, W: Tokens>(
                 Ok(())
             }
             _ => {
-                write_postings(nodes, place, out)?;
+                write_postings(order, nodes, place, out)?;
                 stack.push(Left::WithoutPostings(children))?;
                 Ok(())
             }
@@ -115,7 +141,7 @@ fn open_child<'a, W: Tokens>(
     out: &mut W,
 ) -> Result<(), AllocError>
     ensures written { OnOk result (W.Tokens.written out.new ≡ W.Tokens.written out.old ++ key (encode_utf8 c) ∷ begin_object ∷ []) }
-    ensures left { OnOk result (stack_tokens nodes.now stack.new.items ≡ tokens_of (node_members nodes.now k) ++ stack_tokens nodes.now stack.old.items) }
+    ensures left { OnOk result ((names : Names) → stack_tokens names nodes.now stack.new.items ≡ tokens_of (node_members names nodes.now k) ++ stack_tokens names nodes.now stack.old.items) }
 {
     write_child_key(c, out)?;
     stack.push(Left::WithPostings(Place::At(k), children_of(nodes, k)))?;
@@ -133,20 +159,41 @@ fn write_child_key<W: Tokens>(c: char, out: &mut W) -> Result<(), AllocError>
 }
 
 // Writes `df` and `docs` of a place.
-fn write_postings<W: Tokens>(nodes: &[Node], place: Place, out: &mut W) -> Result<(), AllocError>
-    ensures { OnOk result (W.Tokens.written out.new ≡ W.Tokens.written out.old ++ postings_tokens (postings_of (entries_at [] nodes.now place))) }
+fn write_postings<W: Tokens>(
+    order: Order,
+    nodes: &[Node],
+    place: Place,
+    out: &mut W,
+) -> Result<(), AllocError>
+    requires order { IsOrder order }
+    requires numbered { AreAllNumbered order.names.now nodes.now }
+    ensures { OnOk result (W.Tokens.written out.new ≡ W.Tokens.written out.old ++ postings_tokens (named order.entry.names.now (entries_at [] nodes.now place))) }
 {
     match place {
         Place::Root => write_no_postings(out),
-        Place::At(k) => match nodes.get(k) {
-            Some(node) => write_docs(&node.postings, out),
-            None => write_no_postings(out),
-        },
+        Place::At(k) => write_at(order, nodes, k, out),
     }
 }
 
+// Writes `df` and `docs` of a node.
+fn write_at<W: Tokens>(
+    order: Order,
+    nodes: &[Node],
+    k: usize,
+    out: &mut W,
+) -> Result<(), AllocError>
+    requires order { IsOrder order }
+    requires numbered { AreAllNumbered order.names.now nodes.now }
+    ensures { OnOk result (W.Tokens.written out.new ≡ W.Tokens.written out.old ++ postings_tokens (named order.entry.names.now (postings_at nodes.now k))) }
+{
+    if k >= nodes.len() {
+        return write_no_postings(out);
+    }
+    write_docs(order, postings_at(nodes, k), out)
+}
+
 fn write_no_postings<W: Tokens>(out: &mut W) -> Result<(), AllocError>
-    ensures { OnOk result (W.Tokens.written out.new ≡ W.Tokens.written out.old ++ postings_tokens (postings_of [])) }
+    ensures { OnOk result ((names : Names) → W.Tokens.written out.new ≡ W.Tokens.written out.old ++ postings_tokens (named names empty)) }
 {
     out.token(Token::Key("df"))?;
     out.number(0)?;
@@ -156,17 +203,33 @@ fn write_no_postings<W: Tokens>(out: &mut W) -> Result<(), AllocError>
     Ok(())
 }
 
-fn write_docs<W: Tokens>(postings: &BTreeMap<String, u64>, out: &mut W) -> Result<(), AllocError>
-    ensures { OnOk result (W.Tokens.written out.new ≡ W.Tokens.written out.old ++ postings_tokens (postings_of postings.now.entries)) }
+fn write_docs<W: Tokens>(order: Order, postings: &Postings, out: &mut W) -> Result<(), AllocError>
+    requires order { IsOrder order }
+    requires numbered { AreNumbered order.names.now postings.now }
+    ensures { OnOk result (W.Tokens.written out.new ≡ W.Tokens.written out.old ++ postings_tokens (named order.entry.names.now postings.now)) }
 {
+    let ranked = in_order(order.alloc, order.names, order.ranks, postings.pairs())?;
     out.token(Token::Key("df"))?;
-    out.number(postings.len() as u64)?;
+    out.number(ranked.len() as u64)?;
     out.token(Token::Key("docs"))?;
     out.token(Token::BeginObject)?;
-    for (doc_ref, term_freq) in postings.iter() {
-        write_posting(doc_ref, *term_freq, out)?;
-    }
+    write_ranked(order.names, &ranked, out)?;
     out.token(Token::EndObject)?;
+    Ok(())
+}
+
+// Writes postings, each as the rank of its name, the number and the frequency.
+fn write_ranked<W: Tokens>(
+    names: &Names,
+    ranked: &[(usize, usize, u64)],
+    out: &mut W,
+) -> Result<(), AllocError>
+    requires { AreThere names.now ranked.now }
+    ensures { OnOk result (W.Tokens.written out.new ++ end_object ∷ [] ≡ W.Tokens.written out.old ++ tokens_of (frequencies (under_names names.now (map (λ e. (e.1, e.2)) ranked.now)))) }
+{
+    for &(_, number, term_freq) in ranked {
+        write_posting(names.name(number), term_freq, out)?;
+    }
     Ok(())
 }
 

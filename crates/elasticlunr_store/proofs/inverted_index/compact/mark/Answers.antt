@@ -1,7 +1,8 @@
 use Rattle.std.proofs.Common.{◌≡◌, ◌-◌, ◌↔◌, ◌⊎◌, ℕ, sym, ap, ◌∙◌, arith, subst, Some, length-set, IsTrue}
-use Rattle.elasticlunr_text.specs.Text.{Bytes}
-use Rattle.elasticlunr_store.specs.Children.{child, IsStrictlySorted}
-use Rattle.elasticlunr_store.specs.Nodes.{at, children_of, entries_of}
+use Rattle.elasticlunr_store.specs.Pairs.{IsStrictlySorted}
+use Rattle.elasticlunr_store.specs.Children.{child}
+use Rattle.elasticlunr_store.specs.Nodes.{children_of, entries_of}
+use Rattle.std.specs.FinMap.{get}
 use Rattle.elasticlunr_store.specs.Compact.{is_marked}
 use Rattle.elasticlunr_store.specs.declared.inverted_index.nodes.Place.TheVariants.{At}
 use Rattle.elasticlunr_store.proofs.Places.{get_there}
@@ -27,7 +28,7 @@ loop-i-preserved c =
     let marks = c.loop-i.marks in
     let b = c.bears_posting-bears.result in
     let here = get_there nodes i c.index-nodes-i.result (omega (arith, c.loop-i.invariant.low)) ∙ ap Some (sym c.index-nodes-i.is) in
-    let tells = subst (λ o. IsTrue b ↔ (((r : Bytes) × (n : ℕ) × (at r (entries_of o) ≡ Some n)) ⊎ ((x : ℕ) × (k : ℕ) × (child (children_of o) x ≡ Some k) × IsTrue (is_marked marks k)))) (sym here) c.bears_posting-bears.ensures in
+    let tells = subst (λ o. IsTrue b ↔ (((r : ℕ) × (n : ℕ) × (get (entries_of o) r ≡ Some n)) ⊎ ((x : ℕ) × (k : ℕ) × (child (children_of o) x ≡ Some k) × IsTrue (is_marked marks k)))) (sym here) c.bears_posting-bears.ensures in
     record {
       low = omega (arith, c.loop-i.invariant.low);
       count = length-set marks i b ∙ c.loop-i.invariant.count;

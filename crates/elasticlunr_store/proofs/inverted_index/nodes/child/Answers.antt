@@ -1,11 +1,11 @@
 use Rattle.std.proofs.Common.{sym}
-use Rattle.elasticlunr_store.proofs.Gap.{child_at_place, child_in_gap}
+use Rattle.elasticlunr_store.proofs.Gap.{value_at_place, value_in_gap}
 use Rattle.elasticlunr_store.proofs.inverted_index.nodes.child.Goals as goal
 
 -- the character is at its place
 pub returns-in-Ok : goal.returns-in-Ok
-returns-in-Ok c = sym (child_at_place _ c.requires _ _ c.in-Ok.ensures.found)
+returns-in-Ok c = sym (value_at_place _ c.requires _ _ c.in-Ok.ensures.found)
 
 -- the character is not there
 pub returns-in-Err : goal.returns-in-Err
-returns-in-Err c = sym (child_in_gap _ _ _ c.in-Err.ensures.absent)
+returns-in-Err c = sym (value_in_gap _ _ _ c.in-Err.ensures.absent)

@@ -2,8 +2,8 @@ use Rattle.std.proofs.Common.{sym, ap, ◌∙◌}
 use Rattle.std.proofs.lemmas.Str.{IsUtf8-past_char, chars_past_char, chars-nil}
 use Rattle.std.proofs.lemmas.List.{nil_from_length}
 use Rattle.std.specs.Str.{chars}
-use Rattle.elasticlunr_store.specs.Children.{child}
-use Rattle.elasticlunr_store.specs.Nodes.{walk, step_of}
+use Rattle.elasticlunr_store.specs.Pairs.{value_of}
+use Rattle.elasticlunr_store.specs.Trie.{walk, step_of}
 use Rattle.elasticlunr_store.proofs.Forest.{walk_on, walk_off}
 use Rattle.elasticlunr_store.proofs.inverted_index.nodes.find.Goals as goal
 
@@ -13,7 +13,7 @@ loop-c-preserved c =
     let held = c.loop-c.invariant in
     let parts = c.in-Some.ensures.steps.0 in
     let next = ap (walk (step_of c.args.root.now c.args.nodes.now) c.loop-c.place) (chars_past_char _ _ c.in-Some.c held.0 parts) in
-    let here = ap (λ es. child es c.in-Some.c) c.children_at.ensures in (
+    let here = ap (λ es. value_of es c.in-Some.c) c.children_at.ensures in (
       IsUtf8-past_char _ _ c.in-Some.c held.0 parts,
       sym (walk_on (step_of c.args.root.now c.args.nodes.now) c.loop-c.place c.in-Some.c _ _ (sym here ∙ sym c.child.ensures ∙ c.in_ok-child.was)) ∙ sym next ∙ held.1,
     )
@@ -23,7 +23,7 @@ returns-in_err-child c =
     let held = c.loop-c.invariant in
     let parts = c.in-Some.ensures.steps.0 in
     let next = ap (walk (step_of c.args.root.now c.args.nodes.now) c.loop-c.place) (chars_past_char _ _ c.in-Some.c held.0 parts) in
-    let here = ap (λ es. child es c.in-Some.c) c.children_at.ensures in
+    let here = ap (λ es. value_of es c.in-Some.c) c.children_at.ensures in
     c.from_residual.ensures ∙ sym (walk_off (step_of c.args.root.now c.args.nodes.now) c.loop-c.place c.in-Some.c _ (sym here ∙ sym c.child.ensures ∙ c.in_err-child.was)) ∙ sym next ∙ held.1
 
 -- nothing is left

@@ -1,7 +1,7 @@
 use Rattle.std.proofs.Common.{◌≡◌}
 use Rattle.std.specs.Str.{chars, IsUtf8}
 use Rattle.std.specs.Str.Iter.{chars_rest}
-use Rattle.elasticlunr_store.specs.Nodes.{walk, step_of}
+use Rattle.elasticlunr_store.specs.Trie.{walk, step_of}
 use Rattle.elasticlunr_store.specs.declared.inverted_index.nodes.Place.TheVariants.{Root}
 use Rattle.elasticlunr_store.proofs.inverted_index.nodes.find.Given as goal
 

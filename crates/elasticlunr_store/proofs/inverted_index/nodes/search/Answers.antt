@@ -3,7 +3,7 @@ use Rattle.std.proofs.lemmas.List.Sorted.{answers_always}
 use Rattle.elasticlunr_store.proofs.Gap.{searched}
 use Rattle.elasticlunr_store.proofs.inverted_index.nodes.search.Goals as goal
 
--- the closure gives a child's character
+-- the closure gives a value_of's character
 pub returns : goal.returns
 returns c =
     let facts = c.binary_search_by_key.ensures in

@@ -7,7 +7,8 @@ use Rattle.serde_json.specs.Find.{get_member}
 use Rattle.serde_json.specs.View.{view, members_view}
 use Rattle.serde_json.proofs.Views.{Entry, put_last}
 use Rattle.elasticlunr_store.specs.Reading.{seen, ReadsChildren}
-use Rattle.elasticlunr_store.specs.Children.{child, IsGapFor}
+use Rattle.elasticlunr_store.specs.Pairs.{IsGapFor}
+use Rattle.elasticlunr_store.specs.Children.{child}
 use Rattle.elasticlunr_store.proofs.Finishing.{ordered_members}
 use Rattle.elasticlunr_store.proofs.Reading.{nothing_read, not_yet, not_among, is_there, skips_key, takes_key, seen_push, length-seen}
 use Rattle.elasticlunr_store.proofs.inverted_index.read.read_children.Goals as goal

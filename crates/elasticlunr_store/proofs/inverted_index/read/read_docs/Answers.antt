@@ -9,8 +9,6 @@ use Rattle.elasticlunr_store.specs.Tree.{frequency, frequencies}
 use Rattle.elasticlunr_store.proofs.Docs.{bytes_of, sorted_entries}
 use Rattle.elasticlunr_store.proofs.ReadingMaps.{object_of, value_there}
 use Rattle.elasticlunr_store.proofs.Reading.{one_more_posting}
-use Rattle.elasticlunr_store.specs.Nodes.{AreSmall}
-use Rattle.elasticlunr_store.proofs.Postings.{no_entries_small, small_inserted}
 use Rattle.elasticlunr_store.proofs.inverted_index.read.read_docs.Goals as goal
 
 pub returns-in_default-read_frequency-clause-foreign : goal.returns-in_default-read_frequency-clause-foreign
@@ -31,7 +29,6 @@ loop-doc_ref-init c =
       sorted_members = subst (λ es. IsStrictlySortedBy string_cmp (keys_of es)) (sym from) c.iter-doc_ref-items.ensures.ordered;
       read = ap (λ es. frequencies (bytes_of es)) (sym c.new-postings.ensures.empty);
       sorted = c.new-postings.ensures.ordered;
-      small = subst AreSmall (sym c.new-postings.ensures.empty) no_entries_small;
     }
 
 pub loop-doc_ref-preserved : goal.loop-doc_ref-preserved
@@ -47,7 +44,6 @@ loop-doc_ref-preserved c =
       read = one_more_posting held.done e c.next.new.self c.loop-doc_ref.postings.entries c.in_ok-clone.field-0 c.in-Some-read_frequency.term_freq (put_last held.done e c.next.new.self sorted) held.read c.in_ok-clone.ensures.cases c.in-Some-read_frequency.ensures.found
           ∙ ap (λ es. frequencies (bytes_of es)) (sym c.in_ok-insert.ensures.entries);
       sorted = c.in_ok-insert.ensures.ordered;
-      small = subst AreSmall (sym c.in_ok-insert.ensures.entries) (small_inserted c.loop-doc_ref.postings.entries c.in_ok-clone.field-0 c.in-Some-read_frequency.term_freq held.small c.in-Some-read_frequency.ensures.small);
     }
 
 pub returns-clause-ok : goal.returns-clause-ok

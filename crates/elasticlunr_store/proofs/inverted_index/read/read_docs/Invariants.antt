@@ -5,7 +5,6 @@ use Rattle.serde_json.specs.View.{view, members_view}
 use Rattle.serde_json.specs.Find.{as_object}
 use Rattle.serde_json.proofs.Views.{Entry}
 use Rattle.elasticlunr_store.specs.Tree.{frequencies}
-use Rattle.elasticlunr_store.specs.Nodes.{AreSmall}
 use Rattle.elasticlunr_store.proofs.Docs.{bytes_of}
 use Rattle.elasticlunr_store.proofs.inverted_index.read.read_docs.Given as goal
 
@@ -18,5 +17,4 @@ invariant-loop-doc_ref l =
       sorted_members : IsStrictlySortedBy string_cmp (keys_of (done ++ l.doc_ref-iterator));
       read : members_view done ≡ frequencies (bytes_of l.postings.entries);
       sorted : IsStrictlySortedBy string_cmp (keys_of l.postings.entries);
-      small : AreSmall l.postings.entries;
     }

@@ -26,7 +26,6 @@ returns-clause-ok c =
     let counted = c.len.ensures.len ∙ sym (len_postings c.in_ok-postings.postings.entries c.len.ensures.ordered) in
     record {
       values = reads.values;
-      small = c.in_ok-postings.ensures.small;
       members = members_view c.in-Some.members.now.entries;
       is = is;
       node = record {

@@ -1,12 +1,19 @@
 use Rattle.std.proofs.Common.{◌-◌, ◌^◌, length}
 use Rattle.serde_json.specs.View.{view}
+use Rattle.elasticlunr_store.specs.Names.{AreNames}
+use Rattle.elasticlunr_store.specs.Nodes.{AreListed}
 use Rattle.elasticlunr_store.specs.Reading.{seen}
 use Rattle.elasticlunr_store.proofs.Waiting.{IsRead}
 use Rattle.elasticlunr_store.proofs.inverted_index.read.read_nodes.Given as goal
 
--- the nodes so far are read
+-- the nodes so far are read, and their postings listed
 abbrev pub invariant-loop-alloc : goal.invariant-loop-alloc
-invariant-loop-alloc l = IsRead l.root.children.items l.nodes.items (view l.value) (seen l.waiting.items)
+invariant-loop-alloc l =
+    record {
+      names_are : AreNames l.names;
+      listed : AreListed l.names l.references.items l.nodes.items;
+      read : IsRead l.names l.root.items l.nodes.items (view l.value) (seen l.waiting.items);
+    }
 
 -- each round makes a node, and a vector has no more than this
 abbrev pub decreases-loop-alloc : goal.decreases-loop-alloc

@@ -1,10 +1,10 @@
-use Rattle.std.proofs.Common.{◌≡◌, ◌++◌, map, string_bytes}
+use Rattle.std.proofs.Common.{◌≡◌, take}
 use Rattle.serde_json.specs.View.{members_view}
-use Rattle.elasticlunr_store.specs.Table.{Entries}
+use Rattle.elasticlunr_store.specs.Names.{under_names}
 use Rattle.elasticlunr_store.specs.Tree.{frequencies}
+use Rattle.elasticlunr_store.proofs.Ranked.{behind}
 use Rattle.elasticlunr_store.proofs.inverted_index.value.docs_value.Given as goal
 
--- a member for each entry that was read
-abbrev pub invariant-loop-doc_ref : goal.invariant-loop-doc_ref
-invariant-loop-doc_ref l =
-    (done : Entries) × (done ++ l.doc_ref-iterator ≡ l.postings.entries) × (members_view l.docs.entries ≡ frequencies (map (λ e. (string_bytes e.0, e.1)) done))
+-- a member for each posting so far
+abbrev pub invariant-loop-number : goal.invariant-loop-number
+invariant-loop-number l = members_view l.docs.entries ≡ frequencies (under_names l.names (behind (take l.number-index l.ranked)))

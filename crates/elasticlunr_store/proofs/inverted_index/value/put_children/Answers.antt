@@ -5,7 +5,7 @@ use Rattle.serde_json.specs.View.{members_view, view}
 use Rattle.serde_json.specs.Data.{put}
 use Rattle.elasticlunr_store.specs.Children.{child}
 use Rattle.elasticlunr_store.specs.Finished.{HasChildren, KeepsOtherValues}
-use Rattle.elasticlunr_store.proofs.Gap.{child_at_place}
+use Rattle.elasticlunr_store.proofs.Gap.{value_at_place}
 use Rattle.elasticlunr_store.proofs.Finishing.{no_children_yet, one_more_child, child_before, child_within, child_more, child_push}
 use Rattle.elasticlunr_store.proofs.inverted_index.value.put_children.Goals as goal
 
@@ -14,7 +14,7 @@ loop-c-init c = record { put = rw c.requires.empty (no_children_yet c.args.finis
 
 pub take_value-requires : goal.take_value-requires
 take_value-requires c =
-    let at = child_at_place c.args.children.now c.requires.sorted _ c.loop-c.c-index (record { in_range = omega arith; has_key = refl }) in
+    let at = value_at_place c.args.children.now c.requires.sorted _ c.loop-c.c-index (record { in_range = omega arith; has_key = refl }) in
     omega (arith, c.requires.in_range _ _ at, c.loop-c.auto.finished)
 
 pub loop-c-preserved : goal.loop-c-preserved
@@ -24,7 +24,7 @@ loop-c-preserved c =
     let e = get_or all i (0, 0) in
     let done = take i all in
     let more = take_more all i (0, 0) c.loop-c-test.true in
-    let here = child_at_place all c.requires.sorted e.0 i (record { in_range = c.loop-c-test.true; has_key = refl }) in
+    let here = value_at_place all c.requires.sorted e.0 i (record { in_range = c.loop-c-test.true; has_key = refl }) in
     let none = child_before all c.requires.sorted i c.loop-c-test.true in
     let untaken = c.loop-c.invariant.kept e.1 (λ d found. let same = c.requires.apart d e.0 e.1 (child_within all i d e.1 found) here in let x = ap (child done) same in absurd (cc (none, found, x))) in
     let value = ap (option_map view) (sym untaken ∙ c.take_value.ensures.taken) in

@@ -7,7 +7,7 @@ abbrev pub invariant-loop-i : goal.invariant-loop-i
 invariant-loop-i l =
     record {
       low : l.i ≤ length l.nodes;
-      trees : IsFinishedFrom l.root l.nodes l.finished l.i;
+      trees : IsFinishedFrom l.names l.root l.nodes l.finished l.i;
     }
 
 abbrev pub decreases-loop-i : goal.decreases-loop-i

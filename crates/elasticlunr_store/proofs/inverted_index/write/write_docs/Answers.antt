@@ -1,20 +1,29 @@
-use Rattle.std.proofs.Common.{◌∷◌, ◌++◌, sym, ap, ◌∙◌, append_assoc, codes, decimal}
+use Rattle.std.proofs.Common.{◌≡◌, ◌∷◌, ◌++◌, sym, ap, subst, ◌∙◌, append_assoc, codes, decimal}
 use Rattle.json.specs.Token.{Token}
+use Rattle.std.specs.FinMap.{entries}
+use Rattle.elasticlunr_store.specs.Names.{ArePostings, named_pairs, under_names}
+use Rattle.elasticlunr_store.specs.Trie.{named}
 use Rattle.elasticlunr_store.specs.Tree.{frequencies}
-use Rattle.elasticlunr_store.specs.Printed.{tokens_of}
-use Rattle.elasticlunr_store.proofs.Docs.{bytes_of, sorted_entries}
-use Rattle.elasticlunr_store.proofs.Finishing.{len_postings}
+use Rattle.elasticlunr_store.specs.Printed.{tokens_of, postings_tokens}
+use Rattle.elasticlunr_store.proofs.Named.{pairs_are, pairs_named}
+use Rattle.elasticlunr_store.proofs.Ranked.{behind, count_shown}
 use Rattle.elasticlunr_store.proofs.Printing.{four}
 use Rattle.elasticlunr_store.proofs.inverted_index.write.write_docs.Goals as goal
 
+pub in_order-requires-clause-postings : goal.in_order-requires-clause-postings
+in_order-requires-clause-postings g c = subst (ArePostings c.args.order.names.now) (sym c.pairs.ensures) (pairs_are c.args.order.names.now c.args.postings.now c.requires.numbered)
+
 pub returns : goal.returns
 returns g c =
-    let es = c.args.postings.now.entries in
     let old = g.W.Tokens.written c.args.out.now in
+    let names = c.args.order.names.now in
+    let P = named names c.args.postings.now in
+    let r = c.in_ok-ranked.ranked.items in
+    let is : entries P ≡ under_names names (behind r) =
+    ap entries (pairs_named names c.args.postings.now c.requires.numbered c.requires.order.0 ∙ ap (named_pairs names) (sym c.pairs.ensures)) ∙ c.in_ok-ranked.ensures.shown in
     let start = four old _ _ _ _ _ _ _ _ c.in_ok-token.ensures c.in_ok-number.ensures c.in_ok-token-2.ensures c.in_ok-token-3.ensures in
-    let count = c.len.ensures.len ∙ sym (len_postings es c.len.ensures.ordered) in
-    let all = sym (sorted_entries es c.len.ensures.ordered) in
-    let end = ap (λ rest. g.W.Tokens.written c.loop-doc_ref.out ++ tokens_of (frequencies (bytes_of rest))) c.in-None.ensures.steps.0 in
-    c.in_ok-token-4.ensures ∙ sym end ∙ c.loop-doc_ref.invariant ∙ ap (λ ts. ts ++ tokens_of (frequencies (bytes_of es))) start
+    let count = c.len.ensures ∙ c.in_ok-ranked.ranked.ok.0 ∙ sym (count_shown names P r is) in
+    let all = ap (λ es. under_names names (behind es)) c.deref.ensures.value ∙ sym is in
+    c.in_ok-token-4.ensures ∙ c.in_ok-write_ranked.ensures ∙ ap (λ ts. ts ++ tokens_of (frequencies (under_names names (behind c.deref.result.now)))) start
     ∙ append_assoc old _ _
     ∙ ap (λ ts. old ++ ts) (λ i. Token.key (codes "df") ∷ Token.number (decimal (count i)) ∷ Token.key (codes "docs") ∷ Token.begin_object ∷ tokens_of (frequencies (all i)))

@@ -1,6 +1,5 @@
 use Rattle.std.proofs.Common.{◌≡◌, ap, sym, ◌∙◌, ◌++◌, [], arith, ℕ, length}
-use Rattle.elasticlunr_store.specs.Table.{postings_of}
-use Rattle.elasticlunr_store.specs.Nodes.{entries_at}
+use Rattle.elasticlunr_store.specs.Trie.{entries_at, named}
 use Rattle.elasticlunr_store.specs.Printed.{place_members, children_members, part, tokens_of, left_members, stack_tokens, postings_before}
 use Rattle.elasticlunr_store.specs.declared.inverted_index.write.Left.TheVariants.{WithPostings, WithoutPostings}
 use Rattle.elasticlunr_store.proofs.Finishing.{some_of}
@@ -12,28 +11,30 @@ use Rattle.elasticlunr_store.proofs.inverted_index.write.write_next.Goals.{in_de
 pub returns-in_ok-open_child-in-Some : goal.returns-in_ok-open_child-in-Some
 returns-in_ok-open_child-in-Some g c =
     let nodes = c.args.nodes.now in
+    let names = c.args.order.names.now in
     let stack = c.args.stack.now.items in
-    let P = postings_of (entries_at [] nodes c.in-WithPostings.place) in
+    let P = named names (entries_at [] nodes c.in-WithPostings.place) in
     let first = c.in-Some.field-0-0.now in
     let rest = c.in-Some.rest in (
       _,
       omega arith,
       c.in_ok-open_child-in-Some.ensures.written,
-      ap (λ l. tokens_of (left_members nodes l) ++ stack_tokens nodes stack) c.in-WithPostings.is
-          ∙ ap (λ es. tokens_of (place_members (part nodes) P es) ++ stack_tokens nodes stack) c.in-Some.ensures.cases.0
-          ∙ ap (λ ms. tokens_of ms ++ stack_tokens nodes stack) (up_to_d nodes P first.0 first.1 rest.now c.if-c-le100.true)
-          ∙ opened nodes c.requires stack (WithPostings c.in-WithPostings.place rest) first.0 first.1 c.push.new.self.items c.open_child.new.stack.items c.in_ok-push-in-Some.ensures.items c.in_ok-open_child-in-Some.ensures.left,
+      ap (λ l. tokens_of (left_members names nodes l) ++ stack_tokens names nodes stack) c.in-WithPostings.is
+          ∙ ap (λ es. tokens_of (place_members (part names nodes) P es) ++ stack_tokens names nodes stack) c.in-Some.ensures.cases.0
+          ∙ ap (λ ms. tokens_of ms ++ stack_tokens names nodes stack) (up_to_d names nodes P first.0 first.1 rest.now c.if-c-le100.true)
+          ∙ opened names nodes c.requires.trees stack (WithPostings c.in-WithPostings.place rest) first.0 first.1 c.push.new.self.items c.open_child.new.stack.items c.in_ok-push-in-Some.ensures.items (c.in_ok-open_child-in-Some.ensures.left names),
     )
 
 -- `df` and `docs`
 pub returns-in_ok-push-in_default : goal.returns-in_ok-push-in_default
 returns-in_ok-push-in_default g c =
     let nodes = c.args.nodes.now in
+    let names = c.args.order.names.now in
     let stack = c.args.stack.now.items in
-    let P = postings_of (entries_at [] nodes c.in-WithPostings.place) in
+    let P = named names (entries_at [] nodes c.in-WithPostings.place) in
     let es = c.in-WithPostings.children in
-    let now : place_members (part nodes) P es.now ≡ postings_before P (children_members (part nodes) es.now) =
-    above_d nodes P es.now (λ d k rest is. elim c.in_default.branch [
+    let now : place_members (part names nodes) P es.now ≡ postings_before P (children_members (part names nodes) es.now) =
+    above_d names nodes P es.now (λ d k rest is. elim c.in_default.branch [
       | in_default-via-in-Some+else-c-le100 w ↦
           let both = sym w.in-Some.ensures.cases.0 ∙ is in
           let heads : w.in-Some.field-0-0.now ≡ (d, k) = cc in
@@ -45,9 +46,9 @@ returns-in_ok-push-in_default g c =
       _,
       omega arith,
       c.in_ok-write_postings-in_default.ensures,
-      ap (λ l. tokens_of (left_members nodes l) ++ stack_tokens nodes stack) c.in-WithPostings.is
-          ∙ ap (λ ms. tokens_of ms ++ stack_tokens nodes stack) now
-          ∙ postings_first_more nodes P stack (WithoutPostings es) _ c.in_ok-push-in_default.ensures.items,
+      ap (λ l. tokens_of (left_members names nodes l) ++ stack_tokens names nodes stack) c.in-WithPostings.is
+          ∙ ap (λ ms. tokens_of ms ++ stack_tokens names nodes stack) now
+          ∙ postings_first_more names nodes P stack (WithoutPostings es) _ c.in_ok-push-in_default.ensures.items,
     )
 
 -- a child above `d`
@@ -55,13 +56,14 @@ pub returns-in_ok-open_child-in-Some-split_first :
     goal.returns-in_ok-open_child-in-Some-split_first
 returns-in_ok-open_child-in-Some-split_first g c =
     let nodes = c.args.nodes.now in
+    let names = c.args.order.names.now in
     let stack = c.args.stack.now.items in
     let first = c.in-Some-split_first.field-0-0.now in
     let rest = c.in-Some-split_first.rest in (
       _,
       omega arith,
       c.in_ok-open_child-in-Some-split_first.ensures.written,
-      ap (λ l. tokens_of (left_members nodes l) ++ stack_tokens nodes stack) c.in-WithoutPostings.is
-          ∙ ap (λ es. tokens_of (children_members (part nodes) es) ++ stack_tokens nodes stack) c.in-Some-split_first.ensures.cases.0
-          ∙ opened nodes c.requires stack (WithoutPostings rest) first.0 first.1 c.push-in-Some-split_first.new.self.items c.open_child-in-Some-split_first.new.stack.items c.in_ok-push-in-Some-split_first.ensures.items c.in_ok-open_child-in-Some-split_first.ensures.left,
+      ap (λ l. tokens_of (left_members names nodes l) ++ stack_tokens names nodes stack) c.in-WithoutPostings.is
+          ∙ ap (λ es. tokens_of (children_members (part names nodes) es) ++ stack_tokens names nodes stack) c.in-Some-split_first.ensures.cases.0
+          ∙ opened names nodes c.requires.trees stack (WithoutPostings rest) first.0 first.1 c.push-in-Some-split_first.new.self.items c.open_child-in-Some-split_first.new.stack.items c.in_ok-push-in-Some-split_first.ensures.items (c.in_ok-open_child-in-Some-split_first.ensures.left names),
     )

@@ -1,0 +1,10 @@
+use Rattle.std.proofs.Common.{take}
+use Rattle.std.specs.FinMap.{get}
+use Rattle.elasticlunr_store.specs.Names.{under_names}
+use Rattle.elasticlunr_store.specs.Table.{postings_of}
+use Rattle.elasticlunr_store.proofs.Gathered.{Gathered}
+use Rattle.elasticlunr_store.proofs.inverted_index.docs.copy_postings.Given as goal
+
+-- the postings so far
+abbrev pub invariant-loop-number : goal.invariant-loop-number
+invariant-loop-number l = Gathered (λ r. get (postings_of l.docs.entries) r) (under_names l.names (take l.number-index l.pairs)) (under_names l.names l.pairs)

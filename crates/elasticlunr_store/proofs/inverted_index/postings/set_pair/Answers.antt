@@ -1,0 +1,22 @@
+use Rattle.std.proofs.Common.{subst, sym, ap, ◌∙◌}
+use Rattle.elasticlunr_store.specs.Pairs.{IsStrictlySorted, IsAt, IsGapFor}
+use Rattle.elasticlunr_store.specs.Frequencies.{frequencies_of}
+use Rattle.elasticlunr_store.proofs.Gap.{sorted_set, sorted_insert, gets_set, gets_insert}
+use Rattle.elasticlunr_store.proofs.Frequencies.{seen_set}
+use Rattle.elasticlunr_store.proofs.inverted_index.postings.set_pair.Goals as goal
+
+pub returns-in-Ok-clause-ok : goal.returns-in-Ok-clause-ok
+returns-in-Ok-clause-ok c =
+    let here = subst (λ l. IsAt l c.args.number c.in-Ok.at) c.deref.ensures.value c.in-Ok.ensures.found in
+    seen_set _ _ c.requires (sorted_set _ c.requires _ _ here c.args.frequency) c.args.number c.args.frequency (gets_set _ c.requires _ _ here c.args.frequency)
+
+pub returns-in_ok-insert_pair-in-Err-clause-sorted : goal.returns-in_ok-insert_pair-in-Err-clause-sorted
+returns-in_ok-insert_pair-in-Err-clause-sorted c =
+    let free = subst (λ l. IsGapFor l c.args.number c.in-Err.at) c.deref.ensures.value c.in-Err.ensures.absent in
+    subst IsStrictlySorted (sym c.in_ok-insert_pair-in-Err.ensures.ok) (sorted_insert _ _ _ free c.args.frequency c.requires)
+
+pub returns-in_ok-insert_pair-in-Err-clause-ok : goal.returns-in_ok-insert_pair-in-Err-clause-ok
+returns-in_ok-insert_pair-in-Err-clause-ok c =
+    let free = subst (λ l. IsGapFor l c.args.number c.in-Err.at) c.deref.ensures.value c.in-Err.ensures.absent in
+    ap frequencies_of c.in_ok-insert_pair-in-Err.ensures.ok
+    ∙ seen_set _ _ c.requires (sorted_insert _ _ _ free c.args.frequency c.requires) c.args.number c.args.frequency (gets_insert _ _ _ free c.args.frequency)

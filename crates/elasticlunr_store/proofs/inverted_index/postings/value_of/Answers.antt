@@ -1,0 +1,9 @@
+use Rattle.std.proofs.Common.{sym}
+use Rattle.elasticlunr_store.proofs.Gap.{value_at_place, value_in_gap}
+use Rattle.elasticlunr_store.proofs.inverted_index.postings.value_of.Goals as goal
+
+pub returns-in-Ok : goal.returns-in-Ok
+returns-in-Ok c = sym (value_at_place _ c.requires _ _ c.in-Ok.ensures.found)
+
+pub returns-in-Err : goal.returns-in-Err
+returns-in-Err c = sym (value_in_gap _ _ _ c.in-Err.ensures.absent)

@@ -29,7 +29,6 @@ use Rattle.elasticlunr_store.specs.Table.{knows, postings_of, Entries}
 use Rattle.elasticlunr_store.specs.Tree.{IsTree, AreParts, IsBelow, HasKeysInOrder, frequencies}
 use Rattle.elasticlunr_store.specs.Finished.{value_at, HasChildren, IsNode}
 use Rattle.elasticlunr_store.proofs.Sorted.{len_seen}
-use Rattle.elasticlunr_store.proofs.Docs.{sorted_entries}
 use Rattle.elasticlunr_store.proofs.Places.{get_set, get_set_other, get_within}
 use Rattle.elasticlunr_store.proofs.Forest.{same_or_not, walk_push, walk_to, last_step}
 use Rattle.elasticlunr_store.proofs.Tables.{knows_walk, postings_walk}

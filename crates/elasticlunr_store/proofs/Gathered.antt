@@ -1,15 +1,15 @@
 -- Postings that are gathered one after another.
-use Rattle.std.proofs.Common.{◌≡◌, ◌≢◌, ◌⊎◌, inl, inr, ℕ, ◌<◌, ◌≤◌, ◌^◌, IsTrue, Bool, true, false, cond, List, [], ◌∷◌, ◌++◌, length, get_or, take, map, Option, Some, None, option_and_then, refl, sym, ap, subst, ◌∙◌, arith, eqb, ne_eqb, String, Global, string_bytes, length-append, slice_get}
+use Rattle.std.proofs.Common.{◌≡◌, ◌≢◌, ◌⊎◌, inl, inr, ℕ, ◌<◌, ◌≤◌, ◌^◌, IsTrue, Bool, true, false, cond, List, [], ◌∷◌, ◌++◌, length, get_or, Option, Some, None, option_and_then, refl, sym, ap, subst, ◌∙◌, arith, String, Global, string_bytes, length-append, slice_get}
 use Rattle.std.specs.Ordering.{nat_cmp, eq_by_cmp}
 use Rattle.std.specs.Cmp.Lexicographic.{slice_cmp}
-use Rattle.std.specs.FinMap.{get, find, entries, empty, insert, get-empty, get-insert, get-from_entries}
+use Rattle.std.specs.FinMap.{get, find, empty, insert, get-empty, get-insert, get-from_entries}
 use Rattle.std.proofs.lemmas.Bool.{cases_eq, cases_lt}
 use Rattle.elasticlunr_text.specs.Text.{Bytes, text_cmp}
-use Rattle.elasticlunr_store.specs.Pairs.{Pairs, value_of, key_at, IsStrictlySorted}
+use Rattle.elasticlunr_store.specs.Pairs.{Pairs}
 use Rattle.std.proofs.lemmas.Cmp.{nat_list_cmp_total}
 use Rattle.elasticlunr_store.specs.Table.{Entries, Postings, postings_of}
 use Rattle.elasticlunr_store.specs.Frequencies.{Frequencies}
-use Rattle.elasticlunr_store.specs.Names.{Names, AreNames, AreNumbered, Extends, at, number_of, entered, under_names}
+use Rattle.elasticlunr_store.specs.Names.{Names, Extends, at, number_of, entered}
 use Rattle.elasticlunr_store.specs.Nodes.{AreAllNumbered, AreListed, entries_of, postings_at, IsListed, KeepsLists, list_at, has}
 use Rattle.elasticlunr_store.specs.declared.inverted_index.nodes.Reference.{Reference}
 use Rattle.elasticlunr_store.specs.Trie.{entries_at, named}
@@ -22,7 +22,7 @@ use Rattle.elasticlunr_store.proofs.Added.{inserted_here, inserted_other, at-ent
 use Rattle.elasticlunr_store.proofs.Docs.{bytes_of}
 use Rattle.elasticlunr_store.proofs.Forest.{same_or_not}
 use Rattle.elasticlunr_store.proofs.Removed.{one_name}
-use Rattle.elasticlunr_store.proofs.Tables.{text_tie, text_tied, no_tie}
+use Rattle.elasticlunr_store.proofs.Tables.{text_tied, no_tie}
 
 -- G has what is found among the first entries, and nothing else than what is found among all
 pub record Gathered (G : Bytes → Option ℕ) (done all : List (Bytes × ℕ)) : Type 0 where

@@ -1,16 +1,16 @@
 -- The keys of a map of postings, as bytes.
-use Rattle.std.proofs.Common.{◌≡◌, ◌↔◌, Bool, true, false, cond, IsTrue, IsSome, ℕ, is_some, Option, Some, List, [], ◌∷◌, ◌++◌, map, refl, sym, ap, ◌∙◌, String, Global, string_bytes, string_cmp, bytes_eq, Less}
+use Rattle.std.proofs.Common.{◌≡◌, Bool, true, false, cond, ℕ, is_some, Option, Some, None, unwrap_or, List, [], ◌∷◌, ◌++◌, refl, sym, ap, ◌∙◌, String, Global, string_bytes, string_cmp, bytes_eq, Less}
 use Rattle.std.specs.Prelude.{◌||◌}
 use Rattle.std.specs.Ordering.{nat_cmp, eq_by_cmp}
 use Rattle.std.specs.Cmp.Lexicographic.{slice_cmp}
 use Rattle.std.specs.List.{AllByRecursion}
 use Rattle.std.specs.List.Sorted.{IsStrictlySortedBy}
 use Rattle.std.specs.Map.{keys_of}
-use Rattle.std.specs.FinMap.{find, get, get-from_entries}
+use Rattle.std.specs.FinMap.{find, get, empty, get-empty, get-from_entries}
 use Rattle.std.proofs.lemmas.Cmp.{nat_list_cmp_total}
 use Rattle.std.proofs.lemmas.Map.Text.{is_eq-slice_cmp}
-use Rattle.elasticlunr_text.specs.Text.{Bytes, bytes_of, is_listed, text_cmp}
-use Rattle.elasticlunr_store.specs.Table.{Entries, postings_of}
+use Rattle.elasticlunr_text.specs.Text.{Text, Bytes, bytes_of, is_listed, text_cmp}
+use Rattle.elasticlunr_store.specs.Table.{Table, Entries, posting, postings_of}
 use Rattle.elasticlunr_store.proofs.Docs as docs
 
 pub bytes_behind : (ss : List (String Global)) (s : String Global) → bytes_of (ss ++ s ∷ []) ≡ bytes_of ss ++ string_bytes s ∷ []
@@ -42,3 +42,18 @@ listed_found (e ∷ es) r = either (bytes_eq r (string_bytes e.0)) (eq_by_cmp (s
 
 pub listed_posting : (es : Entries) (r : Bytes) → is_listed r (bytes_of (keys_of es)) ≡ is_some (get (postings_of es) r)
 listed_posting es r = listed_found es r ∙ ap is_some (sym (get-from_entries nat_list_cmp_total (docs.bytes_of es) r))
+
+pub no_keys_sorted : IsStrictlySortedBy text_cmp []
+unfolding IsStrictlySortedBy
+no_keys_sorted = tt
+
+pub none_of : {A : Type 0} (o : Option A) → ((x : A) → o ≡ Some x → ⊥) → o ≡ None
+none_of None not = refl
+none_of (Some x) not = absurd (not x refl)
+
+-- the references of a known token, and of an unknown one
+pub listed_some : (T : Table) (t : Text) (es : Entries) → Some (postings_of es) ≡ get T t → (r : Bytes) → is_listed r (bytes_of (keys_of es)) ≡ is_some (posting T t r)
+listed_some T t es is r = listed_posting es r ∙ ap (λ o. is_some (get (unwrap_or o empty) r)) is
+
+pub none_posted : (T : Table) (t : Text) → None ≡ get T t → (r : Bytes) → is_some (posting T t r) ≡ false
+none_posted T t is r = ap (λ o. is_some (get (unwrap_or o empty) r)) (sym is) ∙ ap is_some (get-empty text_cmp r)

@@ -1,8 +1,8 @@
 -- Postings under the names of their numbers.
-use Rattle.std.proofs.Common.{◌≡◌, ◌≢◌, ◌⊎◌, inl, inr, ℕ, zero, suc, take, ◌++◌, Less, Equal, Greater, ◌+◌, ◌<◌, ◌≤◌, Bool, true, false, cond, is_some, List, [], ◌∷◌, length, map, get_or, Option, Some, None, option_map, option_and_then, slice_get, refl, sym, ap, subst, ◌∙◌, arith, eqb, ne_eqb, add-one}
+use Rattle.std.proofs.Common.{◌≡◌, inl, inr, ℕ, zero, suc, take, ◌++◌, Equal, Greater, ◌+◌, ◌<◌, ◌≤◌, Bool, true, false, cond, is_some, [], ◌∷◌, length, get_or, Option, Some, None, option_and_then, slice_get, refl, sym, ap, subst, ◌∙◌, arith, eqb, ne_eqb, add-one}
 use Rattle.std.specs.Ordering.{nat_cmp, eq_by_cmp}
 use Rattle.std.specs.Cmp.Lexicographic.{slice_cmp}
-use Rattle.std.specs.FinMap.{get, find, len, entries, empty, insert, contains_key, from_entries, get-empty, len-empty, get-from_entries, len-insert, len-entries, entries_sorted, get-entries, same_map, slice_cmp-IsAntisymmetric, nat_cmp-IsAntisymmetric}
+use Rattle.std.specs.FinMap.{get, find, len, entries, empty, contains_key, from_entries, get-empty, len-empty, get-from_entries, len-insert, len-entries, entries_sorted, get-entries}
 use Rattle.std.proofs.lemmas.Cmp.{nat_list_cmp_total}
 use Rattle.std.proofs.lemmas.Bool.{cases_eq, cases_lt, eq-eqb}
 use Rattle.std.specs.Prelude.{T, ◌&&◌}
@@ -20,7 +20,6 @@ use Rattle.elasticlunr_store.specs.Names.{Names, AreNames, AreNumbered, ArePosti
 use Rattle.elasticlunr_store.specs.Trie.{named}
 use Rattle.elasticlunr_store.proofs.Found.{value_absent}
 use Rattle.elasticlunr_store.proofs.Frequencies.{find_value}
-use Rattle.elasticlunr_store.proofs.Forest.{same_or_not}
 use Rattle.elasticlunr_store.proofs.Places.{get_there}
 use Rattle.elasticlunr_store.proofs.Removed.{number-name}
 use Rattle.elasticlunr_store.proofs.Tables.{get_named, text_tied, no_tie}

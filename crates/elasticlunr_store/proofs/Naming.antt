@@ -1,5 +1,5 @@
 -- The ranks of names, from the map of their numbers.
-use Rattle.std.proofs.Common.{◌≡◌, ◌≢◌, inl, inr, ℕ, zero, suc, ◌<◌, ◌≤◌, Bool, true, false, cond, List, [], ◌∷◌, ◌++◌, length, map, get_or, slice_index, slice_get, Option, Some, None, option_map, is_eq, refl, sym, ap, subst, ◌∙◌, arith, Less, Equal, Greater, String, Global, string_bytes, string_cmp, BTreeMap, set, length-append}
+use Rattle.std.proofs.Common.{◌≡◌, ◌≢◌, inl, inr, ℕ, zero, suc, ◌<◌, Bool, true, false, cond, List, [], ◌∷◌, ◌++◌, length, get_or, slice_index, Option, Some, None, option_map, is_eq, refl, sym, ap, subst, ◌∙◌, arith, Less, Equal, Greater, String, Global, string_cmp, BTreeMap, set, length-append}
 use mathlib.Core.Bool.{false≢true}
 use Rattle.std.specs.Prelude.{T, ◌&&◌}
 use Rattle.std.specs.Ordering.{nat_cmp, eq_by_cmp, is_lt}
@@ -19,8 +19,8 @@ use Rattle.elasticlunr_store.proofs.Sorted.{shown, entries_seen}
 use Rattle.elasticlunr_store.proofs.Seen.{get_seen}
 use Rattle.elasticlunr_store.proofs.Tables.{text_tie, text_tied, no_tie}
 use Rattle.elasticlunr_store.proofs.Added.{number-below}
-use Rattle.elasticlunr_store.proofs.Removed.{one_name, number-name}
-use Rattle.elasticlunr_store.proofs.Named.{name_there, name_number}
+use Rattle.elasticlunr_store.proofs.Removed.{one_name}
+use Rattle.elasticlunr_store.proofs.Named.{name_number}
 
 abbrev Entries : Type 0
 Entries = List (Bytes × ℕ)

@@ -1,18 +1,18 @@
 -- One posting is taken away.
-use Rattle.std.proofs.Common.{◌≡◌, ◌≢◌, ◌⊎◌, inl, inr, ℕ, IsTrue, List, length, Option, Some, None, option_and_then, is_some, refl, sym, ap, subst, ◌∙◌}
+use Rattle.std.proofs.Common.{◌≡◌, ◌≢◌, inl, inr, ℕ, List, length, Option, Some, None, option_and_then, is_some, refl, sym, ap, subst, ◌∙◌}
 use Rattle.std.proofs.lemmas.Bool.{cases_eq}
 use Rattle.std.specs.FinMap.{get, remove}
 use Rattle.elasticlunr_text.specs.Text.{Text, Bytes}
 use Rattle.elasticlunr_store.specs.Table.{knows, posting, RemovesToken}
 use Rattle.elasticlunr_store.specs.Pairs.{Pairs}
 use Rattle.elasticlunr_store.specs.Names.{Names, at, number_of}
-use Rattle.elasticlunr_store.specs.Nodes.{postings_at, list_at, has, AreListed, ClearsNumber, KeepsOtherNodes}
+use Rattle.elasticlunr_store.specs.Nodes.{postings_at, AreListed, ClearsNumber, KeepsOtherNodes}
 use Rattle.elasticlunr_store.specs.Trie.{entries_at, step_of, walk, table_of, IsTrie, RemovesPosting}
 use Rattle.elasticlunr_store.specs.declared.inverted_index.nodes.Node.{Node}
 use Rattle.elasticlunr_store.specs.declared.inverted_index.nodes.Reference.{Reference}
 use Rattle.elasticlunr_store.specs.declared.inverted_index.nodes.Place.{Place}
 use Rattle.elasticlunr_store.specs.declared.inverted_index.nodes.Place.TheVariants.{Root, At}
-use Rattle.elasticlunr_store.proofs.Forest.{one_path, same_or_not}
+use Rattle.elasticlunr_store.proofs.Forest.{one_path}
 use Rattle.elasticlunr_store.proofs.Tables.{knows_walk}
 use Rattle.elasticlunr_store.proofs.Adding.{posting_walk, posting_none}
 use Rattle.elasticlunr_store.proofs.Removed.{removed_here, removed_other, one_name}

@@ -1,5 +1,5 @@
 -- The names of a trie's references, in the order of their numbers.
-use Rattle.std.specs.Prelude.{◌≡◌, ◌≢◌, ◌<◌, ℕ, suc, List, [], ◌∷◌, ◌++◌, map, length, slice_get, slice_index, slice_index_or, Option, Some, None, is_some, option_map, option_and_then, ◌≤◌, if◌then◌else◌, String, string_bytes, bytes_eq}
+use Rattle.std.specs.Prelude.{◌≡◌, ◌<◌, ℕ, suc, List, [], ◌∷◌, ◌++◌, map, length, slice_get, slice_index, slice_index_or, Option, Some, None, is_some, option_map, option_and_then, ◌≤◌, if◌then◌else◌, String, string_bytes, bytes_eq}
 use Rattle.std.specs.Str.{IsUtf8}
 use Rattle.std.specs.FinMap.{get, from_entries}
 use Rattle.std.specs.declared.cmp.Ordering.TheVariants.{Less}

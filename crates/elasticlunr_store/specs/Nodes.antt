@@ -1,5 +1,5 @@
 -- Numbered nodes whose postings name their references by number; for private clauses.
-use Rattle.std.specs.Prelude.{◌≡◌, ◌≢◌, ◌<◌, ◌^◌, ℕ, Bool, false, ◌||◌, ◌==◌, IsTrue, List, [], ◌∷◌, length, slice_get, slice_index, Option, Some, None, option_and_then}
+use Rattle.std.specs.Prelude.{◌≡◌, ◌≢◌, ◌<◌, ◌^◌, ℕ, Bool, false, ◌||◌, ◌==◌, IsTrue, List, [], ◌∷◌, length, slice_get, slice_index, Option, Some, None}
 use Rattle.std.specs.FinMap.{get, empty, insert, remove}
 use Rattle.elasticlunr_store.specs.Pairs.{Pairs}
 use Rattle.elasticlunr_store.specs.Frequencies.{Frequencies}

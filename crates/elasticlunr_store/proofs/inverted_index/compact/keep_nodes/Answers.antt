@@ -1,10 +1,9 @@
-use Rattle.std.proofs.Common.{◌≡◌, ◌+◌, [], sym, ap, ◌∙◌, arith, subst, Some, length}
+use Rattle.std.proofs.Common.{◌+◌, sym, ap, ◌∙◌, arith, subst, Some}
 use Rattle.std.specs.FinMap.{entries}
 use Rattle.elasticlunr_store.specs.Pairs.{IsStrictlySorted}
 use Rattle.elasticlunr_store.specs.Names.{AreNames, ArePostings, named_pairs}
 use Rattle.elasticlunr_store.specs.Children.{child}
 use Rattle.elasticlunr_store.specs.Nodes.{AreListed, IsListed, children_of, entries_of, postings_at}
-use Rattle.elasticlunr_store.specs.Trie.{named}
 use Rattle.elasticlunr_store.specs.Compact.{KeepsBelow, kept_children}
 use Rattle.elasticlunr_store.specs.declared.inverted_index.nodes.Place.TheVariants.{At}
 use Rattle.elasticlunr_store.proofs.Places.{get_there}

@@ -1,4 +1,4 @@
-use Rattle.std.proofs.Common.{◌≡◌, Some, sym, ap, subst, ◌∙◌, take_all, get_or, string_bytes, []}
+use Rattle.std.proofs.Common.{◌≡◌, Some, sym, subst, ◌∙◌, take_all, get_or, string_bytes, []}
 use Rattle.std.specs.FinMap.{get, insert}
 use Rattle.std.proofs.lemmas.Map.Text.{btree_map_updates_text}
 use Rattle.elasticlunr_store.specs.Names.{under_names}

@@ -1,5 +1,4 @@
-use Rattle.std.proofs.Common.{IsTrue, sym, ap, subst, ◌∙◌}
-use Rattle.std.specs.List.{remove}
+use Rattle.std.proofs.Common.{IsTrue, sym, subst, ◌∙◌}
 use Rattle.elasticlunr_store.specs.Nodes.{has}
 use Rattle.elasticlunr_store.proofs.Listed.{has_removed}
 use Rattle.elasticlunr_store.proofs.inverted_index.lists.forget.Goals as goal

@@ -1,4 +1,4 @@
-use Rattle.std.proofs.Common.{Some, None, sym, ap, ◌∙◌, arith, length, refl}
+use Rattle.std.proofs.Common.{Some, sym, ap, ◌∙◌, arith, length, refl}
 use Rattle.std.specs.Str.{chars}
 use Rattle.elasticlunr_store.specs.Names.{at}
 use Rattle.elasticlunr_store.specs.Trie.{step_of}

@@ -1,4 +1,4 @@
-use Rattle.std.proofs.Common.{Some, None, sym, ap, ◌∙◌, arith, length, refl}
+use Rattle.std.proofs.Common.{Some, sym, ap, ◌∙◌, arith, length}
 use Rattle.std.specs.Str.{chars}
 use Rattle.std.specs.FinMap.{get}
 use Rattle.elasticlunr_store.specs.Trie.{step_of, named}

@@ -1,5 +1,4 @@
 use Rattle.std.proofs.Common.{◌≡◌, Some, sym, ap, subst, ◌∙◌, take_all, get_or, []}
-use Rattle.std.specs.FinMap.{get}
 use Rattle.elasticlunr_store.specs.Names.{AreNames, at, under_names}
 use Rattle.elasticlunr_store.specs.Nodes.{IsListed}
 use Rattle.elasticlunr_store.specs.Pairs.{key_at}

@@ -1,11 +1,8 @@
-use Rattle.std.proofs.Common.{◌≡◌, sym, ap, subst, ◌∙◌, true≢false, length, arith}
+use Rattle.std.proofs.Common.{◌≡◌, sym, subst, ◌∙◌, true≢false, length, arith}
 use Rattle.std.proofs.lemmas.List.{nil_from_length}
 use Rattle.serde_json.specs.View.{view}
 use Rattle.elasticlunr_store.specs.Names.{AreNames}
-use Rattle.elasticlunr_store.specs.Nodes.{AreListed, IsListed, postings_at}
-use Rattle.elasticlunr_store.specs.Trie.{named}
-use Rattle.elasticlunr_store.specs.declared.inverted_index.nodes.Place.{Place}
-use Rattle.elasticlunr_store.specs.declared.inverted_index.nodes.Place.TheVariants.{Root, At}
+use Rattle.elasticlunr_store.specs.Nodes.{AreListed, IsListed}
 use Rattle.elasticlunr_store.specs.Reading.{seen, ReadsNode}
 use Rattle.elasticlunr_store.proofs.Gathered.{none_all_listed, listed_behind, places_extended}
 use Rattle.elasticlunr_store.proofs.Reading.{length-seen, seen_there}

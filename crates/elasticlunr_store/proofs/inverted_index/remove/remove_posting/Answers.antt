@@ -1,9 +1,9 @@
-use Rattle.std.proofs.Common.{◌≡◌, Some, None, sym, ◌∙◌, ap, arith, length}
+use Rattle.std.proofs.Common.{Some, sym, ◌∙◌, ap, arith, length}
 use Rattle.std.specs.Str.{chars}
 use Rattle.elasticlunr_store.specs.Trie.{step_of}
 use Rattle.elasticlunr_store.specs.declared.inverted_index.nodes.Place.TheVariants.{Root, At}
 use Rattle.elasticlunr_store.proofs.Forest.{within}
-use Rattle.elasticlunr_store.proofs.Removing.{clears_text, nothing_there, nobody_there, cleared_listed}
+use Rattle.elasticlunr_store.proofs.Removing.{clears_text, cleared_listed}
 use Rattle.elasticlunr_store.proofs.inverted_index.remove.remove_posting.Goals as goal
 
 pub clear_number-requires : goal.clear_number-requires

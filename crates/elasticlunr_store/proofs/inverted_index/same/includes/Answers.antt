@@ -1,7 +1,6 @@
-use Rattle.std.proofs.Common.{◌≡◌, Some, sym, ap, subst, ◌∙◌, arith, get_or, true≢false, inl, inr, refl, slice_get, ◌+◌, length, []}
+use Rattle.std.proofs.Common.{◌≡◌, Some, sym, ap, subst, ◌∙◌, arith, get_or, true≢false, inl, inr, refl, []}
 use mathlib.Core.Bool.{false≢true}
 use Rattle.std.proofs.lemmas.Bool.{cases_eq}
-use Rattle.std.specs.FinMap.{get}
 use Rattle.elasticlunr_store.specs.Names.{at}
 use Rattle.elasticlunr_store.specs.Pairs.{key_at}
 use Rattle.elasticlunr_store.proofs.Named.{found_at, found_from, get_pairs_named, name_there}

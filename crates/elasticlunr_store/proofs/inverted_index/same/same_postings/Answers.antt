@@ -1,4 +1,4 @@
-use Rattle.std.proofs.Common.{◌≡◌, sym, ap, subst, ◌∙◌, true≢false}
+use Rattle.std.proofs.Common.{sym, subst, ◌∙◌}
 use mathlib.Core.Bool.{false≢true}
 use Rattle.elasticlunr_store.specs.Names.{ArePostings}
 use Rattle.elasticlunr_store.proofs.Named.{pairs_are, same_both_ways, one_way, other_way}

@@ -1,14 +1,13 @@
-use Rattle.std.proofs.Common.{◌≡◌, Some, suc, sym, ap, subst, ◌∙◌, take, take_all, drop, get_or, ◌++◌, ◌∷◌, []}
+use Rattle.std.proofs.Common.{suc, sym, ap, subst, ◌∙◌, take, take_all, drop, get_or, []}
 use Rattle.std.specs.Prelude.{T}
 use Rattle.std.specs.FinMap.{entries_sorted}
 use Rattle.std.specs.FinMap.Entries.{is_sorted}
-use Rattle.serde_json.specs.declared.value.Value.{Object}
 use Rattle.serde_json.specs.Data.{object, put}
-use Rattle.serde_json.specs.View.{members_view, view}
+use Rattle.serde_json.specs.View.{members_view}
 use Rattle.serde_json.proofs.Views.{view-Object}
 use Rattle.elasticlunr_text.specs.Text.{text_cmp}
 use Rattle.elasticlunr_store.specs.Names.{under_names}
-use Rattle.elasticlunr_store.specs.Tree.{frequencies, frequency}
+use Rattle.elasticlunr_store.specs.Tree.{frequencies}
 use Rattle.elasticlunr_store.proofs.Gathered.{name_of}
 use Rattle.elasticlunr_store.proofs.Ranked.{behind, under_behind_more, under_behind_split, put_behind_all}
 use Rattle.elasticlunr_store.proofs.inverted_index.value.docs_value.Goals as goal

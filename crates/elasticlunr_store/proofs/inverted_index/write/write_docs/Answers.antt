@@ -4,7 +4,7 @@ use Rattle.std.specs.FinMap.{entries}
 use Rattle.elasticlunr_store.specs.Names.{ArePostings, named_pairs, under_names}
 use Rattle.elasticlunr_store.specs.Trie.{named}
 use Rattle.elasticlunr_store.specs.Tree.{frequencies}
-use Rattle.elasticlunr_store.specs.Printed.{tokens_of, postings_tokens}
+use Rattle.elasticlunr_store.specs.Printed.{tokens_of}
 use Rattle.elasticlunr_store.proofs.Named.{pairs_are, pairs_named}
 use Rattle.elasticlunr_store.proofs.Ranked.{behind, count_shown}
 use Rattle.elasticlunr_store.proofs.Printing.{four}

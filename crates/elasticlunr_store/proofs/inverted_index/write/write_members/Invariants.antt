@@ -1,4 +1,4 @@
-use Rattle.std.proofs.Common.{◌≡◌, ◌++◌, [], length}
+use Rattle.std.proofs.Common.{◌≡◌, ◌++◌, length}
 use Rattle.std.specs.FinMap.{empty}
 use Rattle.elasticlunr_store.specs.Trie.{named}
 use Rattle.elasticlunr_store.specs.Printed.{tokens_of, stack_tokens, place_members, part}

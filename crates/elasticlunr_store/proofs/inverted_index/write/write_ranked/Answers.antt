@@ -1,4 +1,4 @@
-use Rattle.std.proofs.Common.{◌≡◌, ◌++◌, ◌∷◌, [], sym, ap, ◌∙◌, append_assoc, codes, decimal, get_or, drop, arith, length, length-drop, ◌+◌}
+use Rattle.std.proofs.Common.{◌++◌, ◌∷◌, sym, ap, ◌∙◌, append_assoc, codes, decimal, get_or, drop, arith, length-drop, ◌+◌}
 use Rattle.std.proofs.lemmas.List.{nil_from_length}
 use Rattle.json.specs.Token.{Token}
 use Rattle.elasticlunr_store.specs.Names.{under_names}

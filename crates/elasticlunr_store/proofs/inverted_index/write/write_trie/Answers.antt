@@ -1,4 +1,4 @@
-use Rattle.std.proofs.Common.{[], refl, codes}
+use Rattle.std.proofs.Common.{refl, codes}
 use Rattle.serde_json.specs.Data.{object, member, no_members}
 use Rattle.std.specs.FinMap.{empty}
 use Rattle.elasticlunr_store.specs.Trie.{named}

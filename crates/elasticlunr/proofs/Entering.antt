@@ -10,7 +10,7 @@ use Rattle.std.proofs.lemmas.Option.{slice_get_past}
 use Rattle.std.specs.Option.{is_some}
 use Rattle.elasticlunr_text.specs.Text.{Text, Bytes, text_cmp}
 use Rattle.elasticlunr_store.specs.Table.{Table, posting}
-use Rattle.elasticlunr_store.specs.Contents.{Contents, TextMap, IsContents, length_at, with_document, with_length, without}
+use Rattle.elasticlunr_store.specs.Contents.{Contents, TextMap, IsConsistent, length_at, with_document, with_length, without}
 use Rattle.elasticlunr.specs.Fields.{has_name, all_differ}
 use Rattle.elasticlunr.specs.History.{Given, Document, add, Commands, ◌▸◌}
 use Rattle.elasticlunr.specs.Standing.{Plan, tokens_at, stored, length_in, Holds}
@@ -144,7 +144,7 @@ texts_stay c reference [] (t ∷ tokens) = refl
 texts_stay c reference (field ∷ fields) (None ∷ tokens) = texts_stay c reference fields tokens
 texts_stay c reference (field ∷ fields) (Some t ∷ tokens) = texts_stay (with_length c reference field (length t)) reference fields tokens
 
-stay_contents : (c : Contents) (reference : Bytes) (fields : List Bytes) (tokens : List (Option (List Text))) → IsContents c → IsContents (with_all_tokens c reference fields tokens)
+stay_contents : (c : Contents) (reference : Bytes) (fields : List Bytes) (tokens : List (Option (List Text))) → IsConsistent c → IsConsistent (with_all_tokens c reference fields tokens)
 stay_contents c reference fields [] was = was
 stay_contents c reference [] (t ∷ tokens) was = was
 stay_contents c reference (field ∷ fields) (None ∷ tokens) was = stay_contents c reference fields tokens was

@@ -9,7 +9,7 @@ use Rattle.std.specs.Cmp.Lexicographic.{nat_list_cmp_total}
 use Rattle.std.proofs.lemmas.Slice.Eq.{bytes_eq-Decides}
 use Rattle.std.proofs.lemmas.Map.Text.{is_eq-slice_cmp, btree_map_updates_text}
 use Rattle.elasticlunr_text.specs.Text.{Bytes, text_cmp}
-use Rattle.elasticlunr_store.specs.Contents.{Contents, TextMap, LengthMap, IsContents, new_contents, length_at, with_document, with_length, without, text_map}
+use Rattle.elasticlunr_store.specs.Contents.{Contents, TextMap, LengthMap, IsConsistent, new_contents, length_at, with_document, with_length, without, text_map}
 
 module _ {X : Type 0} where
   -- what is found after an entry was set, and after one was taken away
@@ -47,7 +47,7 @@ module _ (c : Contents) (reference : Bytes) where
     by_test false = refl
 
   -- a store's changes keep what is true of contents
-  pub without_are_contents : IsContents c → IsContents (without c reference)
+  pub without_are_contents : IsConsistent c → IsConsistent (without c reference)
   without_are_contents was = record {
     has_lengths = λ r is. with_test r (bytes_eq r reference) (sym (found_after_remove c.lengths reference r) ∙ is);
     unsaved = λ unsaved r. subst (λ o. IfSome o (λ texts. texts ≡ map.empty)) (sym (found_after_remove c.texts reference r)) (no_texts unsaved r (bytes_eq r reference));
@@ -60,7 +60,7 @@ module _ (c : Contents) (reference : Bytes) where
     no_texts unsaved r true = tt
     no_texts unsaved r false = was.unsaved unsaved r
 
-  pub with_length_are_contents : (field : Bytes) (n : ℕ) → IsContents c → IsContents (with_length c reference field n)
+  pub with_length_are_contents : (field : Bytes) (n : ℕ) → IsConsistent c → IsConsistent (with_length c reference field n)
   with_length_are_contents field n was = record {
     has_lengths = λ r is. with_test r (bytes_eq r reference) (sym (found_after_insert c.lengths reference _ r) ∙ is);
     unsaved = was.unsaved;
@@ -69,7 +69,7 @@ module _ (c : Contents) (reference : Bytes) where
     with_test r true e = filled (unwrap_or (map.get c.lengths reference) map.empty) field n (cc (e))
     with_test r false e = was.has_lengths r e
 
-  pub with_document_are_contents : (document : TextMap) → IsContents c → IsContents (with_document c reference document)
+  pub with_document_are_contents : (document : TextMap) → IsConsistent c → IsConsistent (with_document c reference document)
   with_document_are_contents document was = record {
     has_lengths = was.has_lengths;
     unsaved = λ unsaved r. subst (λ o. IfSome o (λ texts. texts ≡ map.empty)) (sym (found_after_insert c.texts reference _ r)) (no_texts unsaved r (bytes_eq r reference));
@@ -78,7 +78,7 @@ module _ (c : Contents) (reference : Bytes) where
     no_texts unsaved r true = ap (λ s. cond s document map.empty) unsaved
     no_texts unsaved r false = was.unsaved unsaved r
 
-pub new_are_contents : (save : Bool) → IsContents (new_contents save)
+pub new_are_contents : (save : Bool) → IsConsistent (new_contents save)
 new_are_contents save = record {
   has_lengths = λ r is. nothing (sym (map.get-empty text_cmp r) ∙ is);
   unsaved = λ unsaved r. subst (λ o. IfSome o (λ texts. texts ≡ map.empty)) (sym (map.get-empty {X = TextMap} text_cmp r)) tt;

@@ -7,7 +7,7 @@ use Rattle.std.specs.FinMap as map
 use Rattle.elasticlunr_text.specs.Text.{Text, Bytes, text_cmp}
 use Rattle.elasticlunr_store.specs.Table.{Table, Postings, posting}
 use Rattle.elasticlunr_store.specs.Tree.{IsTrieValue}
-use Rattle.elasticlunr_store.specs.Contents.{Contents, LengthMap, IsContents, length_at}
+use Rattle.elasticlunr_store.specs.Contents.{Contents, LengthMap, IsConsistent, length_at}
 use Rattle.serde_json.specs.Data.{Data}
 use Rattle.elasticlunr.specs.Root.{IsRoot}
 use Rattle.elasticlunr.specs.History.{Commands, Agree}
@@ -57,7 +57,7 @@ same_lists P one (T ∷ ts) (U ∷ us) many first second =
     let more : ts ≡ us = same_lists (λ i. P (suc i)) (λ i. one (suc i)) ts us (omega arith) (λ i. first (suc i)) (λ i. second (suc i)) in
     λ i. here i ∷ more i
 
-module _ (c d : Contents) (one : IsContents c) (two : IsContents d) (lengths : (r field : Bytes) → length_at c r field ≡ length_at d r field) where
+module _ (c d : Contents) (one : IsConsistent c) (two : IsConsistent d) (lengths : (r field : Bytes) → length_at c r field ≡ length_at d r field) where
   lengths_at : (r : Bytes) (o p : Option LengthMap) → map.get c.lengths r ≡ o → map.get d.lengths r ≡ p → o ≡ p
   lengths_at r None None eo ep = refl
   lengths_at r None (Some n) eo ep = absurd (two.has_lengths r (ep ∙ ap Some (same_finds n map.empty (λ field.

@@ -5,7 +5,7 @@ use Rattle.std.specs.Str.{bytes_eq}
 use Rattle.std.specs.FinMap as map
 use Rattle.elasticlunr_text.specs.Text.{Text, Bytes}
 use Rattle.elasticlunr_store.specs.Table.{Table, knows, posting, IsPrefix}
-use Rattle.elasticlunr_store.specs.Contents.{Contents, IsContents, length_at}
+use Rattle.elasticlunr_store.specs.Contents.{Contents, IsConsistent, length_at}
 use Rattle.elasticlunr.specs.History.{Document}
 use Rattle.elasticlunr.specs.Standing.{IsPosting}
 
@@ -48,7 +48,7 @@ pub record HasOnlyStored (tables : List Table) (contents : Contents) (reference 
 -- the reference has no postings and no lengths, and what others have stays
 pub record MakesRoom (reference : Bytes) (old_tables new_tables : List Table) (old new : Contents) : Type 0 where
   pub tables : (i : ℕ) (before after : Table) → slice_get old_tables i ≡ Some before → slice_get new_tables i ≡ Some after → TakesOut before after reference
-  pub kept : IsContents old → IsContents new
+  pub kept : IsConsistent old → IsConsistent new
   pub save : new.save ≡ old.save
   pub texts : (r : Bytes) → bytes_eq r reference ≡ false → map.get new.texts r ≡ map.get old.texts r
   pub lengths : (r field : Bytes) → length_at new r field ≡ (if bytes_eq r reference then None else length_at old r field)

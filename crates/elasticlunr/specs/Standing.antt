@@ -6,7 +6,7 @@ use Rattle.std.specs.Str.{bytes_eq}
 use Rattle.std.specs.FinMap as map
 use Rattle.elasticlunr_text.specs.Text.{Text, Bytes}
 use Rattle.elasticlunr_store.specs.Table.{Table, knows, posting, IsPrefix}
-use Rattle.elasticlunr_store.specs.Contents.{Contents, TextMap, IsContents, length_at}
+use Rattle.elasticlunr_store.specs.Contents.{Contents, TextMap, IsConsistent, length_at}
 use Rattle.elasticlunr.specs.Root.{IsRoot}
 use Rattle.elasticlunr.specs.History.{Given, Document, add, remove, compact, Commands, none, ◌▸◌, now}
 
@@ -64,7 +64,7 @@ length_in (f ∷ fields) (given ∷ givens) field = if bytes_eq field f then opt
 
 -- the store's contents
 pub record IsContentsOf (plan : Plan) (commands : Commands) (contents : Contents) : Type 0 where
-  pub are_contents : IsContents contents
+  pub are_contents : IsConsistent contents
   pub save : contents.save ≡ plan.save
   pub texts : (r : Bytes) → map.get contents.texts r ≡ option_map (stored plan) (now commands r)
   pub lengths : (r field : Bytes) → length_at contents r field ≡ option_and_then (λ d. length_in plan.fields d.given field) (now commands r)

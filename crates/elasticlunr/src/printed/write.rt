@@ -8,8 +8,7 @@ ghost use Rattle.elasticlunr.specs.Parts.{IsPrinted, plan_of_parts, settings_mem
 ghost use Rattle.elasticlunr.specs.Sorted.{IsByName, WritesTries};
 
 use super::{ELASTICLUNR_VERSION, Parts};
-use elasticlunr_store::{InvertedIndex, Tokens};
-use json::Token;
+use elasticlunr_store::{InvertedIndex, Token, Tokens};
 use std::alloc::{AllocError, Global};
 use std::collections::BTreeMap;
 

@@ -26,6 +26,6 @@ returns g c = ok_then c.write_settings.result c.write_settings.ensures (λ done.
         printed = record { tries = tries.0; documents = documents; each_trie = tries.1; store = refl; whole = refl };
       },
       index_tokens (plan_of_parts c.args.parts) tries.0 documents (g.W.Tokens.written c.args.out.now) _ _ _ _ _ _ _ _
-          c.in_ok-token.ensures c.in_ok-token-2.ensures c.in_ok-write.ensures c.in_ok-token-3.ensures c.in_ok-write_names.ensures
+          c.in_ok-token.ensures c.in_ok-token-2.ensures c.in_ok-write.ensures.written c.in_ok-token-3.ensures c.in_ok-write_names.ensures
           c.in_ok-token-4.ensures index done,
     ))

@@ -65,8 +65,8 @@ fn push_turn(marks: &mut Vec<u32>, inside: bool, has: bool, code: u32) -> Result
     Ok(())
 }
 
-/// Where the class begins and where it ends, in turn, over the characters in order: the first mark is
-/// its first character, the second the first one after that which is not of the class.
+/// Where the class begins and where it ends, in turn, over the characters in order: the first mark
+/// is its first character, the second the first one after that which is not of the class.
 pub fn marks_of<C: CharClass>(alloc: Global, class: &C) -> Result<Vec<u32>, AllocError>
     ensures { IfOk result (λ marks. Marks (C.has class.now) marks.items) }
 {

@@ -1,5 +1,5 @@
 -- What an index holds that has not failed.
-use Rattle.std.proofs.Common.{◌≡◌, List, Option, Some, subst, sym, ◌∙◌}
+use Rattle.std.proofs.Common.{◌≡◌, List, Option, Some, refl, subst, sym, ◌∙◌}
 use Rattle.std.specs.Prelude.{IsSomeAnd}
 use Rattle.elasticlunr_text.specs.Text.{bytes_of}
 use Rattle.elasticlunr_store.specs.Table.{Table}
@@ -61,3 +61,7 @@ pub tables_of_own : (there : Option Contents) (contents : Contents) (parts : Par
 tables_of_own there contents parts tables kept P is has are holds =
     let own : (contents.tries.items ≡ tables) × (contents.store ≡ kept) = subst (λ o. IsSomeAnd o (λ c. (c.tries.items ≡ tables) × (c.store ≡ kept))) is has in
     subst P (are ∙ own.0) holds
+
+-- its tries and its store are its parts
+pub own_parts : (there : Option Contents) (contents : Contents) → there ≡ Some contents → IsSomeAnd there (λ c. (c.tries.items ≡ contents.tries.items) × (c.store ≡ contents.store))
+own_parts there contents is = subst (λ o. IsSomeAnd o (λ c. (c.tries.items ≡ contents.tries.items) × (c.store ≡ contents.store))) (sym is) (refl, refl)

@@ -15,7 +15,7 @@ use Rattle.elasticlunr.specs.Standing.{Plan}
 use Rattle.elasticlunr.specs.Printed.{texts, members_after, index_object, AreTrieValues, trie, IsValueOf, PrintAlike}
 use Rattle.elasticlunr.proofs.Sorting.{as_many}
 
-same_texts : (xs ys : List Bytes) → texts xs ≡ texts ys → xs ≡ ys
+pub same_texts : (xs ys : List Bytes) → texts xs ≡ texts ys → xs ≡ ys
 same_texts [] [] e = refl
 same_texts [] (y ∷ ys) e = cc (e)
 same_texts (x ∷ xs) [] e = cc (e)
@@ -29,7 +29,7 @@ both_false : (a b : Bool) → (a || b) ≡ false → (a ≡ false) × (b ≡ fal
 both_false true b e = absurd (true≢false e)
 both_false false b e = (refl, e)
 
-both_true : (a b : Bool) → (not a && b) ≡ true → (a ≡ false) × (b ≡ true)
+pub both_true : (a b : Bool) → (not a && b) ≡ true → (a ≡ false) × (b ≡ true)
 both_true true b e = absurd (true≢false (sym e))
 both_true false b e = (refl, e)
 
@@ -38,7 +38,7 @@ either true b e = refl
 either false b e = e
 
 -- values under other names leave what is found
-untouched : (q : Bytes) (names : List Bytes) (values : List Data) (before : Members) → has_name q names ≡ false → get_member q (members_after before (zip names values)) ≡ get_member q before
+pub untouched : (q : Bytes) (names : List Bytes) (values : List Data) (before : Members) → has_name q names ≡ false → get_member q (members_after before (zip names values)) ≡ get_member q before
 untouched q [] values before none = refl
 untouched q (name ∷ names) [] before none = refl
 untouched q (name ∷ names) (value ∷ values) before none =

@@ -1,8 +1,8 @@
 -- The JSON value of an index.
-use Rattle.std.specs.Prelude.{◌≡◌, ◌≤◌, ℕ, List, [], ◌∷◌, Some, codes}
+use Rattle.std.specs.Prelude.{◌≡◌, ◌≤◌, ℕ, List, [], ◌∷◌, Some, codes, All, IsTrue}
 use Rattle.std.specs.List.{zip}
 use Rattle.elasticlunr_text.specs.Text.{Bytes}
-use Rattle.elasticlunr_store.specs.Table.{Table}
+use Rattle.elasticlunr_store.specs.Table.{Table, IsTable}
 use Rattle.elasticlunr_store.specs.Tree.{IsTrieValue}
 use Rattle.elasticlunr_store.specs.Contents.{Contents, IsStoreValue}
 use Rattle.serde_json.specs.Data.{Data, string, array, object, Items, no_items, item, Members, no_members, put, depth}
@@ -10,6 +10,7 @@ use Rattle.serde_json.specs.Read.{read, max_depth}
 use Rattle.json.specs.Layout.{pretty}
 use Rattle.json.specs.Tree.{json_tokens}
 use Rattle.serde_json.specs.Written.{outline}
+use Rattle.elasticlunr.specs.Fields.{all_differ}
 use Rattle.elasticlunr.specs.History.{Commands}
 use Rattle.elasticlunr.specs.Standing.{Plan, Holds}
 
@@ -78,3 +79,14 @@ pretty_text value = pretty (json_tokens (outline value))
 pub record IsReadAs (text : List ℕ) (value : Data) : Type 0 where
   pub reads : depth value ≤ max_depth → read text ≡ Some value
   pub no_other : (other : Data) → read text ≡ Some other → other ≡ value
+
+-- the text is printed of an index of this plan after these commands
+pub record IsPrintOf (plan : Plan) (commands : Commands) (text : List ℕ) : Type 0 where
+  pub tables : List Table
+  pub contents : Contents
+  pub value : Data
+  pub differ : IsTrue (all_differ plan.fields)
+  pub holds : Holds plan commands tables contents
+  pub are_tables : All IsTable tables
+  pub printed : IsValueOf plan tables contents value
+  pub read_as : IsReadAs text value

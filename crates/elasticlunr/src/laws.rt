@@ -1,3 +1,4 @@
 //! Laws of the words that this crate's contracts speak of.
+pub mod found;
 pub mod removal;
 pub mod values;

@@ -1,12 +1,15 @@
 //! Laws of the values of indexes.
-ghost use Rattle.std.specs.Prelude.{◌≡◌, List, false, length, All, IsTrue};
+ghost use Rattle.std.specs.Prelude.{◌≡◌, List, false, length, All, IsTrue, IsSomeAnd, Some, codes};
+ghost use Rattle.std.specs.List.{AllZip};
 ghost use Rattle.elasticlunr_store.specs.Table.{Table, IsTable};
-ghost use Rattle.elasticlunr_store.specs.Contents.{Contents};
+ghost use Rattle.elasticlunr_store.specs.Contents.{Contents, store_value};
+ghost use Rattle.elasticlunr_store.specs.Tree.{IsTrieValue};
 ghost use Rattle.elasticlunr.specs.Fields.{all_differ};
 ghost use Rattle.elasticlunr.specs.History.{Commands, Agree};
 ghost use Rattle.elasticlunr.specs.Standing.{Plan};
-ghost use Rattle.elasticlunr.specs.Printed.{IsValueOf, IsValue, PrintAlike};
-ghost use Rattle.serde_json.specs.Data.{Data};
+ghost use Rattle.elasticlunr.specs.Printed.{IsValueOf, IsValue, PrintAlike, texts};
+ghost use Rattle.serde_json.specs.Data.{Data, array};
+ghost use Rattle.serde_json.specs.Find.{get};
 ghost use Rattle.serde_json.specs.Written.{has_float};
 
 use elasticlunr_store::laws::{one_contents_a_value, one_table_a_value, one_value_a_table};
@@ -42,3 +45,12 @@ pub fn values_tell_what_they_print()
     one_table_a_value();
     one_contents_a_value();
 }
+
+/// A value has its parts under their keys: the names of the fields, the store, and under each field's name the trie value of its table.
+pub fn values_hold_their_parts()
+    ensures fields { (plan : Plan) (tables : List Table) (contents : Contents) (v : Data) → IsValueOf plan tables contents v → get (codes "fields") v ≡ Some (array (texts plan.fields)) }
+    ensures store { (plan : Plan) (tables : List Table) (contents : Contents) (v : Data) → IsValueOf plan tables contents v → get (codes "documentStore") v ≡ Some (store_value contents) }
+    ensures tries { (plan : Plan) (tables : List Table) (contents : Contents) (v : Data)
+        → IsTrue (all_differ plan.fields) → length tables ≡ length plan.fields → IsValueOf plan tables contents v
+        → IsSomeAnd (get (codes "index") v) (λ index. AllZip (λ name table. IsSomeAnd (get name index) (IsTrieValue table)) plan.fields tables) }
+{}

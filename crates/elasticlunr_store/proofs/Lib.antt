@@ -35,3 +35,4 @@ pub mod Compact
 pub mod Changes
 pub mod ReadingOptions
 pub mod WrittenOptions
+pub mod ReferenceSets

@@ -17,6 +17,7 @@ mod nodes;
 mod read;
 mod remove;
 mod same;
+mod search;
 mod value;
 mod write;
 

@@ -1,0 +1,10 @@
+pub mod Arrays
+pub mod Stops
+pub mod Tries
+pub mod Shapes
+pub mod Sets
+pub mod Those
+pub mod Steps
+pub mod Names
+pub mod Asking
+pub mod Wording

@@ -1,18 +1,19 @@
--- What an index holds that has not failed.
-use Rattle.std.proofs.Common.{◌≡◌, List, Option, Some, refl, subst, sym, ◌∙◌}
-use Rattle.std.specs.Prelude.{IsSomeAnd}
+-- What an index holds that has not failed, and what is printed of it.
+use Rattle.std.proofs.Common.{◌≡◌, ℕ, List, length, Option, Some, true, refl, sym, ap, subst, ◌∙◌}
+use Rattle.std.specs.Prelude.{IsSomeAnd, All}
 use Rattle.elasticlunr_text.specs.Text.{bytes_of}
-use Rattle.elasticlunr_store.specs.Table.{Table}
+use Rattle.elasticlunr_store.specs.Table.{Table, IsTable}
 use Rattle.elasticlunr_store.specs.Contents as store
 use Rattle.serde_json.specs.Data.{Data}
+use Rattle.serde_json.specs.Read.{read}
 use Rattle.elasticlunr.specs.declared.contents.Contents.{Contents}
 use Rattle.elasticlunr.specs.declared.printed.Parts.{Parts}
+use Rattle.elasticlunr.specs.Fields.{all_differ}
 use Rattle.elasticlunr.specs.History.{Commands, Agree}
-use Rattle.elasticlunr.specs.Parts.{IsPrinted}
-use Rattle.elasticlunr.specs.Printed.{AreTrieValues, IsValue, IsValueOf, index_object}
+use Rattle.elasticlunr.specs.Parts.{IsPrinted, IsPrintedText}
+use Rattle.elasticlunr.specs.Printed.{AreTrieValues, IsValue, IsValueOf, IsIndexValue, IsValueOfNoOther, IsTextOf, IsTextOfNoOther, IsTextAfter, IsReadAfter, IsReadAs, IsPrintOf, PrintAlike, index_object}
 use Rattle.elasticlunr.specs.Standing.{Plan, Holds}
 use Rattle.elasticlunr.proofs.Agreeing.{holds_agreed}
-use Rattle.elasticlunr.proofs.Printing.{value_of_parts}
 
 -- its contents
 pub held : (plan : Plan) (there : Option Contents) (contents : Contents) (commands : Commands) → there ≡ Some contents
@@ -24,6 +25,17 @@ pub held_beside : (plan : Plan) (tables : List Table) (contents same : Contents)
     → Holds plan commands tables contents.store → Holds plan commands tables same.store
 held_beside plan tables contents same commands is holds = subst (λ (c : Contents). Holds plan commands tables c.store) is holds
 
+-- what is so of its tries and its store is so of its parts
+of_parts : (there : Option Contents) (contents : Contents) (tables : List Table) (kept : store.Contents) (Q : List Table → store.Contents → Type 0) → there ≡ Some contents
+    → IsSomeAnd there (λ c. (c.tries.items ≡ tables) × (c.store ≡ kept)) → Q contents.tries.items contents.store → Q tables kept
+of_parts there contents tables kept Q is has q =
+    let own : (contents.tries.items ≡ tables) × (contents.store ≡ kept) = subst (λ o. IsSomeAnd o (λ c. (c.tries.items ≡ tables) × (c.store ≡ kept))) is has in
+    subst (Q tables) own.1 (subst (λ ts. Q ts contents.store) own.0 q)
+
+-- these are its parts
+pub own_parts : (there : Option Contents) (contents : Contents) → there ≡ Some contents → IsSomeAnd there (λ c. (c.tries.items ≡ contents.tries.items) × (c.store ≡ contents.store))
+own_parts there contents is = subst (λ o. IsSomeAnd o (λ c. (c.tries.items ≡ contents.tries.items) × (c.store ≡ contents.store))) (sym is) (refl, refl)
+
 -- the parts are those of the plan and the contents
 pub record ArePartsOf (plan : Plan) (contents : Contents) (parts : Parts) : Type 0 where
   pub fields : bytes_of parts.fields.now ≡ plan.fields
@@ -33,35 +45,65 @@ pub record ArePartsOf (plan : Plan) (contents : Contents) (parts : Parts) : Type
   pub tries : parts.tries.now ≡ contents.tries.items
   pub store : parts.store.now ≡ contents.store
 
--- what they print is the value of each list of commands that agrees
-pub value_of_held : (plan : Plan) (contents : Contents) (commands other : Commands) (parts : Parts) (value : Data)
-    → Holds plan commands contents.tries.items contents.store → Agree commands other → ArePartsOf plan contents parts → IsPrinted parts value → IsValue plan other value
-value_of_held plan contents commands other parts value holds agree are printed =
-    let agreed = holds_agreed commands other plan contents.tries.items contents.store agree holds in
-    value_of_parts plan other parts value are.fields are.reference_field are.language are.stages
-    (subst (λ (ts : List Table). Holds plan other ts parts.store.now) (sym are.tries) (subst (λ (kept : store.Contents). Holds plan other contents.tries.items kept) (sym are.store) agreed))
-    printed
+-- what they print is the value of the tries and the store
+value_of_own : (plan : Plan) (contents : Contents) (parts : Parts) (value : Data) → ArePartsOf plan contents parts → IsPrinted parts value → IsIndexValue plan contents.tries.items contents.store value
+value_of_own plan contents parts value are is = record {
+  differ = subst (λ names. all_differ names ≡ true) are.fields is.differ;
+  one_each = sym (ap length are.tries) ∙ is.one_each ∙ ap length are.fields;
+  are_tables = subst (All IsTable) are.tries is.are_tables;
+  printed = record {
+    tries = is.printed.tries;
+    documents = is.printed.documents;
+    each_trie = subst (λ ts. AreTrieValues ts is.printed.tries) are.tries is.printed.each_trie;
+    store = subst (λ c. store.IsStoreValue c is.printed.documents) are.store is.printed.store;
+    whole = is.printed.whole
+        ∙ (λ i. index_object (record { fields = are.fields i; reference_field = are.reference_field i; save = plan.save; language = are.language i; stages = are.stages i }) is.printed.tries is.printed.documents);
+  };
+}
 
--- what they print is the value of the tables and the store's contents, too
-pub value_of_own : (plan : Plan) (there : Option Contents) (contents : Contents) (parts : Parts) (tables : List Table) (kept : store.Contents) (value : Data) → there ≡ Some contents
-    → IsSomeAnd there (λ c. (c.tries.items ≡ tables) × (c.store ≡ kept)) → ArePartsOf plan contents parts → IsPrinted parts value → IsValueOf plan tables kept value
-value_of_own plan there contents parts tables kept value is has are printed =
-    let own : (contents.tries.items ≡ tables) × (contents.store ≡ kept) = subst (λ o. IsSomeAnd o (λ c. (c.tries.items ≡ tables) × (c.store ≡ kept))) is has in
-    record {
-      tries = printed.tries;
-      documents = printed.documents;
-      each_trie = subst (λ ts. AreTrieValues ts printed.tries) (are.tries ∙ own.0) printed.each_trie;
-      store = subst (λ c. store.IsStoreValue c printed.documents) (are.store ∙ own.1) printed.store;
-      whole = printed.whole ∙ (λ i. index_object (record { fields = are.fields i; reference_field = are.reference_field i; save = plan.save; language = are.language i; stages = are.stages i }) printed.tries printed.documents);
+module _ (there : Option Contents) (contents : Contents) (parts : Parts) (plan : Plan) (tables : List Table) (kept : store.Contents) (is : there ≡ Some contents)
+    (has : IsSomeAnd there (λ c. (c.tries.items ≡ tables) × (c.store ≡ kept))) (are : ArePartsOf plan contents parts) where
+  -- so of the tables and the contents that the index has
+  pub own_value : (value : Data) → IsPrinted parts value → IsIndexValue plan tables kept value
+  own_value value printed = of_parts there contents tables kept (λ ts k. IsIndexValue plan ts k value) is has (value_of_own plan contents parts value are printed)
+
+  -- and the text, too
+  pub own_text : (text_of : Data → List ℕ) (text : List ℕ) → IsPrintedText text_of parts text → IsTextOf text_of plan tables kept text
+  own_text text_of text printed = record { value = printed.value; of_index = own_value printed.value printed.of_index; written = printed.written; read_as = printed.read_as }
+
+module _ (plan : Plan) (tables : List Table) (contents : store.Contents) where
+  -- the value of an index is that after the commands it holds, and after all that agree with them
+  pub value_after : (commands other : Commands) (value : Data) → Holds plan commands tables contents → Agree commands other → IsIndexValue plan tables contents value → IsValue plan other value
+  value_after commands other value holds agree is = record { tables = tables; contents = contents; holds = holds_agreed commands other plan tables contents agree holds; printed = is.printed }
+
+  module _ (text_of : Data → List ℕ) (text : List ℕ) (is : IsTextOf text_of plan tables contents text) where
+    pub text_after : (commands other : Commands) → Holds plan commands tables contents → Agree commands other → IsTextAfter text_of plan other text
+    text_after commands other holds agree = (is.value, value_after commands other is.value holds agree is.of_index, is.written)
+
+    -- one value comes after commands
+    pub read_after : ((p : Plan) (c : Commands) (v w : Data) → IsValue p c v → IsValue p c w → v ≡ w) → (commands other : Commands) → Holds plan commands tables contents → Agree commands other → IsReadAfter plan other text
+    read_after one commands other holds agree v after = subst (IsReadAs text) (one plan other is.value v (value_after commands other is.value holds agree is.of_index) after) is.read_as
+
+    -- the value of an index is that of no other
+    pub text_of_no_other : (IsIndexValue plan tables contents is.value → IsValueOfNoOther plan tables contents is.value) → IsTextOfNoOther plan tables contents text
+    text_of_no_other only v reads = subst (IsValueOfNoOther plan tables contents) (sym (is.read_as.no_other v reads)) (only is.of_index)
+
+    pub print_of : (commands : Commands) → Holds plan commands tables contents → IsPrintOf plan commands text
+    print_of commands holds = record {
+      tables = tables;
+      contents = contents;
+      value = is.value;
+      differ = is.of_index.differ;
+      holds = holds;
+      are_tables = is.of_index.are_tables;
+      printed = is.of_index.printed;
+      read_as = is.read_as;
     }
 
--- these are tables, as many as fields
-pub tables_of_own : (there : Option Contents) (contents : Contents) (parts : Parts) (tables : List Table) (kept : store.Contents) (P : List Table → Type 0) → there ≡ Some contents
-    → IsSomeAnd there (λ c. (c.tries.items ≡ tables) × (c.store ≡ kept)) → parts.tries.now ≡ contents.tries.items → P parts.tries.now → P tables
-tables_of_own there contents parts tables kept P is has are holds =
-    let own : (contents.tries.items ≡ tables) × (contents.store ≡ kept) = subst (λ o. IsSomeAnd o (λ c. (c.tries.items ≡ tables) × (c.store ≡ kept))) is has in
-    subst P (are ∙ own.0) holds
-
--- its tries and its store are its parts
-pub own_parts : (there : Option Contents) (contents : Contents) → there ≡ Some contents → IsSomeAnd there (λ c. (c.tries.items ≡ contents.tries.items) × (c.store ≡ contents.store))
-own_parts there contents is = subst (λ o. IsSomeAnd o (λ c. (c.tries.items ≡ contents.tries.items) × (c.store ≡ contents.store))) (sym is) (refl, refl)
+    -- one text that is read is printed of equal parts
+    pub parts_of_text : ((value : Data) → IsIndexValue plan tables contents value → IsValueOfNoOther plan tables contents value)
+        → (other_text : Data → List ℕ) (other : Plan) (others : List Table) (kept : store.Contents) (value : Data) → read text ≡ Some value → IsTextOf other_text other others kept text
+        → PrintAlike plan other × (tables ≡ others) × (contents ≡ kept)
+    parts_of_text only other_text other others kept value reads also =
+        let same : also.value ≡ is.value = sym (also.read_as.no_other value reads) ∙ is.read_as.no_other value reads in
+        only is.value is.of_index other others kept also.of_index.one_each also.of_index.are_tables (subst (IsValueOf other others kept) same also.of_index.printed)

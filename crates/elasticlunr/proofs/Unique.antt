@@ -12,7 +12,7 @@ use Rattle.serde_json.specs.Data.{Data}
 use Rattle.elasticlunr.specs.Root.{IsRoot}
 use Rattle.elasticlunr.specs.History.{Commands, Agree}
 use Rattle.elasticlunr.specs.Standing.{Plan, IsPosting, occurrences, IsTableOf, IsContentsOf}
-use Rattle.elasticlunr.specs.Printed.{index_object, AreTrieValues, trie, IsValueOf, IsValue}
+use Rattle.elasticlunr.specs.Printed.{index_object, AreTrieValues, trie, IsValueOf, IsValue, PrintAlike}
 use Rattle.elasticlunr.proofs.Agreeing.{holds_agreed}
 
 -- maps with texts as keys that find the same are one
@@ -92,12 +92,14 @@ module _ (only : HasOneValue) where
       let rest = same_values ts vs ws more more2 in
       λ i. first i ∷ rest i
 
-  -- tables and contents have one value
-  one_printed : (plan : Plan) (tables : List Table) (contents : Contents) (v w : Data) → IsValueOf plan tables contents v → IsValueOf plan tables contents w → v ≡ w
-  one_printed plan tables contents v w one two =
+  -- tables and contents have one value, with plans that print alike
+  pub one_printed_alike : (plan other : Plan) (tables : List Table) (contents : Contents) (v w : Data) → PrintAlike plan other → IsValueOf plan tables contents v → IsValueOf other tables contents w → v ≡ w
+  one_printed_alike plan other tables contents v w alike one two =
       let tries = same_values tables one.tries two.tries one.each_trie two.each_trie in
       let documents = one.store ∙ sym two.store in
-      one.whole ∙ (λ i. index_object plan (tries i) (documents i)) ∙ sym two.whole
+      one.whole
+      ∙ (λ i. index_object (record { fields = alike.same_fields i; reference_field = alike.same_reference_field i; save = plan.save; language = alike.same_language i; stages = alike.same_stages i }) (tries i) (documents i))
+      ∙ sym two.whole
 
   -- settings and commands have one value
   pub one_value : (plan : Plan) (commands : Commands) (v w : Data) → IsValue plan commands v → IsValue plan commands w → v ≡ w
@@ -105,7 +107,7 @@ module _ (only : HasOneValue) where
       let tables = same_lists (IsTableOf commands) (one_table commands) one.tables two.tables (one.holds.one_each ∙ sym two.holds.one_each) one.holds.each two.holds.each in
       let contents = one_store plan commands one.contents two.contents one.holds.store two.holds.store in
       let printed = subst (λ c. IsValueOf plan two.tables c v) contents (subst (λ ts. IsValueOf plan ts one.contents v) tables one.printed) in
-      one_printed plan two.tables two.contents v w printed two.printed
+      one_printed_alike plan plan two.tables two.contents v w (record { same_fields = refl; same_reference_field = refl; same_language = refl; same_stages = refl }) printed two.printed
 
 -- a value of commands is one of the commands that agree with them
 pub value_agreed : (plan : Plan) (left right : Commands) (v : Data) → Agree left right → IsValue plan left v → IsValue plan right v

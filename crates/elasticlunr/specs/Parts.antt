@@ -1,8 +1,8 @@
 -- What the parts of an index print.
-use Rattle.std.specs.Prelude.{map, string_bytes}
+use Rattle.std.specs.Prelude.{ℕ, List, map, string_bytes}
 use Rattle.serde_json.specs.Data.{Data}
 use Rattle.elasticlunr.specs.Standing.{Plan}
-use Rattle.elasticlunr.specs.Printed.{IsValueOf}
+use Rattle.elasticlunr.specs.Printed.{IsIndexValue, IsTextOf}
 use Rattle.elasticlunr.specs.declared.printed.Parts.{Parts}
 
 -- how an index with these parts is built, as far as it is printed
@@ -11,4 +11,8 @@ plan_of_parts p = record { fields = map string_bytes p.fields.now; reference_fie
 
 -- the value of an index with these parts
 abbrev pub IsPrinted : Parts → Data → Type 0
-IsPrinted p value = IsValueOf (plan_of_parts p) p.tries.now p.store.now value
+IsPrinted p value = IsIndexValue (plan_of_parts p) p.tries.now p.store.now value
+
+-- the text of an index with these parts
+abbrev pub IsPrintedText : (text_of : Data → List ℕ) → Parts → List ℕ → Type 0
+IsPrintedText text_of p text = IsTextOf text_of (plan_of_parts p) p.tries.now p.store.now text

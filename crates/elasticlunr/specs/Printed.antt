@@ -1,5 +1,5 @@
 -- The JSON value of an index.
-use Rattle.std.specs.Prelude.{◌≡◌, ◌≤◌, ℕ, List, [], ◌∷◌, Some, codes, All, IsTrue}
+use Rattle.std.specs.Prelude.{◌≡◌, ◌≤◌, ℕ, List, [], ◌∷◌, Some, codes, length, All, IsTrue}
 use Rattle.std.specs.List.{zip}
 use Rattle.elasticlunr_text.specs.Text.{Bytes}
 use Rattle.elasticlunr_store.specs.Table.{Table, IsTable}
@@ -79,6 +79,38 @@ pretty_text value = pretty (json_tokens (outline value))
 pub record IsReadAs (text : List ℕ) (value : Data) : Type 0 where
   pub reads : depth value ≤ max_depth → read text ≡ Some value
   pub no_other : (other : Data) → read text ≡ Some other → other ≡ value
+
+-- the value of an index of this plan: its names differ, and these are the tables of its fields and the contents of its store
+pub record IsIndexValue (plan : Plan) (tables : List Table) (contents : Contents) (value : Data) : Type 0 where
+  pub differ : IsTrue (all_differ plan.fields)
+  pub one_each : length tables ≡ length plan.fields
+  pub are_tables : All IsTable tables
+  pub printed : IsValueOf plan tables contents value
+
+-- of no other tables and contents is this the value, and of no plan that prints otherwise
+abbrev pub IsValueOfNoOther : Plan → List Table → Contents → Data → Type 0
+IsValueOfNoOther plan tables contents value = (other : Plan) (others : List Table) (kept : Contents)
+    → length others ≡ length other.fields → All IsTable others → IsValueOf other others kept value
+    → PrintAlike plan other × (tables ≡ others) × (contents ≡ kept)
+
+-- the text is that of an index's value, as `text_of` writes it, and is read as this value and no other
+pub record IsTextOf (text_of : Data → List ℕ) (plan : Plan) (tables : List Table) (contents : Contents) (text : List ℕ) : Type 0 where
+  pub value : Data
+  pub of_index : IsIndexValue plan tables contents value
+  pub written : text ≡ text_of value
+  pub read_as : IsReadAs text value
+
+-- what is read of the text is the value of no other tables and contents
+abbrev pub IsTextOfNoOther : Plan → List Table → Contents → List ℕ → Type 0
+IsTextOfNoOther plan tables contents text = (value : Data) → read text ≡ Some value → IsValueOfNoOther plan tables contents value
+
+-- the text is that of the value after these commands, as `text_of` writes it
+abbrev pub IsTextAfter : (text_of : Data → List ℕ) → Plan → Commands → List ℕ → Type 0
+IsTextAfter text_of plan commands text = (value : Data) × IsValue plan commands value × (text ≡ text_of value)
+
+-- the text is read as the value after these commands, and as no other
+abbrev pub IsReadAfter : Plan → Commands → List ℕ → Type 0
+IsReadAfter plan commands text = (value : Data) → IsValue plan commands value → IsReadAs text value
 
 -- the text is printed of an index of this plan after these commands
 pub record IsPrintOf (plan : Plan) (commands : Commands) (text : List ℕ) : Type 0 where

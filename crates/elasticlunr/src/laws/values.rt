@@ -1,15 +1,16 @@
 //! Laws of the values of indexes.
-ghost use Rattle.std.specs.Prelude.{◌≡◌, List, false, length, All, IsTrue, IsSomeAnd, Some, codes};
+ghost use Rattle.std.specs.Prelude.{◌≡◌, ℕ, List, false, length, IsTrue, IsSomeAnd, Some, codes};
 ghost use Rattle.std.specs.List.{AllZip};
-ghost use Rattle.elasticlunr_store.specs.Table.{Table, IsTable};
+ghost use Rattle.elasticlunr_store.specs.Table.{Table};
 ghost use Rattle.elasticlunr_store.specs.Contents.{Contents, store_value};
 ghost use Rattle.elasticlunr_store.specs.Tree.{IsTrieValue};
 ghost use Rattle.elasticlunr.specs.Fields.{all_differ};
 ghost use Rattle.elasticlunr.specs.History.{Commands, Agree};
 ghost use Rattle.elasticlunr.specs.Standing.{Plan};
-ghost use Rattle.elasticlunr.specs.Printed.{IsValueOf, IsValue, PrintAlike, texts};
+ghost use Rattle.elasticlunr.specs.Printed.{IsIndexValue, IsTextOf, IsValue, IsValueOf, IsValueOfNoOther, PrintAlike, texts};
 ghost use Rattle.serde_json.specs.Data.{Data, array};
 ghost use Rattle.serde_json.specs.Find.{get};
+ghost use Rattle.serde_json.specs.Read.{read};
 ghost use Rattle.serde_json.specs.Written.{has_float};
 
 use elasticlunr_store::laws::{one_contents_a_value, one_table_a_value, one_value_a_table};
@@ -35,21 +36,39 @@ pub fn values_have_no_float()
 
 /// A value comes from one list of tables and one contents, and from plans that print alike.
 pub fn values_tell_what_they_print()
-    ensures { (plan : Plan) (other : Plan) (tables : List Table) (others : List Table) (contents : Contents) (kept : Contents) (v : Data)
-        → IsTrue (all_differ plan.fields)
-        → length tables ≡ length plan.fields → All IsTable tables
-        → length others ≡ length other.fields → All IsTable others
-        → IsValueOf plan tables contents v → IsValueOf other others kept v
-        → PrintAlike plan other × (tables ≡ others) × (contents ≡ kept) }
+    ensures { (plan : Plan) (tables : List Table) (contents : Contents) (v : Data)
+        → IsIndexValue plan tables contents v → IsValueOfNoOther plan tables contents v }
 {
     one_table_a_value();
     one_contents_a_value();
 }
 
-/// A value has its parts under their keys: the names of the fields, the store, and under each field's name the trie value of its table.
+/// Plans that print alike have one value with the same tables and contents.
+pub fn equal_parts_have_equal_values()
+    ensures { (plan : Plan) (other : Plan) (tables : List Table) (contents : Contents) (v : Data) (w : Data)
+        → PrintAlike plan other → IsValueOf plan tables contents v → IsValueOf other tables contents w → v ≡ w }
+{
+    one_value_a_table();
+}
+
+/// Where two indexes print one text that a reader of JSON takes, their tables and contents are
+/// equal, and their plans print alike.
+pub fn equal_texts_have_equal_parts()
+    ensures { (one_text : Data → List ℕ) (other_text : Data → List ℕ) (plan : Plan) (other : Plan)
+        (tables : List Table) (others : List Table) (contents : Contents) (kept : Contents) (text : List ℕ) (v : Data)
+        → read text ≡ Some v → IsTextOf one_text plan tables contents text → IsTextOf other_text other others kept text
+        → PrintAlike plan other × (tables ≡ others) × (contents ≡ kept) }
+{
+    values_tell_what_they_print();
+}
+
+/// A value has its parts under their keys: the names of the fields, the store, and under each
+/// field's name the trie value of its table.
 pub fn values_hold_their_parts()
-    ensures fields { (plan : Plan) (tables : List Table) (contents : Contents) (v : Data) → IsValueOf plan tables contents v → get (codes "fields") v ≡ Some (array (texts plan.fields)) }
-    ensures store { (plan : Plan) (tables : List Table) (contents : Contents) (v : Data) → IsValueOf plan tables contents v → get (codes "documentStore") v ≡ Some (store_value contents) }
+    ensures fields { (plan : Plan) (tables : List Table) (contents : Contents) (v : Data) → IsValueOf plan tables contents v
+        → get (codes "fields") v ≡ Some (array (texts plan.fields)) }
+    ensures store { (plan : Plan) (tables : List Table) (contents : Contents) (v : Data) → IsValueOf plan tables contents v
+        → get (codes "documentStore") v ≡ Some (store_value contents) }
     ensures tries { (plan : Plan) (tables : List Table) (contents : Contents) (v : Data)
         → IsTrue (all_differ plan.fields) → length tables ≡ length plan.fields → IsValueOf plan tables contents v
         → IsSomeAnd (get (codes "index") v) (λ index. AllZip (λ name table. IsSomeAnd (get name index) (IsTrieValue table)) plan.fields tables) }

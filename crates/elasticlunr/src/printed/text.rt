@@ -1,10 +1,8 @@
 //! The JSON text of an index.
-ghost use Rattle.std.specs.Prelude.{◌≡◌, All, string_bytes, IfOk, OnOk, IsOkUnless};
+ghost use Rattle.std.specs.Prelude.{string_bytes, IfOk, IsOkUnless};
 ghost use Rattle.elasticlunr_text.specs.declared.error.IndexError.TheVariants.{Memory};
-ghost use Rattle.elasticlunr_store.specs.Table.{IsTable};
-ghost use Rattle.elasticlunr.specs.Parts.{IsPrinted};
-ghost use Rattle.elasticlunr.specs.Printed.{pretty_text, IsReadAs};
-ghost use Rattle.serde_json.specs.Data.{Data};
+ghost use Rattle.elasticlunr.specs.Parts.{IsPrintedText};
+ghost use Rattle.elasticlunr.specs.Printed.{pretty_text};
 ghost use Rattle.serde_json.specs.Written.{compact_text};
 
 use super::Parts;
@@ -15,8 +13,7 @@ use std::alloc::Global;
 
 /// The compact text of the value of an index with these parts.
 pub fn index_json(alloc: Global, parts: Parts<'_>) -> Result<String, IndexError>
-    ensures text { IfOk result (λ text. (v : Data) × IsPrinted parts.entry v × (string_bytes text ≡ compact_text v) × IsReadAs (string_bytes text) v) }
-    ensures tables { OnOk result (All IsTable parts.entry.tries.now) }
+    ensures text { IfOk result (λ text. IsPrintedText compact_text parts.entry (string_bytes text)) }
     ensures memory { IsOkUnless result Memory }
 {
     let mut out = CompactText::new(alloc)?;
@@ -26,7 +23,7 @@ pub fn index_json(alloc: Global, parts: Parts<'_>) -> Result<String, IndexError>
 
 /// The indented text of the value of an index with these parts: a line for each item and each member.
 pub fn index_json_pretty(alloc: Global, parts: Parts<'_>) -> Result<String, IndexError>
-    ensures text { IfOk result (λ text. (v : Data) × IsPrinted parts.entry v × (string_bytes text ≡ pretty_text v) × IsReadAs (string_bytes text) v) }
+    ensures text { IfOk result (λ text. IsPrintedText pretty_text parts.entry (string_bytes text)) }
     ensures memory { IsOkUnless result Memory }
 {
     let mut out = PrettyText::new(alloc);

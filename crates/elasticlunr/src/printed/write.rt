@@ -1,9 +1,8 @@
 //! The JSON tokens of an index, with no JSON value built.
-ghost use Rattle.std.specs.Prelude.{◌≡◌, ℕ, List, [], ◌∷◌, ◌++◌, map, length, string_bytes, All, OnOk, IfOk};
+ghost use Rattle.std.specs.Prelude.{◌≡◌, ℕ, List, [], ◌∷◌, ◌++◌, map, length, string_bytes, OnOk, IfOk};
 ghost use Rattle.json.specs.Tree.{json_tokens};
 ghost use Rattle.serde_json.specs.Data.{Data, array, object};
 ghost use Rattle.serde_json.specs.Written.{outline};
-ghost use Rattle.elasticlunr_store.specs.Table.{IsTable};
 ghost use Rattle.elasticlunr.specs.Printed.{texts};
 ghost use Rattle.elasticlunr.specs.Parts.{IsPrinted};
 ghost use Rattle.elasticlunr.specs.Sorted.{IsByName, WritesTries};
@@ -20,8 +19,7 @@ pub fn write_index<W: Tokens>(
     parts: Parts<'_>,
     out: &mut W,
 ) -> Result<(), AllocError>
-    ensures written { OnOk result ((v : Data) × IsPrinted parts.entry v × (W.Tokens.written out.new ≡ W.Tokens.written out.old ++ json_tokens (outline v))) }
-    ensures tables { OnOk result (All IsTable parts.entry.tries.now) }
+    ensures { OnOk result ((v : Data) × IsPrinted parts.entry v × (W.Tokens.written out.new ≡ W.Tokens.written out.old ++ json_tokens (outline v))) }
 {
     let tries = by_name(alloc, parts.fields, parts.tries)?;
     out.token(Token::BeginObject)?;

@@ -9,10 +9,11 @@ use Rattle.elasticlunr.proofs.printed.text.index_json.Goals as goal
 
 pub returns-clause-text : goal.returns-clause-text
 returns-clause-text c =
-    let v = c.in_ok-write_index.ensures.written in
-    let are = v.2 ∙ ap (λ ts. ts ++ json_tokens (outline v.0)) c.in_ok-out.ensures in (
-      v.0,
-      v.1,
-      c.into_string.ensures.text ∙ ap print are ∙ print-outline v.0,
-      printed_reads (plan_of_parts c.args.parts) _ _ v.0 _ _ v.1 c.into_string.ensures.read are c.into_string.ensures.small,
-    )
+    let v = c.in_ok-write_index.ensures in
+    let are = v.2 ∙ ap (λ ts. ts ++ json_tokens (outline v.0)) c.in_ok-out.ensures in
+    record {
+      value = v.0;
+      of_index = v.1;
+      written = c.into_string.ensures.text ∙ ap print are ∙ print-outline v.0;
+      read_as = printed_reads (plan_of_parts c.args.parts) _ _ v.0 _ _ v.1.printed c.into_string.ensures.read are c.into_string.ensures.small;
+    }

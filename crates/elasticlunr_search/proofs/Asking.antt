@@ -3,6 +3,7 @@ use Rattle.std.proofs.Common.{◌≡◌, ◌↔◌, ◌<◌, ℕ, zero, suc, Boo
 use Rattle.std.specs.Prelude.{IsSome}
 use Rattle.std.specs.List.{slice_get, filter, AllZip, AllByRecursion}
 use Rattle.std.specs.Str.{chars, all_scalars}
+use Rattle.std.proofs.lemmas.Bool.{eqb-true}
 use Rattle.std.proofs.lemmas.Str.{chars-nil, encodes-chars, scalars-chars, IsUtf8-string_bytes}
 use Rattle.elasticlunr_text.specs.Text.{Text, Bytes, text_of, texts_of, is_not_empty}
 use Rattle.elasticlunr_store.specs.Table.{Table, posting}
@@ -26,6 +27,12 @@ leaves_as M R as_R [] (left ∷ lefts) are all = absurd all
 leaves_as M R as_R (token ∷ tokens) [] are all = absurd all
 leaves_as M R as_R (token ∷ tokens) (left ∷ lefts) are all = (as_R token left are.0 all.0, leaves_as M R as_R tokens lefts are.1 all.1)
 
+zero_test : (n : ℕ) → 0 < n → nat_eq n 0 ≡ false
+zero_test n h = elim (nat_eq n 0) as (λ b. nat_eq n 0 ≡ b → b ≡ false) [
+  | true ↦ λ e. absurd (let z : n ≡ 0 = eqb-true n 0 e in omega arith)
+  | false ↦ λ e. refl
+] refl
+
 -- a string is empty if its text is
 empty_alike : (bs : List ℕ) (n : ℕ) → IsUtf8 bs → n ≡ length bs → is_not_empty (chars bs) ≡ not (nat_eq n 0)
 empty_alike [] n utf8 e = rw (chars-nil, e) refl
@@ -36,8 +43,7 @@ empty_alike (b ∷ bs) n utf8 e = some (chars (b ∷ bs)) (encodes-chars (b ∷ 
     some (c ∷ cs) f = refl
 
     not_zero : (n : ℕ) → 0 < n → not (nat_eq n 0) ≡ true
-    not_zero zero h = absurd (omega arith)
-    not_zero (suc n) h = refl
+    not_zero n h = ap not (zero_test n h)
 
 -- the strings that are not empty, as texts
 pub texts_kept : (strings : List (String Global)) → texts_of (filter (λ s. not (nat_eq (string_len s) 0)) strings) ≡ filter is_not_empty (texts_of strings)

@@ -72,8 +72,8 @@ same_tries only index (n ∷ names) (T ∷ ts) (U ∷ us) left right =
     λ i. here i ∷ more i
 
 -- a value has its parts in one way
-same_fields : (v : Data) (xs ys : List Bytes) → HasFields v xs → HasFields v ys → xs ≡ ys
-same_fields v xs ys one two = let e : Some (array (texts xs)) ≡ Some (array (texts ys)) = sym one ∙ two in let t : texts xs ≡ texts ys = cc (e) in same_names xs ys t
+pub only_names : (v : Data) (xs ys : List Bytes) → HasFields v xs → HasFields v ys → xs ≡ ys
+only_names v xs ys one two = let e : Some (array (texts xs)) ≡ Some (array (texts ys)) = sym one ∙ two in let t : texts xs ≡ texts ys = cc (e) in same_names xs ys t
 
 same_tables : OneTable → (v : Data) (names : List Bytes) (ts us : List Table) → HasTries v names ts → HasTries v names us → ts ≡ us
 same_tables only v names ts us one two = let b = both_of (λ index. AllZip (HasTrie index) names ts) (λ index. AllZip (HasTrie index) names us) (get (codes "index") v) one two in same_tries only b.0 names ts us b.1 b.2
@@ -86,7 +86,7 @@ pub read_whole : OneTable → OneContents → PartsAreHeld → (text : List ℕ)
     → (plan : Plan) (commands : Commands) → IsPrintOf plan commands text → (fields ≡ plan.fields) × Holds plan commands tries store
 read_whole one_table one_contents held text v fields tries store reads has plan commands p =
     let its : HasParts v plan.fields p.tables p.contents = subst (λ w. HasParts w plan.fields p.tables p.contents) (sym (p.read_as.no_other v reads)) (has_its_parts held plan commands text p) in
-    let names : fields ≡ plan.fields = same_fields v fields plan.fields has.fields its.fields in
+    let names : fields ≡ plan.fields = only_names v fields plan.fields has.fields its.fields in
     let tables : tries ≡ p.tables = same_tables one_table v plan.fields tries p.tables (subst (λ ns. HasTries v ns tries) names has.tries) its.tries in
     let contents : store ≡ p.contents = same_store one_contents v store p.contents has.store its.store in
     (names, subst (λ ts. Holds plan commands ts store) (sym tables) (subst (Holds plan commands p.tables) (sym contents) p.holds))

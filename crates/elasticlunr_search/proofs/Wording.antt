@@ -1,5 +1,5 @@
 -- What is found by tokens is found by words: of the documents' texts, by the query's text.
-use Rattle.std.proofs.Common.{◌≡◌, ◌≢◌, ◌↔◌, ◌⊎◌, inl, inr, ℕ, zero, suc, Bool, true, false, cond, List, [], ◌∷◌, length, get_or, arith, Option, None, Some, IfSome, option_and_then, true≢false, bytes_eq, refl, sym, ap, subst, ◌∙◌}
+use Rattle.std.proofs.Common.{◌≡◌, ◌≢◌, ◌<◌, ◌↔◌, ◌⊎◌, inl, inr, ℕ, zero, suc, Bool, true, false, cond, List, [], ◌∷◌, length, get_or, arith, Option, None, Some, IfSome, option_and_then, true≢false, bytes_eq, refl, sym, ap, subst, ◌∙◌}
 use Rattle.std.specs.Prelude.{IsSomeAnd, Contains}
 use Rattle.std.specs.List.{slice_get, filter}
 use Rattle.elasticlunr_text.specs.Text.{Text, Bytes, is_not_empty}
@@ -9,7 +9,7 @@ use Rattle.elasticlunr.specs.History.{Given, Document, Commands, none, ◌▸◌
 use Rattle.elasticlunr.specs.Standing.{tokens_at}
 use Rattle.elasticlunr_search.specs.Query.{AreTokensOf, IsFound}
 use Rattle.elasticlunr_search.specs.Words.{AreRead, Asks, Has, Finds}
-use Rattle.elasticlunr_search.specs.declared.text.Join.TheVariants.{Any, All}
+use Rattle.elasticlunr_search.specs.declared.words.Join.TheVariants.{Any, All}
 
 contained_cases : (y x : Text) (xs : List Text) → Contains (y ∷ xs) x → (y ≡ x) ⊎ Contains xs x
 contained_cases y x xs c = by c.0 c.1 c.2 where
@@ -40,13 +40,13 @@ kept x (y ∷ xs) ne c = elim (contained_cases y x xs c) [
 
 from_kept : (x : Text) (xs : List Text) → Contains (filter is_not_empty xs) x → (x ≢ []) × Contains xs x
 from_kept x [] c = absurd (omega (arith, c.1))
-from_kept x (y ∷ xs) c = by (is_not_empty y) refl c where
-  by : (b : Bool) → is_not_empty y ≡ b → Contains (cond b (y ∷ filter is_not_empty xs) (filter is_not_empty xs)) x → (x ≢ []) × Contains (y ∷ xs) x
-  by true e c = elim (contained_cases y x (filter is_not_empty xs) c) [
+from_kept x (y ∷ xs) c = by (is_not_empty y) refl (from_kept x xs) c where
+  by : (b : Bool) → is_not_empty y ≡ b → (Contains (filter is_not_empty xs) x → (x ≢ []) × Contains xs x) → Contains (cond b (y ∷ filter is_not_empty xs) (filter is_not_empty xs)) x → (x ≢ []) × Contains (y ∷ xs) x
+  by true e rest c = elim (contained_cases y x (filter is_not_empty xs) c) [
     | inl same ↦ (is_some_text x (ap is_not_empty (sym same) ∙ e), (0, omega arith, same))
-    | inr more ↦ (let rest = from_kept x xs more in (rest.0, later y x xs rest.1))
+    | inr more ↦ ((rest more).0, later y x xs (rest more).1)
   ]
-  by false e c = let rest = from_kept x xs c in (rest.0, later y x xs rest.1)
+  by false e rest c = ((rest c).0, later y x xs (rest c).1)
 
 module _ (reads : ℕ → Bytes → List Text → Type 0) where
   -- the query asks for its tokens
@@ -60,20 +60,20 @@ module _ (reads : ℕ → Bytes → List Text → Type 0) where
     -- what is given in a current document was read
     given_read : (commands : Commands) → AreRead reads fields reference_field commands → (r : Bytes) (d : Document) → now commands r ≡ Some d → (i : ℕ) → IfSome (slice_get d.given i) (IsGiven fields reference_field reads i)
     given_read none are r d is = absurd (let wrong : None ≡ Some d = is in cc)
-    given_read (commands ▸ add e) are r d is = by (bytes_eq r e.reference) is where
-      by : (b : Bool) → cond b (Some e) (now commands r) ≡ Some d → (i : ℕ) → IfSome (slice_get d.given i) (IsGiven fields reference_field reads i)
-      by true same = let its : e ≡ d = cc (same) in subst (λ x. (i : ℕ) → IfSome (slice_get x.given i) (IsGiven fields reference_field reads i)) its are.0
-      by false same = given_read commands are.1 r d same
-    given_read (commands ▸ remove gone) are r d is = by (bytes_eq r gone) is where
-      by : (b : Bool) → cond b None (now commands r) ≡ Some d → (i : ℕ) → IfSome (slice_get d.given i) (IsGiven fields reference_field reads i)
-      by true same = absurd (cc)
-      by false same = given_read commands are r d same
+    given_read (commands ▸ add e) are r d is = by (bytes_eq r e.reference) (given_read commands are.1 r d) is where
+      by : (b : Bool) → (now commands r ≡ Some d → (i : ℕ) → IfSome (slice_get d.given i) (IsGiven fields reference_field reads i)) → cond b (Some e) (now commands r) ≡ Some d → (i : ℕ) → IfSome (slice_get d.given i) (IsGiven fields reference_field reads i)
+      by true before same = let its : e ≡ d = cc (same) in subst (λ x. (i : ℕ) → IfSome (slice_get x.given i) (IsGiven fields reference_field reads i)) its are.0
+      by false before same = before same
+    given_read (commands ▸ remove gone) are r d is = by (bytes_eq r gone) (given_read commands are r d) is where
+      by : (b : Bool) → (now commands r ≡ Some d → (i : ℕ) → IfSome (slice_get d.given i) (IsGiven fields reference_field reads i)) → cond b None (now commands r) ≡ Some d → (i : ℕ) → IfSome (slice_get d.given i) (IsGiven fields reference_field reads i)
+      by true before same = absurd (let wrong : None ≡ Some d = same in cc)
+      by false before same = before same
     given_read (commands ▸ compact) are r d is = given_read commands are r d is
 
     tokens_read : (i : ℕ) (token : Text) (given : Given) (o : Option (List Text)) → given.tokens ≡ o → IsGiven fields reference_field reads i given → IsSomeAnd o (λ ts. Contains ts token) → IsSomeAnd o (λ ts. reads i given.value ts × Contains ts token)
     tokens_read i token given None at is has = absurd has
     tokens_read i token given (Some ts) at is has =
-        let own : IsSomeAnd given.tokens (reads i given.value) = is.of_value (λ holds. let wrong : Some ts ≡ None = sym at ∙ is.of_reference holds in absurd (cc)) in
+        let own : IsSomeAnd given.tokens (reads i given.value) = is.of_value (λ holds. let wrong : Some ts ≡ None = sym at ∙ is.of_reference holds in (cc)) in
         (subst (λ o. IsSomeAnd o (reads i given.value)) at own, has)
 
     by_given : (i : ℕ) (token : Text) (o : Option Given) → IfSome o (IsGiven fields reference_field reads i) → IsSomeAnd (option_and_then (λ given. given.tokens) o) (λ ts. Contains ts token)

@@ -4,8 +4,8 @@ use Rattle.elasticlunr_text.specs.Text.{Text, Bytes}
 use Rattle.elasticlunr.specs.Documents.{IsGiven}
 use Rattle.elasticlunr.specs.Found.{AreThose}
 use Rattle.elasticlunr.specs.History.{Commands, none, ◌▸◌, add, remove, compact, now}
-use Rattle.elasticlunr_search.specs.declared.text.Join.{Join}
-use Rattle.elasticlunr_search.specs.declared.text.Join.TheVariants.{Any, All}
+use Rattle.elasticlunr_search.specs.declared.words.Join.{Join}
+use Rattle.elasticlunr_search.specs.declared.words.Join.TheVariants.{Any, All}
 
 -- In each definition `reads` relates the number of a field and a text to the tokens that a language reads of it.
 module _ (reads : ℕ → Bytes → List Text → Type 0) where

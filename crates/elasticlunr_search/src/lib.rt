@@ -9,9 +9,9 @@ mod error;
 mod parts;
 mod printed;
 mod searcher;
-mod text;
 mod tries;
+mod words;
 
 pub use error::SearchError;
 pub use searcher::Searcher;
-pub use text::{Join, find_in_text};
+pub use words::Join;

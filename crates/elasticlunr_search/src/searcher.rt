@@ -1,5 +1,5 @@
 //! Searches of a printed index, by a query in its language.
-ghost use Rattle.std.specs.Prelude.{◌≡◌, ◌<◌, ◌⊎◌, ◌↔◌, ℕ, false, Some, Err, IfOk, IfErr, IfSome, IsSome, IsTrue, length, option_map, slice_get};
+ghost use Rattle.std.specs.Prelude.{◌≡◌, ◌<◌, ◌⊎◌, ◌↔◌, ℕ, List, false, Some, Err, IfOk, IfErr, IfSome, IsSome, IsTrue, length, option_map, slice_get};
 ghost use Rattle.std.specs.FinMap.{get};
 ghost use Rattle.elasticlunr_text.specs.Stages.{LeavesBy};
 ghost use Rattle.elasticlunr_text.specs.Text.{bytes_of, texts_of};
@@ -11,19 +11,26 @@ ghost use Rattle.elasticlunr.specs.Printed.{IsPrintOf};
 ghost use Rattle.elasticlunr.specs.Reading.{LanguageReads};
 ghost use Rattle.elasticlunr.specs.Standing.{Plan, stored};
 ghost use Rattle.elasticlunr_search.specs.Query.{AreTokensOf, IsFound};
-ghost use Rattle.elasticlunr_search.specs.Refusal.{Refuses};
+ghost use Rattle.elasticlunr_search.specs.Refusal.{Lacks, Refuses};
+ghost use Rattle.elasticlunr_search.specs.Words.{AreRead, Finds};
 ghost use Rattle.elasticlunr_search.specs.declared.error.SearchError.TheVariants.{NoSuchField, Memory};
 ghost use Rattle.serde_json.specs.Data.{depth};
-ghost use Rattle.serde_json.specs.Read.{max_depth};
+ghost use Rattle.serde_json.specs.Read.{read, max_depth};
+ghost use Rattle.serde_json.specs.View.{view};
 
 use crate::error::SearchError;
+use crate::parts::value_of;
 use crate::printed::Printed;
 use crate::tries::{find_all_in, find_any_in};
+use crate::words::Join;
 use elasticlunr::laws::found::postings_tell_tokens;
+use elasticlunr::laws::values::values_hold_their_parts;
 use elasticlunr_lang::Language;
 use elasticlunr_store::InvertedIndex;
+use elasticlunr_store::laws::{one_contents_a_value, one_table_a_value};
 use elasticlunr_text::laws::a_run_has_one_answer;
 use elasticlunr_text::pipeline::Pipeline;
+use serde_json::Value;
 use std::alloc::{AllocError, Global};
 use std::collections::BTreeMap;
 
@@ -50,7 +57,21 @@ impl<L: Language> Searcher<L> {
         ensures accepted { IfErr result (λ e. (plan : Plan) (commands : Commands) (print : IsPrintOf plan commands text.now)
             → (e ≡ Memory) ⊎ (max_depth < depth print.value)) }
     {
-        let printed = Printed::read(alloc, text)?;
+        values_hold_their_parts();
+        let value = value_of(alloc, text)?;
+        Searcher::from_value(alloc, language, &value)
+    }
+
+    /// The same from the value of the text.
+    pub fn from_value(alloc: Global, language: L, value: &Value) -> Result<Searcher<L>, SearchError>
+        ensures stands { IfOk result (λ s. (plan : Plan) (commands : Commands) (text : List ℕ) → read text ≡ Some (view value.now) → IsPrintOf plan commands text
+            → StandsFor L.leaves_of leaves s language plan commands) }
+        ensures lacks { IfErr result (Lacks (view value.now)) }
+    {
+        values_hold_their_parts();
+        one_table_a_value();
+        one_contents_a_value();
+        let printed = Printed::of_value(alloc, value)?;
         let empty = Pipeline {
             queue: Vec::new(alloc),
         };
@@ -61,6 +82,22 @@ impl<L: Language> Searcher<L> {
             pipeline,
             printed,
         })
+    }
+
+    /// `find_any` or `find_all`, as the join says: the references whose current document has in the
+    /// field a token, or each token, that the query has.
+    pub fn find(&self, join: Join, field: &str, query: &str) -> Result<Vec<String>, SearchError>
+        ensures no_field { (result ≡ Err NoSuchField) ↔ (has_name field.now (fields_of self.now) ≡ false) }
+        ensures errors { IfErr result (λ e. (e ≡ NoSuchField) ⊎ (e ≡ Memory)) }
+        ensures found { IfOk result (λ found. (language : L) (plan : Plan) (commands : Commands) → StandsFor L.leaves_of leaves self.now language plan commands
+            → AreRead (LanguageReads (L.tokens_of language) (L.leaves_of language)) plan.fields plan.reference_field commands
+            → (i : ℕ) × (slice_get plan.fields i ≡ Some field.now)
+            × Finds (LanguageReads (L.tokens_of language) (L.leaves_of language)) join commands i query.now (bytes_of found.items)) }
+    {
+        match join {
+            Join::Any => self.find_any(field, query),
+            Join::All => self.find_all(field, query),
+        }
     }
 
     /// The references whose current document has, in the field, one of the query's tokens, in the

@@ -1,7 +1,7 @@
 use Rattle.std.proofs.Common.{◌≡◌, ◌||◌, sym, ap, subst, ◌∙◌, arith, is_some}
 use Rattle.std.proofs.lemmas.Iterator.{items_from_collect}
 use Rattle.std.proofs.lemmas.Iterator.Consumers.{YieldsList-from_rest}
-use Rattle.std.proofs.lemmas.Iterator.Adapters.{fact_from_extend}
+use Rattle.std.proofs.lemmas.Iterator.Adapters.{fact_from_extend, YieldsList-from_vec}
 use Rattle.std.proofs.lemmas.List.{take_all}
 use Rattle.std.proofs.lemmas.Result.{IfOk-at_ok}
 use Rattle.std.specs.List.{list_any}
@@ -19,7 +19,7 @@ loop-token-preserved c r =
     let added = c.in_ok-references.references.items in
     let after = c.extend.new.self.keys in
     let both = IfOk-at_ok (λ _. (q : Bytes) → is_listed q (bytes_of after) ≡ (is_listed q (bytes_of before) || is_listed q (bytes_of added))) c.in_ok-extend.was
-    (fact_from_extend (λ x. x) c.extend.result c.extend.ensures.ran (λ it b. YieldsList-from_rest added b.0) (λ xs e h. union_with before xs after added h.0 e)) in
+    (fact_from_extend (λ x. x) c.extend.result c.extend.ensures.ran (λ it b. YieldsList-from_vec {s = it} added b.0 (b.1 ∙ c.in_ok-references.references.ok.0)) (λ xs e h. union_with before xs after added h.0 e)) in
     step_any c.args.trie.now c.args.tokens.now c.loop-token.token-index c.token-item.result c.as_str.result.now r _ _ _ (omega arith) c.token-item.is c.as_str.ensures.value (both r) (c.loop-token.invariant r) (c.in_ok-references.ensures.listed r)
 
 pub returns : goal.returns

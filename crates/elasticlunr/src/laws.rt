@@ -1,4 +1,5 @@
 //! Laws of the words that this crate's contracts speak of.
 pub mod found;
+pub mod order;
 pub mod removal;
 pub mod values;

@@ -3,16 +3,11 @@ use Rattle.std.proofs.Common.{◌≡◌, ℕ, zero, suc, List, [], ◌∷◌, Op
 use Rattle.std.specs.Str.{chars}
 use Rattle.std.specs.Prelude.{IsSomeAnd}
 use Rattle.std.specs.List.{slice_get}
-use Rattle.elasticlunr_text.specs.Stages.{IsRunBy}
 use Rattle.elasticlunr_text.specs.Text.{Text, Bytes}
 use Rattle.elasticlunr.specs.Choices.{Choices, IsMadeAt, Reads}
-use Rattle.elasticlunr.specs.Documents as documents
-use Rattle.elasticlunr.specs.Documents.{IsGiven}
+use Rattle.elasticlunr.specs.Documents.{IsDocument, IsGiven}
 use Rattle.elasticlunr.specs.History.{Given, Document}
-use Rattle.elasticlunr.specs.Index.{choices_of, fields_of, SameSettings, IsDocument, reads_of}
 use Rattle.elasticlunr.specs.Reading.{ReadsOnly}
-use Rattle.elasticlunr.specs.Tokenizers.{MayAnswer}
-use Rattle.elasticlunr.specs.declared.index.Index.{Index}
 
 read_tokens : (reads other : List Text → Type 0) → ((ts : List Text) → reads ts → other ts) → (o : Option (List Text)) → IsSomeAnd o reads → IsSomeAnd o other
 read_tokens reads other only None is = absurd is
@@ -22,17 +17,17 @@ read_given : (fields : List Bytes) (reference_field : Bytes) (reads other : ℕ 
 read_given fields reference_field reads other only i None is = tt
 read_given fields reference_field reads other only i (Some g) is = record { of_reference = is.of_reference; of_value = λ no. read_tokens (reads i g.value) (other i g.value) (only i g.value) g.tokens (is.of_value no) }
 
-read_as : (fields : List Bytes) (reference_field : Bytes) (reads other : ℕ → Bytes → List Text → Type 0) → ReadsOnly reads other → (r : Bytes) (values : List Bytes) (d : Document) → documents.IsDocument fields reference_field reads r values d → documents.IsDocument fields reference_field other r values d
+read_as : (fields : List Bytes) (reference_field : Bytes) (reads other : ℕ → Bytes → List Text → Type 0) → ReadsOnly reads other → (r : Bytes) (values : List Bytes) (d : Document) → IsDocument fields reference_field reads r values d → IsDocument fields reference_field other r values d
 read_as fields reference_field reads other only r values d is = record { its_reference = is.its_reference; its_values = is.its_values; each = λ i. read_given fields reference_field reads other only i (slice_get d.given i) (is.each i) }
 
-module _ {L P X Y : Type 0} {O : X → Type 0} {F : Y → Type 0} {p : _} {g : _} (tokens_of : L → Text → List Text) (leaves : (v : X) × O v → Text → Option Text) where
-  -- a document of an index with the settings of another one, as a language reads it that the other one reads by
-  pub document_read : (first index : Index L P X Y O F p g) → SameSettings first index → (other : ℕ → Bytes → List Text → Type 0) → ReadsOnly (reads_of tokens_of leaves first) other → (fields : List Bytes) (reference_field : Bytes) → fields_of first ≡ fields → (choices_of first).reference_field ≡ reference_field
-      → (r : Bytes) (values : List Bytes) (d : Document) → IsDocument tokens_of leaves index r values d → documents.IsDocument fields reference_field other r values d
-  document_read first index same other only fields reference_field names reference r values d is =
-      let own : IsDocument tokens_of leaves first r values d = subst (λ ch. documents.IsDocument ch.fields ch.reference_field (Reads tokens_of MayAnswer (IsRunBy leaves) ch) r values d) same is in
-      let read = read_as (fields_of first) (choices_of first).reference_field (reads_of tokens_of leaves first) other only r values d own in
-      subst (λ ns. documents.IsDocument ns reference_field other r values d) names (subst (λ rf. documents.IsDocument (fields_of first) rf other r values d) reference read)
+-- a document of an index with the settings of another one, as a language reads it that the other one reads by
+pub document_read : {L P T : Type 0} (tokens_of : L → Text → List Text) (answers : T → Bytes → List Text → Type 0) (runs : P → List Text → List Text → Type 0) (first index : Choices L P T) → index ≡ first
+    → (other : ℕ → Bytes → List Text → Type 0) → ReadsOnly (Reads tokens_of answers runs first) other → (fields : List Bytes) (reference_field : Bytes) → first.fields ≡ fields → first.reference_field ≡ reference_field
+    → (r : Bytes) (values : List Bytes) (d : Document) → IsDocument index.fields index.reference_field (Reads tokens_of answers runs index) r values d → IsDocument fields reference_field other r values d
+document_read tokens_of answers runs first index same other only fields reference_field names reference r values d is =
+    let own : IsDocument first.fields first.reference_field (Reads tokens_of answers runs first) r values d = subst (λ ch. IsDocument ch.fields ch.reference_field (Reads tokens_of answers runs ch) r values d) same is in
+    let read = read_as first.fields first.reference_field (Reads tokens_of answers runs first) other only r values d own in
+    subst (λ ns. IsDocument ns reference_field other r values d) names (subst (λ rf. IsDocument first.fields rf other r values d) reference read)
 
 -- what is read where there is no tokenizer, and the pipeline is a given one
 pub read_by_pipeline : {L P T : Type 0} (tokens_of : L → Text → List Text) (answers : T → Bytes → List Text → Type 0) (runs : P → List Text → List Text → Type 0) (c : Choices L P T) (makes : Text → List Text) (pipeline : P)

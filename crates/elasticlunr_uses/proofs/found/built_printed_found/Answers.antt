@@ -3,6 +3,7 @@ use Rattle.elasticlunr_text.specs.Text.{bytes_of}
 use Rattle.elasticlunr_lang.specs.Languages.{english_leaves}
 use Rattle.elasticlunr_lang.specs.Words.{words}
 use Rattle.elasticlunr_lang.specs.declared.kept.english.English.{English}
+use Rattle.elasticlunr.specs.Index.{choices_of}
 use Rattle.elasticlunr.specs.History.{none, ◌▸◌, add}
 use Rattle.elasticlunr.specs.Printed.{IsPrintOf}
 use Rattle.elasticlunr.specs.Reading.{LanguageReads}
@@ -22,8 +23,8 @@ returns c token asks has =
     let first = c.in_ok-add_doc.ensures.added in
     let second = c.in_ok-add_doc-2.ensures.added in
     let commands = none ▸ add first.0 ▸ add second.0 in
-    let d = document_read _ _ index index refl reading only (codes "body" ∷ []) (codes "id") given.fields given.reference_field c.args.other.now (c.args.other_text.now ∷ []) first.0 first.1 in
-    let e = document_read _ _ index c.add_doc.new.self once reading only (codes "body" ∷ []) (codes "id") given.fields given.reference_field c.args.reference.now (c.args.text.now ∷ []) second.0 second.1 in
+    let d = document_read _ _ _ (choices_of index) (choices_of index) refl reading only (codes "body" ∷ []) (codes "id") given.fields given.reference_field c.args.other.now (c.args.other_text.now ∷ []) first.0 first.1 in
+    let e = document_read _ _ _ (choices_of index) (choices_of c.add_doc.new.self) once reading only (codes "body" ∷ []) (codes "id") given.fields given.reference_field c.args.reference.now (c.args.text.now ∷ []) second.0 second.1 in
     let stands = second.2 (none ▸ add first.0) (first.2 none c.in_ok-index.ensures.empty) in
     let print = c.in_ok-printed.ensures.print commands stands in
     let searches = c.in_ok-searcher.ensures.stands _ commands (subst (IsPrintOf _ commands) (sym c.as_str.ensures.value) print) in

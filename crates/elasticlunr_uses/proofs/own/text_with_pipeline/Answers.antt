@@ -8,7 +8,7 @@ use Rattle.elasticlunr_uses.proofs.Documents.{document_read, read_by_pipeline}
 use Rattle.elasticlunr_uses.proofs.own.text_with_pipeline.Goals as goal
 
 pub returns : goal.returns
-returns c =
+returns g c =
     let index = c.in_ok-index.index in
     let given = c.in_ok-index.ensures.given in
     let begun = c.in_ok-with_language.ensures.chosen in
@@ -22,5 +22,5 @@ returns c =
       _,
       added.0,
       c.in_ok-text.ensures.print (none ▸ add added.0) (added.2 none c.in_ok-index.ensures.empty),
-      document_read _ _ index index refl _ (read_by_pipeline _ _ _ (choices_of index) words c.args.pipeline (λ v. refl) tokenizers own) (codes "about" ∷ []) (codes "id") fields reference _ _ added.0 added.1,
+      document_read _ _ _ (choices_of index) (choices_of index) refl _ (read_by_pipeline _ _ _ (choices_of index) words c.args.pipeline (λ v. refl) tokenizers own) (codes "about" ∷ []) (codes "id") fields reference _ _ added.0 added.1,
     )

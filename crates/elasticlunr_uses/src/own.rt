@@ -1,9 +1,10 @@
 //! A stage, a language and a tokenizer of one's own.
 //!
-//! What each means stands in its `ghost` lines or its `ensures`, in words of the library; the prover
-//! holds the body against them. Proved: the printed text is that of a document whose tokens are what
-//! the pipeline leaves of the words of its text, and nothing else. A caller has to know that a
-//! tokenizer must be callable on every text and have one answer for each, want of memory aside.
+//! What each means stands in its `ghost` lines or its `ensures`, in words of the library; the
+//! prover holds the body against them. Proved: the printed text is that of a document whose tokens
+//! are what the pipeline leaves of the words of its text, and nothing else. A caller has to know
+//! that a tokenizer must be callable on every text and have one answer for each, want of memory
+//! aside.
 ghost use Rattle.std.specs.Prelude.{◌≡◌, ◌∷◌, [], ℕ, List, IfOk, Ok, Vec, String, codes, string_bytes};
 ghost use Rattle.std.specs.Borrow.{Bor};
 ghost use Rattle.std.specs.Str.{chars};

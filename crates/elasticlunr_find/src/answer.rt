@@ -1,0 +1,140 @@
+//! What is printed for an input.
+ghost use Rattle.std.specs.Prelude.{◌≡◌, ℕ, List, Some, IfOk, codes, slice_get, string_bytes};
+ghost use Rattle.elasticlunr_text.specs.Text.{bytes_of};
+ghost use Rattle.elasticlunr_lang.specs.Known.{language_name};
+ghost use Rattle.elasticlunr_lang.specs.declared.any.AnyLanguage.{AnyLanguage};
+ghost use Rattle.elasticlunr.specs.History.{Commands};
+ghost use Rattle.elasticlunr.specs.Printed.{IsPrintOf};
+ghost use Rattle.elasticlunr.specs.Reading.{LanguageReads};
+ghost use Rattle.elasticlunr.specs.Standing.{Plan};
+ghost use Rattle.elasticlunr_search.specs.Words.{AreRead, Finds};
+ghost use Rattle.elasticlunr_find.specs.Lines.{lines};
+ghost use Rattle.serde_json.specs.Data.{string};
+ghost use Rattle.serde_json.specs.Find.{get};
+ghost use Rattle.serde_json.specs.Read.{read};
+ghost use Rattle.serde_json.specs.View.{view};
+
+use crate::request::{Request, request_of};
+use elasticlunr_lang::{AnyLanguage, Language, from_name};
+use elasticlunr_search::{SearchError, Searcher};
+use serde_json::Value;
+use std::alloc::{AllocError, AllocFailed, Global};
+
+/// Why nothing was searched.
+#[derive(Clone, Copy, Debug, PartialEq, Eq)]
+pub(crate) enum Refusal {
+    NotARequest,
+    NotRead,
+    UnknownLanguage,
+    NoFields,
+    NoTries,
+    NoStore,
+    NoSuchField,
+    Memory,
+}
+
+impl From<AllocError> for Refusal {
+    fn from(_refused: AllocError) -> Refusal {
+        Refusal::Memory
+    }
+}
+
+impl<T: Drop> From<AllocFailed<T>> for Refusal {
+    fn from(_refused: AllocFailed<T>) -> Refusal {
+        Refusal::Memory
+    }
+}
+
+impl From<SearchError> for Refusal {
+    fn from(error: SearchError) -> Refusal {
+        match error {
+            SearchError::NotRead => Refusal::NotRead,
+            SearchError::BadFields => Refusal::NoFields,
+            SearchError::BadTries => Refusal::NoTries,
+            SearchError::BadStore => Refusal::NoStore,
+            SearchError::NoSuchField => Refusal::NoSuchField,
+            SearchError::Memory => Refusal::Memory,
+        }
+    }
+}
+
+/// The words of a refusal.
+pub(crate) fn reason(refusal: Refusal) -> &'static str {
+    match refusal {
+        Refusal::NotARequest => "not a request",
+        Refusal::NotRead => "not JSON",
+        Refusal::UnknownLanguage => "unknown language",
+        Refusal::NoFields => "no fields",
+        Refusal::NoTries => "no trie of a field",
+        Refusal::NoStore => "no document store",
+        Refusal::NoSuchField => "no such field",
+        Refusal::Memory => "out of memory",
+    }
+}
+
+/// The lines of the references that are found.
+pub(crate) fn answer(alloc: Global, input: &str) -> Result<String, Refusal> {
+    let Some((line, text)) = input.split_once('\n') else {
+        return Err(Refusal::NotARequest);
+    };
+    let line = json(alloc, line, Refusal::NotARequest)?;
+    let Some(request) = request_of(&line) else {
+        return Err(Refusal::NotARequest);
+    };
+    let index = json(alloc, text, Refusal::NotRead)?;
+    let found = find_in(alloc, &request, &index)?;
+    Ok(lines_of(alloc, &found)?)
+}
+
+/// The JSON value of a text, or else this refusal.
+fn json(alloc: Global, text: &str, unread: Refusal) -> Result<Value, Refusal>
+    ensures { IfOk result (λ value. read text.now ≡ Some (view value)) }
+{
+    match Value::from_str(alloc, text) {
+        Ok(value) => Ok(value),
+        Err(e) if e.is_memory() => Err(Refusal::Memory),
+        Err(_) => Err(unread),
+    }
+}
+
+/// The references that are found in the value of a printed index, by the language that it names.
+fn find_in(alloc: Global, request: &Request<'_>, index: &Value) -> Result<Vec<String>, Refusal>
+    ensures { IfOk result (λ found. (language : AnyLanguage) × (get (codes "lang") (view index.now) ≡ Some (string (language_name language)))
+        × ((plan : Plan) (commands : Commands) (text : List ℕ) → read text ≡ Some (view index.now) → IsPrintOf plan commands text
+        → AreRead (LanguageReads (⟦<AnyLanguage as Language>⟧.tokens_of language) (⟦<AnyLanguage as Language>⟧.leaves_of language)) plan.fields plan.reference_field commands
+        → (i : ℕ) × (slice_get plan.fields i ≡ Some request.now.field.now)
+        × Finds (LanguageReads (⟦<AnyLanguage as Language>⟧.tokens_of language) (⟦<AnyLanguage as Language>⟧.leaves_of language)) request.now.join commands i request.now.query.now (bytes_of found.items))) }
+{
+    let language = language_of(index)?;
+    let searcher = Searcher::from_value(alloc, language, index)?;
+    let found = searcher.find(request.join, request.field, request.query)?;
+    Ok(found)
+}
+
+/// The language that the value of a printed index names.
+fn language_of(index: &Value) -> Result<AnyLanguage, Refusal>
+    ensures { IfOk result (λ language. get (codes "lang") (view index.now) ≡ Some (string (language_name language))) }
+{
+    let Some(lang) = index.get("lang") else {
+        return Err(Refusal::UnknownLanguage);
+    };
+    let Some(name) = lang.as_str() else {
+        return Err(Refusal::UnknownLanguage);
+    };
+    match from_name(name) {
+        Some(language) => Ok(language),
+        None => Err(Refusal::UnknownLanguage),
+    }
+}
+
+/// Each reference, with a line feed after it.
+fn lines_of(alloc: Global, references: &[String]) -> Result<String, AllocError>
+    ensures { IfOk result (λ text. string_bytes text ≡ lines (bytes_of references.now)) }
+{
+    let mut text = String::new(alloc);
+    for reference in references {
+        text.push_str(reference.as_str())?;
+        text.push('\n')?;
+    }
+    Ok(text)
+}

@@ -1,0 +1,49 @@
+-- Tries under the names of fields.
+use Rattle.std.proofs.Common.{◌≡◌, ℕ, zero, suc, ◌<◌, ◌≤◌, ◌+◌, List, [], ◌∷◌, ◌++◌, length, map, take, get_or, Option, None, Some, codes, String, Global, string_bytes, arith, refl, sym, ap, subst, ◌∙◌}
+use Rattle.std.specs.Prelude.{IsSomeAnd}
+use Rattle.std.specs.List.{AllZip}
+use Rattle.std.proofs.lemmas.List.{take_all, take_more, map-append}
+use Rattle.elasticlunr_text.specs.Text.{Bytes, bytes_of}
+use Rattle.elasticlunr_store.specs.Table.{Table}
+use Rattle.serde_json.specs.Data.{Data}
+use Rattle.serde_json.specs.Find.{get}
+use Rattle.elasticlunr_search.specs.Shape.{HasTrie, HasTries}
+
+push : (R : Bytes → Table → Type 0) (names : List Bytes) (tables : List Table) (name : Bytes) (table : Table) → AllZip R names tables → R name table → AllZip R (names ++ name ∷ []) (tables ++ table ∷ [])
+push R [] [] name table all r = (r, tt)
+push R [] (T ∷ tables) name table all r = absurd all
+push R (n ∷ names) [] name table all r = absurd all
+push R (n ∷ names) (T ∷ tables) name table all r = (all.0, push R names tables name table all.1 r)
+
+-- one field more
+pub next_trie : (index : Data) (names : List (String Global)) (i : ℕ) (name : String Global) (key : Bytes) (tables after : List Table) (table : Table) → i < length names → name ≡ get_or names i name → key ≡ string_bytes name
+    → AllZip (HasTrie index) (bytes_of (take i names)) tables → HasTrie index key table → after ≡ tables ++ table ∷ [] → AllZip (HasTrie index) (bytes_of (take (i + 1) names)) after
+next_trie index names i name key tables after table lt at is before has pushed =
+    let more : bytes_of (take (i + 1) names) ≡ bytes_of (take i names) ++ key ∷ [] =
+    ap bytes_of (take_more names i name lt ∙ ap (λ y. take i names ++ y ∷ []) (sym at)) ∙ map-append string_bytes (take i names) (name ∷ []) ∙ ap (λ k. bytes_of (take i names) ++ k ∷ []) (sym is) in
+    subst (λ ns. AllZip (HasTrie index) ns after) (sym more) (subst (AllZip (HasTrie index) (bytes_of (take i names) ++ key ∷ [])) (sym pushed) (push (HasTrie index) (bytes_of (take i names)) tables key table before has))
+
+-- a field without a trie
+pub no_trie : (index : Data) (names : List (String Global)) (i : ℕ) (name : String Global) → i < length names → name ≡ get_or names i name → ((table : Table) → ¬ HasTrie index (string_bytes name) table)
+    → (tables : List Table) → ¬ AllZip (HasTrie index) (bytes_of names) tables
+no_trie index [] i name lt at none tables all = absurd (omega arith)
+no_trie index (n ∷ names) i name lt at none [] all = all
+no_trie index (n ∷ names) zero name lt at none (T ∷ tables) all = none T (subst (λ s. HasTrie index (string_bytes s) T) (sym at) all.0)
+no_trie index (n ∷ names) (suc i) name lt at none (T ∷ tables) all = no_trie index names i name (omega arith) at none tables all.1
+
+-- as many tries as names
+as_many : (R : Bytes → Table → Type 0) (names : List (String Global)) (tables : List Table) → AllZip R (bytes_of names) tables → length tables ≡ length names
+as_many R [] [] all = refl
+as_many R [] (T ∷ tables) all = absurd all
+as_many R (n ∷ names) [] all = absurd all
+as_many R (n ∷ names) (T ∷ tables) all = ap suc (as_many R names tables all.1)
+
+some_as_many : (R : Data → Bytes → Table → Type 0) (o : Option Data) (names : List (String Global)) (tables : List Table) → IsSomeAnd o (λ index. AllZip (R index) (bytes_of names) tables) → length tables ≡ length names
+some_as_many R None names tables all = absurd all
+some_as_many R (Some index) names tables all = as_many (R index) names tables all
+
+pub tables_as_many : (v : Data) (names : List (String Global)) (tables : List Table) → HasTries v (bytes_of names) tables → length tables ≡ length names
+tables_as_many v names tables has = some_as_many HasTrie (get (codes "index") v) names tables has
+
+pub whole : (index : Data) (names : List (String Global)) (i : ℕ) (tables : List Table) → length names ≤ i → AllZip (HasTrie index) (bytes_of (take i names)) tables → AllZip (HasTrie index) (bytes_of names) tables
+whole index names i tables past all = subst (λ ns. AllZip (HasTrie index) (bytes_of ns) tables) (take_all i names past) all

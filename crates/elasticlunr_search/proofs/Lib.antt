@@ -1,0 +1,11 @@
+pub mod Arrays
+pub mod Stops
+pub mod FieldTries
+pub mod Shapes
+pub mod Sets
+pub mod Those
+pub mod Steps
+pub mod Names
+pub mod Asking
+pub mod Searching
+pub mod Wording

@@ -1,0 +1,27 @@
+use Rattle.std.proofs.Common.{sym, subst}
+use Rattle.elasticlunr_text.specs.Text.{bytes_of}
+use Rattle.elasticlunr.specs.Reading.{LanguageReads}
+use Rattle.elasticlunr_search.specs.Words.{Finds}
+use Rattle.elasticlunr_search.proofs.Searching.{weaker_ok}
+use Rattle.elasticlunr_search.proofs.Wording.{finds_any_word, finds_all_words}
+use Rattle.elasticlunr_search.proofs.searcher.Searcher.find.Goals as goal
+
+pub returns-in-Any-clause-found : goal.returns-in-Any-clause-found
+returns-in-Any-clause-found g c = weaker_ok c.find_any.result _ _ (λ found h language plan commands stands read.
+    let reads = LanguageReads (g.L.Language.tokens_of language) (g.L.Language.leaves_of language) in
+    let f = h language plan commands stands in (
+      f.place,
+      f.of_field,
+      subst (λ j. Finds reads j commands f.place c.args.query.now (bytes_of found.items)) (sym c.in-Any.is)
+          (finds_any_word reads plan.fields plan.reference_field commands read f.place c.args.query.now f.tokens (bytes_of found.items) f.of_query f.are),
+    )) c.find_any.ensures.found
+
+pub returns-in-All-clause-found : goal.returns-in-All-clause-found
+returns-in-All-clause-found g c = weaker_ok c.find_all.result _ _ (λ found h language plan commands stands read.
+    let reads = LanguageReads (g.L.Language.tokens_of language) (g.L.Language.leaves_of language) in
+    let f = h language plan commands stands in (
+      f.place,
+      f.of_field,
+      subst (λ j. Finds reads j commands f.place c.args.query.now (bytes_of found.items)) (sym c.in-All.is)
+          (finds_all_words reads plan.fields plan.reference_field commands read f.place c.args.query.now f.tokens (bytes_of found.items) f.of_query f.are),
+    )) c.find_all.ensures.found

@@ -1,0 +1,6 @@
+pub mod Shape
+pub mod Refusal
+pub mod Tries
+pub mod Query
+pub mod Words
+pub mod Standing

@@ -1,0 +1,24 @@
+-- What a searcher stands for.
+use Rattle.std.specs.Prelude.{◌≡◌, List, Option}
+use Rattle.elasticlunr_text.specs.Text.{Text, Bytes, bytes_of}
+use Rattle.elasticlunr_text.specs.Stages.{LeavesBy}
+use Rattle.elasticlunr.specs.History.{Commands}
+use Rattle.elasticlunr.specs.Standing.{Plan, Holds}
+use Rattle.elasticlunr_search.specs.declared.printed.Printed.{Printed}
+use Rattle.elasticlunr_search.specs.declared.searcher.Searcher.{Searcher}
+
+-- what was read holds what these commands leave in an index of this plan
+pub record IsReadOf (printed : Printed) (plan : Plan) (commands : Commands) : Type 0 where
+  pub fields : bytes_of printed.fields.items ≡ plan.fields
+  pub holds : Holds plan commands printed.tries.items printed.store
+
+module _ {L P X : Type 0} {O : X → Type 0} {p : _} where
+  -- the names of the fields, in order
+  abbrev pub fields_of : Searcher L P X O p → List Bytes
+  fields_of s = bytes_of s.printed.fields.items
+
+  -- it searches what these commands leave in an index of this plan, by this language; `leaves_of` is what a language leaves of a token, `leaves` what a boxed stage does
+  pub record StandsFor (leaves_of : L → Text → Option Text → Type 0) (leaves : (v : X) × O v → Text → Option Text) (s : Searcher L P X O p) (language : L) (plan : Plan) (commands : Commands) : Type 0 where
+    pub its_language : s.language ≡ language
+    pub stages : LeavesBy leaves s.pipeline (leaves_of language)
+    pub read : IsReadOf s.printed plan commands

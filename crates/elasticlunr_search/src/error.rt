@@ -1,0 +1,42 @@
+//! Why a search was refused.
+
+use std::alloc::{AllocError, AllocFailed};
+
+/// Why a text was not read, or a field was not searched.
+#[derive(Clone, Copy, Debug, PartialEq, Eq)]
+pub enum SearchError {
+    /// The text is not JSON, or is nested deeper than `serde_json` reads.
+    NotRead,
+    /// Under the key `fields` is no list of names.
+    BadFields,
+    /// Under the key `index` the name of a field has no trie.
+    BadTries,
+    /// Under the key `documentStore` is no document store.
+    BadStore,
+    /// No field has the name.
+    NoSuchField,
+    /// A request for memory was refused.
+    Memory,
+}
+
+impl From<AllocError> for SearchError {
+    ghost use Rattle.elasticlunr_search.specs.declared.error.SearchError.TheVariants.{Memory};
+    ghost use Rattle.std.specs.Prelude.{◌≡◌};
+
+    ghost from_gives = { λ _ e. e ≡ Memory };
+
+    fn from(_refused: AllocError) -> SearchError {
+        SearchError::Memory
+    }
+}
+
+impl<T: Drop> From<AllocFailed<T>> for SearchError {
+    ghost use Rattle.elasticlunr_search.specs.declared.error.SearchError.TheVariants.{Memory};
+    ghost use Rattle.std.specs.Prelude.{◌≡◌};
+
+    ghost from_gives = { λ _ e. e ≡ Memory };
+
+    fn from(_refused: AllocFailed<T>) -> SearchError {
+        SearchError::Memory
+    }
+}

@@ -1,0 +1,17 @@
+//! A search over the printed text of an index, which finds exactly what is there.
+//!
+//! A [`Searcher`] reads the text once, with the language that the index was built with, and then
+//! answers queries: the references whose current document has, in a field, a token that the query
+//! has, or each of them.
+#![tactic(auto)]
+
+mod error;
+mod parts;
+mod printed;
+mod searcher;
+mod tries;
+mod words;
+
+pub use error::SearchError;
+pub use searcher::Searcher;
+pub use words::Join;

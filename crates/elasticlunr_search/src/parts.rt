@@ -1,0 +1,108 @@
+//! The parts of a printed index, out of its value.
+ghost use Rattle.std.specs.Prelude.{◌≡◌, ◌≢◌, List, Some, None, IfOk, IfErr, IsSomeAnd, codes};
+ghost use Rattle.elasticlunr_text.specs.Text.{Bytes, bytes_of};
+ghost use Rattle.elasticlunr_store.specs.Table.{Table};
+ghost use Rattle.elasticlunr_store.specs.Contents.{Contents, IsContents};
+ghost use Rattle.elasticlunr.specs.Printed.{texts};
+ghost use Rattle.elasticlunr_search.specs.Shape.{HasFields, HasTrie, HasTries, HasStore};
+ghost use Rattle.elasticlunr_search.specs.Refusal.{StopsBy};
+ghost use Rattle.elasticlunr_search.specs.declared.error.SearchError.TheVariants.{NotRead, BadFields, BadTries, BadStore};
+ghost use Rattle.serde_json.specs.Data.{array};
+ghost use Rattle.serde_json.specs.Read.{read};
+ghost use Rattle.serde_json.specs.View.{view};
+
+use crate::error::SearchError;
+use elasticlunr_store::{DocumentStore, InvertedIndex};
+use elasticlunr_text::IndexError;
+use serde_json::Value;
+use std::alloc::Global;
+
+/// The JSON value that the text is.
+pub(crate) fn value_of(alloc: Global, text: &str) -> Result<Value, SearchError>
+    ensures ok { IfOk result (λ value. read text.now ≡ Some (view value)) }
+    ensures err { IfErr result (StopsBy NotRead (read text.now ≡ None)) }
+{
+    match Value::from_str(alloc, text) {
+        Ok(value) => Ok(value),
+        Err(e) if e.is_memory() => Err(SearchError::Memory),
+        Err(_) => Err(SearchError::NotRead),
+    }
+}
+
+/// The names of the fields, in order.
+pub(crate) fn fields_of(alloc: Global, value: &Value) -> Result<Vec<String>, SearchError>
+    ensures ok { IfOk result (λ names. HasFields (view value.now) (bytes_of names.items)) }
+    ensures err { IfErr result (StopsBy BadFields ((names : List Bytes) → ¬ HasFields (view value.now) names)) }
+{
+    match value.get("fields") {
+        Some(fields) => names_of(alloc, fields),
+        None => Err(SearchError::BadFields),
+    }
+}
+
+/// The names in an array of names.
+fn names_of(alloc: Global, value: &Value) -> Result<Vec<String>, SearchError>
+    ensures ok { IfOk result (λ names. view value.now ≡ array (texts (bytes_of names.items))) }
+    ensures err { IfErr result (StopsBy BadFields ((names : List Bytes) → view value.now ≢ array (texts names))) }
+{
+    let Some(items) = value.as_array() else {
+        return Err(SearchError::BadFields);
+    };
+    let mut names = Vec::new(alloc);
+    for item in items {
+        let Some(name) = item.as_str() else {
+            return Err(SearchError::BadFields);
+        };
+        names.push(String::from_str(alloc, name)?)?;
+    }
+    Ok(names)
+}
+
+/// The tries of the fields of these names, in order.
+pub(crate) fn tries_of(
+    alloc: Global,
+    names: &[String],
+    value: &Value,
+) -> Result<Vec<InvertedIndex>, SearchError>
+    ensures ok { IfOk result (λ tries. HasTries (view value.now) (bytes_of names.now) tries.items) }
+    ensures err { IfErr result (StopsBy BadTries ((tables : List Table) → ¬ HasTries (view value.now) (bytes_of names.now) tables)) }
+{
+    let Some(index) = value.get("index") else {
+        return Err(SearchError::BadTries);
+    };
+    let mut tries = Vec::new(alloc);
+    for name in names {
+        tries.push(trie_of(alloc, name.as_str(), index)?)?;
+    }
+    Ok(tries)
+}
+
+/// The trie under a name.
+fn trie_of(alloc: Global, name: &str, index: &Value) -> Result<InvertedIndex, SearchError>
+    ensures ok { IfOk result (HasTrie (view index.now) name.now) }
+    ensures err { IfErr result (StopsBy BadTries ((table : Table) → ¬ HasTrie (view index.now) name.now table)) }
+{
+    let Some(value) = index.get(name) else {
+        return Err(SearchError::BadTries);
+    };
+    match InvertedIndex::from_value(alloc, value) {
+        Ok(trie) => Ok(trie),
+        Err(IndexError::Memory) => Err(SearchError::Memory),
+        Err(_) => Err(SearchError::BadTries),
+    }
+}
+
+/// The document store.
+pub(crate) fn store_of(alloc: Global, value: &Value) -> Result<DocumentStore, SearchError>
+    ensures ok { IfOk result (HasStore (view value.now)) }
+    ensures err { IfErr result (StopsBy BadStore ((contents : Contents) → IsContents contents → ¬ HasStore (view value.now) contents)) }
+{
+    let Some(documents) = value.get("documentStore") else {
+        return Err(SearchError::BadStore);
+    };
+    match DocumentStore::from_value(alloc, documents) {
+        Ok(store) => Ok(store),
+        Err(IndexError::Memory) => Err(SearchError::Memory),
+        Err(_) => Err(SearchError::BadStore),
+    }
+}

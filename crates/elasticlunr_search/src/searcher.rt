@@ -1,0 +1,187 @@
+//! Searches of a printed index, by a query in its language.
+ghost use Rattle.std.specs.Prelude.{◌≡◌, ◌<◌, ◌⊎◌, ◌↔◌, ℕ, List, false, Some, Err, IfOk, IfErr, IfSome, IsSome, IsTrue, length, option_map, slice_get};
+ghost use Rattle.std.specs.FinMap.{get};
+ghost use Rattle.elasticlunr_text.specs.Stages.{LeavesBy};
+ghost use Rattle.elasticlunr_text.specs.Text.{bytes_of, texts_of};
+ghost use Rattle.elasticlunr_store.specs.Contents.{text_map};
+ghost use Rattle.elasticlunr.specs.Fields.{has_name};
+ghost use Rattle.elasticlunr.specs.Found.{FindsAny, FindsAll};
+ghost use Rattle.elasticlunr.specs.History.{Commands, now};
+ghost use Rattle.elasticlunr.specs.Printed.{IsPrintOf};
+ghost use Rattle.elasticlunr.specs.Reading.{LanguageReads};
+ghost use Rattle.elasticlunr.specs.Standing.{Plan, stored};
+ghost use Rattle.elasticlunr_search.specs.Query.{AreTokensOf, IsFound};
+ghost use Rattle.elasticlunr_search.specs.Refusal.{Lacks, Refuses};
+ghost use Rattle.elasticlunr_search.specs.Words.{AreRead, Finds};
+ghost use Rattle.elasticlunr_search.specs.declared.error.SearchError.TheVariants.{NoSuchField, Memory};
+ghost use Rattle.serde_json.specs.Data.{depth};
+ghost use Rattle.serde_json.specs.Read.{read, max_depth};
+ghost use Rattle.serde_json.specs.View.{view};
+
+use crate::error::SearchError;
+use crate::parts::value_of;
+use crate::printed::Printed;
+use crate::tries::{find_all_in, find_any_in};
+use crate::words::Join;
+use elasticlunr::laws::found::postings_tell_tokens;
+use elasticlunr::laws::values::values_hold_their_parts;
+use elasticlunr_lang::Language;
+use elasticlunr_store::InvertedIndex;
+use elasticlunr_store::laws::{one_contents_a_value, one_table_a_value};
+use elasticlunr_text::laws::a_run_has_one_answer;
+use elasticlunr_text::pipeline::Pipeline;
+use serde_json::Value;
+use std::alloc::{AllocError, Global};
+use std::collections::BTreeMap;
+
+/// A printed index, the language that it was built with, and the pipeline of that language.
+///
+/// It keeps the allocator that its constructor was handed. The tokens of a query are what the
+/// language makes of it and its pipeline leaves, without empty ones, which no index has.
+#[derive(Drop)]
+pub struct Searcher<L> {
+    alloc: Global,
+    language: L,
+    pipeline: Pipeline,
+    printed: Printed,
+}
+
+impl<L: Language> Searcher<L> {
+    ghost use Rattle.elasticlunr_search.specs.Standing.{fields_of, StandsFor};
+
+    /// Reads the printed text of an index, in any layout, once.
+    pub fn read(alloc: Global, language: L, text: &str) -> Result<Searcher<L>, SearchError>
+        ensures stands { IfOk result (λ s. (plan : Plan) (commands : Commands) → IsPrintOf plan commands text.now
+            → StandsFor L.leaves_of leaves s language plan commands) }
+        ensures refused { IfErr result (Refuses text.now) }
+        ensures accepted { IfErr result (λ e. (plan : Plan) (commands : Commands) (print : IsPrintOf plan commands text.now)
+            → (e ≡ Memory) ⊎ (max_depth < depth print.value)) }
+    {
+        values_hold_their_parts();
+        let value = value_of(alloc, text)?;
+        Searcher::from_value(alloc, language, &value)
+    }
+
+    /// The same from the value of the text.
+    pub fn from_value(alloc: Global, language: L, value: &Value) -> Result<Searcher<L>, SearchError>
+        ensures stands { IfOk result (λ s. (plan : Plan) (commands : Commands) (text : List ℕ) → read text ≡ Some (view value.now) → IsPrintOf plan commands text
+            → StandsFor L.leaves_of leaves s language plan commands) }
+        ensures lacks { IfErr result (Lacks (view value.now)) }
+    {
+        values_hold_their_parts();
+        one_table_a_value();
+        one_contents_a_value();
+        let printed = Printed::of_value(alloc, value)?;
+        let empty = Pipeline {
+            queue: Vec::new(alloc),
+        };
+        let pipeline = language.make_pipeline(alloc, empty)?;
+        Ok(Searcher {
+            alloc,
+            language,
+            pipeline,
+            printed,
+        })
+    }
+
+    /// `find_any` or `find_all`, as the join says: the references whose current document has in the
+    /// field a token, or each token, that the query has.
+    pub fn find(&self, join: Join, field: &str, query: &str) -> Result<Vec<String>, SearchError>
+        ensures no_field { (result ≡ Err NoSuchField) ↔ (has_name field.now (fields_of self.now) ≡ false) }
+        ensures errors { IfErr result (λ e. (e ≡ NoSuchField) ⊎ (e ≡ Memory)) }
+        ensures found { IfOk result (λ found. (language : L) (plan : Plan) (commands : Commands) → StandsFor L.leaves_of leaves self.now language plan commands
+            → AreRead (LanguageReads (L.tokens_of language) (L.leaves_of language)) plan.fields plan.reference_field commands
+            → (i : ℕ) × (slice_get plan.fields i ≡ Some field.now)
+            × Finds (LanguageReads (L.tokens_of language) (L.leaves_of language)) join commands i query.now (bytes_of found.items)) }
+    {
+        match join {
+            Join::Any => self.find_any(field, query),
+            Join::All => self.find_all(field, query),
+        }
+    }
+
+    /// The references whose current document has, in the field, one of the query's tokens, in the
+    /// order of their bytes. It costs the look-ups of the tokens and their postings.
+    pub fn find_any(&self, field: &str, query: &str) -> Result<Vec<String>, SearchError>
+        ensures no_field { (result ≡ Err NoSuchField) ↔ (has_name field.now (fields_of self.now) ≡ false) }
+        ensures errors { IfErr result (λ e. (e ≡ NoSuchField) ⊎ (e ≡ Memory)) }
+        ensures found { IfOk result (λ found. (language : L) (plan : Plan) (commands : Commands) → StandsFor L.leaves_of leaves self.now language plan commands
+            → IsFound (FindsAny commands) (LanguageReads (L.tokens_of language) (L.leaves_of language)) plan.fields field.now query.now (bytes_of found.items)) }
+    {
+        postings_tell_tokens();
+        let Some(trie) = self.trie(field) else {
+            return Err(SearchError::NoSuchField);
+        };
+        let tokens = self.tokens(query)?;
+        let found = find_any_in(self.alloc, trie, &tokens)?;
+        Ok(found)
+    }
+
+    /// The references whose current document has, in the field, each of the query's tokens, of
+    /// which there is one at least, in the order of their bytes. It costs the postings of the first
+    /// token, and for each of these the look-ups of the others.
+    pub fn find_all(&self, field: &str, query: &str) -> Result<Vec<String>, SearchError>
+        ensures no_field { (result ≡ Err NoSuchField) ↔ (has_name field.now (fields_of self.now) ≡ false) }
+        ensures errors { IfErr result (λ e. (e ≡ NoSuchField) ⊎ (e ≡ Memory)) }
+        ensures found { IfOk result (λ found. (language : L) (plan : Plan) (commands : Commands) → StandsFor L.leaves_of leaves self.now language plan commands
+            → IsFound (FindsAll commands) (LanguageReads (L.tokens_of language) (L.leaves_of language)) plan.fields field.now query.now (bytes_of found.items)) }
+    {
+        postings_tell_tokens();
+        let Some(trie) = self.trie(field) else {
+            return Err(SearchError::NoSuchField);
+        };
+        let tokens = self.tokens(query)?;
+        let found = find_all_in(self.alloc, trie, &tokens)?;
+        Ok(found)
+    }
+
+    /// A copy of what is stored of the reference's current document: from the names of fields to
+    /// their texts, none where there is no such document.
+    pub fn texts(&self, reference: &str) -> Result<Option<BTreeMap<String, String>>, SearchError>
+        ensures errors { IfErr result (λ e. e ≡ Memory) }
+        ensures texts { IfOk result (λ texts. (language : L) (plan : Plan) (commands : Commands) → StandsFor L.leaves_of leaves self.now language plan commands
+            → option_map (λ t. text_map t.entries) texts ≡ option_map (stored plan) (now commands reference.now)) }
+    {
+        match self.printed.store.get_doc(reference) {
+            Ok(texts) => Ok(texts),
+            Err(_) => Err(SearchError::Memory),
+        }
+    }
+
+    /// The trie of a field.
+    fn trie(&self, field: &str) -> Option<&InvertedIndex>
+        ensures there { IsSome result ↔ IsTrue (has_name field.now (fields_of self.now)) }
+        ensures trie { IfSome result (λ trie. (i : ℕ) × (slice_get (fields_of self.now) i ≡ Some field.now)
+            × (slice_get self.now.printed.tries.items i ≡ Some trie.now)) }
+    {
+        match place_of(&self.printed.fields, field) {
+            Some(i) => Some(&self.printed.tries[i]),
+            None => None,
+        }
+    }
+
+    /// The tokens of a query.
+    fn tokens(&self, query: &str) -> Result<Vec<String>, AllocError>
+        ensures { IfOk result (λ tokens. (i : ℕ) → LeavesBy leaves self.now.pipeline (L.leaves_of self.now.language)
+            → AreTokensOf (LanguageReads (L.tokens_of self.now.language) (L.leaves_of self.now.language)) i query.now (texts_of tokens.items)) }
+    {
+        a_run_has_one_answer(&self.pipeline);
+        let made = self.language.tokenize(self.alloc, query)?;
+        let mut tokens = self.pipeline.run(self.alloc, made)?;
+        tokens.retain(|token| !token.is_empty());
+        Ok(tokens)
+    }
+}
+
+/// Where the name stands.
+fn place_of(names: &[String], name: &str) -> Option<usize>
+    ensures found { IfSome result (λ i. (i < length names.now) × (slice_get (bytes_of names.now) i ≡ Some name.now)) }
+    ensures is_found { IsSome result ↔ IsTrue (has_name name.now (bytes_of names.now)) }
+{
+    for (i, other) in names.iter().enumerate() {
+        if other.as_str() == name {
+            return Some(i);
+        }
+    }
+    None
+}

@@ -1,0 +1,60 @@
+//! A search of one trie.
+ghost use Rattle.std.specs.Prelude.{◌≡◌, IfOk, is_some};
+ghost use Rattle.std.specs.List.Sorted.{IsStrictlySortedBy};
+ghost use Rattle.std.specs.Str.{chars};
+ghost use Rattle.elasticlunr_text.specs.Text.{Bytes, texts_of, bytes_of, text_cmp, is_listed};
+ghost use Rattle.elasticlunr_store.specs.Table.{posting};
+ghost use Rattle.elasticlunr_search.specs.Tries.{HaveAny, HaveAll};
+
+use elasticlunr_store::InvertedIndex;
+use std::alloc::{AllocError, Global};
+use std::collections::BTreeSet;
+
+/// The references that have a posting at one of the tokens, in the order of their bytes, each once.
+pub(crate) fn find_any_in(
+    alloc: Global,
+    trie: &InvertedIndex,
+    tokens: &[String],
+) -> Result<Vec<String>, AllocError>
+    ensures { IfOk result (λ found. HaveAny trie.now (texts_of tokens.now) (bytes_of found.items)) }
+{
+    let mut found = BTreeSet::new(alloc);
+    for token in tokens {
+        let references = references_of(trie, token.as_str())?;
+        found.extend(references)?;
+    }
+    let found = found.into_iter().collect(alloc)?;
+    Ok(found)
+}
+
+/// The references that have a posting at each token, of which there is one at least. Only those of
+/// the first token are copied.
+pub(crate) fn find_all_in(
+    alloc: Global,
+    trie: &InvertedIndex,
+    tokens: &[String],
+) -> Result<Vec<String>, AllocError>
+    ensures { IfOk result (λ found. HaveAll trie.now (texts_of tokens.now) (bytes_of found.items)) }
+{
+    match tokens.split_first() {
+        Some((first, others)) => {
+            let mut found = references_of(trie, first.as_str())?;
+            for token in others {
+                found.retain(|reference| trie.has_posting(reference.as_str(), token.as_str()));
+            }
+            Ok(found)
+        }
+        None => Ok(Vec::new(alloc)),
+    }
+}
+
+/// The references that have a posting at a token.
+fn references_of(trie: &InvertedIndex, token: &str) -> Result<Vec<String>, AllocError>
+    ensures sorted { IfOk result (λ found. IsStrictlySortedBy text_cmp (bytes_of found.items)) }
+    ensures listed { IfOk result (λ found. (r : Bytes) → is_listed r (bytes_of found.items) ≡ is_some (posting trie.now (chars token.now) r)) }
+{
+    match trie.references(token) {
+        Ok(references) => Ok(references),
+        Err(_) => Err(AllocError),
+    }
+}

@@ -1,0 +1,39 @@
+//! Built, printed, found.
+//!
+//! Two documents go into an English index, it is printed, and the text is searched. Proved: each
+//! token that the query and the text of the second document have leads to its reference. A caller
+//! has to know that a token is what the language leaves of a word: trimmed, no stop word, stemmed.
+ghost use Rattle.std.specs.Prelude.{List, IfOk, Contains};
+ghost use Rattle.elasticlunr_text.specs.Text.{Text, bytes_of};
+ghost use Rattle.elasticlunr_lang.specs.Languages.{english_leaves};
+ghost use Rattle.elasticlunr_lang.specs.Words.{words};
+ghost use Rattle.elasticlunr.specs.Reading.{LanguageReads};
+ghost use Rattle.elasticlunr_search.specs.Words.{Asks};
+
+use crate::error::UseError;
+use elasticlunr::Index;
+use elasticlunr::lang::English;
+use elasticlunr_search::{Join, Searcher};
+use std::alloc::Global;
+
+/// The references that the query finds among two documents, each a reference and its text.
+pub fn built_printed_found(
+    alloc: Global,
+    other: &str,
+    other_text: &str,
+    reference: &str,
+    text: &str,
+    query: &str,
+) -> Result<Vec<String>, UseError>
+    ensures { IfOk result (λ found. (token : Text) → Asks (LanguageReads words english_leaves) 0 query.now token
+        → ((tokens : List Text) → LanguageReads words english_leaves 0 text.now tokens → Contains tokens token)
+        → Contains (bytes_of found.items) reference.now) }
+{
+    let mut index = Index::new(alloc, &["body"])?;
+    index.add_doc(other, &[other_text])?;
+    index.add_doc(reference, &[text])?;
+    let printed = index.to_json()?;
+    let searcher = Searcher::read(alloc, English::new(), printed.as_str())?;
+    let found = searcher.find(Join::Any, "body", query)?;
+    Ok(found)
+}

@@ -41,11 +41,17 @@ use std::collections::BTreeMap;
 use std::marker::Model;
 use value::tree_value;
 
-/// The tokens of a field, each with the references of the documents that have it, and how often they do.
+/// The tokens of a field, each with the references of the documents that have it, and how often
+/// they do.
 ///
-/// It stands for a table: the known texts, among them the empty one and each beginning of a known one, and for some pairs of a known token and a reference a frequency. Known texts stay known when their postings go, until the trie is compacted.
+/// It stands for a table: the known texts, among them the empty one and each beginning of a known
+/// one, and for some pairs of a known token and a reference a frequency. Known texts stay known
+/// when their postings go, until the trie is compacted.
 ///
-/// The nodes stand in one vector, and name their children by number. So a trie is dropped without recursion, and a text is looked up by halves at each of its characters. A reference has a number, under which its postings stand; its name is kept once. A name may stay when its postings go, until the trie is compacted; no call shows it.
+/// The nodes stand in one vector, and name their children by number. So a trie is dropped without
+/// recursion, and a text is looked up by halves at each of its characters. A reference has a
+/// number, under which its postings stand; its name is kept once. A name may stay when its postings
+/// go, until the trie is compacted; no call shows it.
 #[derive(Debug, Drop)]
 pub struct InvertedIndex {
     root: Vec<(char, usize)>,
@@ -71,7 +77,8 @@ impl Model for InvertedIndex {
 }
 
 impl InvertedIndex {
-    /// A trie that knows the empty text alone. It requests no memory; later calls take it from this allocator.
+    /// A trie that knows the empty text alone. It requests no memory; later calls take it from this
+    /// allocator.
     pub fn new(alloc: Global) -> Self
         ensures new { result ≡ new_table }
         ensures table { IsTable result }
@@ -84,9 +91,12 @@ impl InvertedIndex {
         }
     }
 
-    /// Sets the posting of a token, which makes its beginnings known. The empty token changes nothing.
+    /// Sets the posting of a token, which makes its beginnings known. The empty token changes
+    /// nothing.
     ///
-    /// Where memory is wanting, the table stays as it was. The work is in proportion to the token; the reference is looked up once among all names, and by halves among the postings of the token.
+    /// Where memory is wanting, the table stays as it was. The work is in proportion to the token;
+    /// the reference is looked up once among all names, and by halves among the postings of the
+    /// token.
     pub fn add_token(
         &mut self,
         doc_ref: &str,
@@ -115,7 +125,9 @@ impl InvertedIndex {
         Ok(())
     }
 
-    /// Takes every posting of a reference away. The known texts stay. It visits the nodes where the reference has or had a posting, and no others; an unknown reference is looked up and costs no more. Requests no memory.
+    /// Takes every posting of a reference away. The known texts stay. It visits the nodes where the
+    /// reference has or had a posting, and no others; an unknown reference is looked up and costs
+    /// no more. Requests no memory.
     pub fn remove_doc(&mut self, doc_ref: &str)
         ensures known { (t : Text) → knows self.new t ≡ knows self.old t }
         ensures gone { (t : Text) → posting self.new t doc_ref.now ≡ None }
@@ -131,7 +143,8 @@ impl InvertedIndex {
         );
     }
 
-    /// Takes a posting away if it is there. The known texts stay. The work is in proportion to the token and to the postings of the reference. Requests no memory.
+    /// Takes a posting away if it is there. The known texts stay. The work is in proportion to the
+    /// token and to the postings of the reference. Requests no memory.
     pub fn remove_token(&mut self, doc_ref: &str, token: &str)
         ensures { RemovesToken self.old self.new (chars token.now) doc_ref.now }
     {
@@ -145,7 +158,8 @@ impl InvertedIndex {
         );
     }
 
-    /// A copy of the postings of a token, `None` where it is unknown. The work is in proportion to the token and its postings.
+    /// A copy of the postings of a token, `None` where it is unknown. The work is in proportion to
+    /// the token and its postings.
     pub fn get_docs(&self, token: &str) -> Result<Option<BTreeMap<String, u64>>, IndexError>
         ensures ok { IfOk result (λ o. option_map (λ m. postings_of m.entries) o ≡ get_postings self.now (chars token.now)) }
         ensures memory { IsOkUnless result Memory }
@@ -155,21 +169,24 @@ impl InvertedIndex {
         Ok(docs)
     }
 
-    /// The frequency of a reference at a token, 0 where it has no posting. A step for each character of the token, and a look-up of the reference; requests no memory.
+    /// The frequency of a reference at a token, 0 where it has no posting. A step for each
+    /// character of the token, and a look-up of the reference; requests no memory.
     pub fn get_term_frequency(&self, doc_ref: &str, token: &str) -> u64
         ensures { result ≡ unwrap_or (posting self.now (chars token.now) doc_ref.now) 0 }
     {
         find_frequency(&self.root, &self.nodes, &self.names, token, doc_ref).unwrap_or(0)
     }
 
-    /// Has a reference a posting at a token? A step for each character of the token, and a look-up of the reference; requests no memory.
+    /// Has a reference a posting at a token? A step for each character of the token, and a look-up
+    /// of the reference; requests no memory.
     pub fn has_posting(&self, doc_ref: &str, token: &str) -> bool
         ensures { result ≡ is_some (posting self.now (chars token.now) doc_ref.now) }
     {
         find_frequency(&self.root, &self.nodes, &self.names, token, doc_ref).is_some()
     }
 
-    /// How many references have a posting at a token. A step for each character of the token; requests no memory.
+    /// How many references have a posting at a token. A step for each character of the token;
+    /// requests no memory.
     pub fn get_doc_frequency(&self, token: &str) -> u64
         ensures { result ≡ len (postings self.now (chars token.now)) }
     {
@@ -179,9 +196,12 @@ impl InvertedIndex {
         }
     }
 
-    /// The JSON value of the trie: an object with the key `root`, under which each node has `docs`, `df` and a key for each of its children's characters.
+    /// The JSON value of the trie: an object with the key `root`, under which each node has `docs`,
+    /// `df` and a key for each of its children's characters.
     ///
-    /// It takes more than a thousand bytes a posting: to print, use `write`. A value is dropped by the machine's stack, a step for each character of a token: 8 MB are enough for tokens of 20,000 characters.
+    /// It takes more than a thousand bytes a posting: to print, use `write`. A value is dropped by
+    /// the machine's stack, a step for each character of a token: 8 MB are enough for tokens of
+    /// 20,000 characters.
     pub fn to_value(&self) -> Result<Value, IndexError>
         ensures tree { IfOk result (λ v. IsTrieValue self.now (view v)) }
         ensures table { IsTable self.now }
@@ -196,7 +216,8 @@ impl InvertedIndex {
         Ok(Value::Object(members))
     }
 
-    /// The trie whose JSON value this is. Refuses other keys, missing ones, a `df` that is not the number of references, and a root with postings.
+    /// The trie whose JSON value this is. Refuses other keys, missing ones, a `df` that is not the
+    /// number of references, and a root with postings.
     ///
     /// The value may nest as deep as it likes.
     pub fn from_value(alloc: Global, value: &Value) -> Result<Self, IndexError>
@@ -218,7 +239,8 @@ impl InvertedIndex {
         })
     }
 
-    /// Is this text known, as a token or as the beginning of one? A step for each of its characters.
+    /// Is this text known, as a token or as the beginning of one? A step for each of its
+    /// characters.
     pub fn has_token(&self, token: &str) -> bool
         ensures { result ≡ knows self.now (chars token.now) }
     {
@@ -235,7 +257,8 @@ impl PartialEq for InvertedIndex {
 
     ghost laws = { partial_equiv_from_equiv tables_equivalence };
 
-    /// Do both stand for the same table? The numbers of their nodes and references make no difference. Requests no memory. A path without branches takes no stack.
+    /// Do both stand for the same table? The numbers of their nodes and references make no
+    /// difference. Requests no memory. A path without branches takes no stack.
     fn eq(&self, other: &InvertedIndex) -> bool
         ensures test { result ≡ same_tables self.now other.now }
         ensures equal { IsTrue result ↔ (self.now ≡ other.now) }

@@ -19,7 +19,8 @@ use elasticlunr_text::IndexError;
 use std::alloc::{AllocError, Global};
 
 impl InvertedIndex {
-    /// A new trie with the same postings, in which only the beginnings of their tokens are known, and the empty text. This one stays as it is.
+    /// A new trie with the same postings, in which only the beginnings of their tokens are known,
+    /// and the empty text. This one stays as it is.
     ///
     /// Visits each node twice, with no recursion.
     pub fn compacted(&self) -> Result<Self, IndexError>

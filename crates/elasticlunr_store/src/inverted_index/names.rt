@@ -9,7 +9,8 @@ use std::alloc::{AllocError, Global};
 use std::collections::BTreeMap;
 use std::marker::Model;
 
-/// Names in the order in which they came. The number of a name is its place, and no name comes twice.
+/// Names in the order in which they came. The number of a name is its place, and no name comes
+/// twice.
 #[derive(Debug, Drop)]
 pub(super) struct Names {
     in_order: Vec<String>,

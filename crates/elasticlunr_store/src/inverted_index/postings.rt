@@ -7,7 +7,8 @@ ghost use Rattle.elasticlunr_store.specs.Frequencies.{frequencies_of};
 use std::alloc::{AllocError, Global};
 use std::marker::Model;
 
-/// A finite map from numbers of references to frequencies, as pairs in the order of the numbers. A new greatest number goes to the end without a search.
+/// A finite map from numbers of references to frequencies, as pairs in the order of the numbers. A
+/// new greatest number goes to the end without a search.
 #[derive(Debug, Drop)]
 pub(super) struct Postings {
     pairs: Vec<(usize, u64)>,

@@ -13,7 +13,8 @@ use std::alloc::{AllocError, Global};
 use std::collections::BTreeMap;
 
 impl InvertedIndex {
-    /// The references that have a posting at a token, each once, in the order of their bytes. The work is in proportion to the token and its postings.
+    /// The references that have a posting at a token, each once, in the order of their bytes. The
+    /// work is in proportion to the token and its postings.
     pub fn references(&self, token: &str) -> Result<Vec<String>, IndexError>
         ensures order { IfOk result (λ v. IsStrictlySortedBy text_cmp (bytes_of v.items)) }
         ensures listed { IfOk result (λ v. (r : Bytes) → IsTrue (is_listed r (bytes_of v.items)) ↔ IsSome (posting self.now (chars token.now) r)) }

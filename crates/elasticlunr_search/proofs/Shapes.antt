@@ -5,7 +5,7 @@ use Rattle.std.specs.List.{AllZip}
 use Rattle.elasticlunr_text.specs.Text.{Bytes}
 use Rattle.elasticlunr_store.specs.Table.{Table, IsTable}
 use Rattle.elasticlunr_store.specs.Tree.{IsTrieValue}
-use Rattle.elasticlunr_store.specs.Contents.{Contents, IsContents, IsStoreValue, store_value}
+use Rattle.elasticlunr_store.specs.Contents.{Contents, IsConsistent, IsStoreValue, store_value}
 use Rattle.serde_json.specs.Data.{Data, array, depth}
 use Rattle.serde_json.specs.Find.{get}
 use Rattle.serde_json.specs.Read.{read, max_depth}
@@ -97,7 +97,7 @@ below_or_above (suc a) zero = inr (omega arith)
 below_or_above (suc a) (suc b) = elim (below_or_above a b) [ inl h ↦ inl (omega arith) | inr h ↦ inr (omega arith) ]
 
 -- a value that has its parts lacks none
-lacks_none : (v : Data) (fields : List Bytes) (tables : List Table) (contents : Contents) → HasParts v fields tables contents → IsContents contents → (e : SearchError) → Lacks v e → e ≡ Memory
+lacks_none : (v : Data) (fields : List Bytes) (tables : List Table) (contents : Contents) → HasParts v fields tables contents → IsConsistent contents → (e : SearchError) → Lacks v e → e ≡ Memory
 lacks_none v fields tables contents has are NotRead lacks = absurd lacks
 lacks_none v fields tables contents has are BadFields lacks = absurd (lacks fields has.fields)
 lacks_none v fields tables contents has are BadTries lacks = absurd (lacks fields has.fields tables has.tries)

@@ -2,7 +2,7 @@
 use Rattle.std.specs.Prelude.{◌≡◌, ◌⊎◌, ℕ, List, Some, None}
 use Rattle.elasticlunr_text.specs.Text.{Bytes}
 use Rattle.elasticlunr_store.specs.Table.{Table}
-use Rattle.elasticlunr_store.specs.Contents.{Contents, IsContents}
+use Rattle.elasticlunr_store.specs.Contents.{Contents, IsConsistent}
 use Rattle.serde_json.specs.Data.{Data}
 use Rattle.serde_json.specs.Read.{read}
 use Rattle.elasticlunr_search.specs.Shape.{HasFields, HasTries, HasStore}
@@ -18,7 +18,7 @@ abbrev pub Lacks : Data → SearchError → Type 0
 Lacks v NotRead = ⊥
 Lacks v BadFields = (names : List Bytes) → ¬ HasFields v names
 Lacks v BadTries = (names : List Bytes) → HasFields v names → (tables : List Table) → ¬ HasTries v names tables
-Lacks v BadStore = (contents : Contents) → IsContents contents → ¬ HasStore v contents
+Lacks v BadStore = (contents : Contents) → IsConsistent contents → ¬ HasStore v contents
 Lacks v NoSuchField = ⊥
 Lacks v Memory = Unit {0}
 

@@ -2,7 +2,7 @@
 ghost use Rattle.std.specs.Prelude.{◌≡◌, ◌≢◌, List, Some, None, IfOk, IfErr, IsSomeAnd, codes};
 ghost use Rattle.elasticlunr_text.specs.Text.{Bytes, bytes_of};
 ghost use Rattle.elasticlunr_store.specs.Table.{Table};
-ghost use Rattle.elasticlunr_store.specs.Contents.{Contents, IsContents};
+ghost use Rattle.elasticlunr_store.specs.Contents.{Contents, IsConsistent};
 ghost use Rattle.elasticlunr.specs.Printed.{texts};
 ghost use Rattle.elasticlunr_search.specs.Shape.{HasFields, HasTrie, HasTries, HasStore};
 ghost use Rattle.elasticlunr_search.specs.Refusal.{StopsBy};
@@ -95,7 +95,7 @@ fn trie_of(alloc: Global, name: &str, index: &Value) -> Result<InvertedIndex, Se
 /// The document store.
 pub(crate) fn store_of(alloc: Global, value: &Value) -> Result<DocumentStore, SearchError>
     ensures ok { IfOk result (HasStore (view value.now)) }
-    ensures err { IfErr result (StopsBy BadStore ((contents : Contents) → IsContents contents → ¬ HasStore (view value.now) contents)) }
+    ensures err { IfErr result (StopsBy BadStore ((contents : Contents) → IsConsistent contents → ¬ HasStore (view value.now) contents)) }
 {
     let Some(documents) = value.get("documentStore") else {
         return Err(SearchError::BadStore);

@@ -1,6 +1,7 @@
 use Rattle.std.proofs.Common.{◌≡◌, ◌∷◌, [], codes, refl, sym, ap, subst, ◌∙◌}
 use Rattle.elasticlunr_text.specs.Text.{bytes_of}
-use Rattle.elasticlunr_lang.specs.Languages.{english_leaves}
+use Rattle.elasticlunr_lang.specs.Known.{language_leaves}
+use Rattle.elasticlunr_lang.specs.declared.any.AnyLanguage.TheVariants.{English as english}
 use Rattle.elasticlunr_lang.specs.Words.{words}
 use Rattle.elasticlunr_lang.specs.declared.kept.english.English.{English}
 use Rattle.elasticlunr.specs.Index.{choices_of}
@@ -14,7 +15,7 @@ use Rattle.elasticlunr_uses.proofs.found.built_printed_found.Goals as goal
 pub returns : goal.returns
 returns c token asks has =
     let english : English = record {} in
-    let reading = LanguageReads words english_leaves in
+    let reading = LanguageReads words (language_leaves english) in
     let index = c.in_ok-index.index in
     let given = c.in_ok-index.ensures.given english in
     let only = c.in_ok-index.ensures.reads english in

@@ -8,7 +8,8 @@ The English texts are the paragraphs of this project's own pages. With the scrip
 without it the JavaScript knows the English stages alone. Both search the text that the program
 printed, one field at a time, without expansion, by any of the query's tokens and by all of them;
 the program must print the references that the JavaScript finds, in the order of their bytes. The
-JavaScript comes by bench/fetch_elasticlunr.sh, or lies in --folder already.
+JavaScript comes by bench/fetch_elasticlunr.sh, or lies in --folder already. Where it or node can't
+be had, the comparison is counted as skipped.
 """
 import argparse
 import collections
@@ -21,7 +22,9 @@ import subprocess
 import sys
 import tempfile
 
-from compare_by_chance import LANGUAGES, USUAL, a_job, text, word
+import browser_tools
+from chance import job as a_job, word
+from model_tokens import LANGUAGES
 
 TOP = os.path.dirname(os.path.dirname(os.path.abspath(__file__)))
 PRINTS = os.path.join(TOP, "crates/elasticlunr_index/out/elasticlunr_index")
@@ -88,13 +91,13 @@ def english(chance, count):
 
 def by_chance(chance, count):
     """Small indexes in all languages, and queries of the words of their documents."""
-    for number in range(count):
+    for _ in range(count):
         job = a_job(chance)
-        job["lang"] = LANGUAGES[number % len(LANGUAGES)]
+        code = LANGUAGES[job.get("lang", "English")].code
         names = [name for name in job["fields"] if name != job.get("ref", "id")]
         words = [one for doc in job["docs"] for value in doc[1:] for one in value.split()]
         if names and words:
-            asked = chance.choices(words, k=chance.randint(1, 3)) + chance.choices([word(chance)] + USUAL, k=1)
+            asked = chance.choices(words, k=chance.randint(1, 3)) + [word(chance, code)]
             yield job, chance.choice(names), " ".join(asked)
 
 
@@ -112,10 +115,14 @@ def main():
     parser.add_argument("--script", default=SCRIPT)
     parser.add_argument("--folder", default=None)
     options = parser.parse_args()
-    folder = options.folder or tempfile.mkdtemp()
-    library = os.path.join(folder, "elasticlunr.min.js")
+    library = os.path.join(options.folder or browser_tools.FETCHED, "elasticlunr.min.js")
     if not os.path.exists(library):
-        subprocess.run([os.path.join(TOP, "bench/fetch_elasticlunr.sh"), folder], check=True, stdout=subprocess.DEVNULL)
+        lacking = browser_tools.prepare() & {"node", "elasticlunr.min.js"}
+        if lacking:
+            print(f"search: skipped, without {' and '.join(sorted(lacking))}")
+            print("search: 0 passed, 0 failed, 1 skipped")
+            return 0
+        library = browser_tools.ELASTICLUNR
     script = os.path.abspath(options.script) if os.path.exists(options.script) else ""
     chance = random.Random(options.seed)
     asked = [("English pages", *one) for one in english(chance, options.queries)]
@@ -161,7 +168,8 @@ def main():
         print(f"search, {kind}: {count} equal")
     for why, count in excepted.items():
         print(f"search, left out, {why}: {count}")
-    print(f"search: {sum(passed.values())} passed, {failed} failed, {some} found something")
+    print(f"search: {some} of the queries found something")
+    print(f"search: {sum(passed.values())} passed, {failed + (not some)} failed")
     return 1 if failed or not some else 0
 
 

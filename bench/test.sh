@@ -20,7 +20,7 @@ if [ "$status" -eq 0 ]; then
             python3 bench/build.py "$program" || status=1
         fi
     done
-    for check in check_readme check_jobs refuse_memory refuse_calls compare_by_chance long_inputs forgeries; do
+    for check in check_readme check_jobs refuse_memory refuse_calls compare_by_chance compare_search long_inputs forgeries browser; do
         begun=$SECONDS
         python3 "bench/$check.py" 2>&1 | tee -a "$log"
         if [ "${PIPESTATUS[0]}" -ne 0 ]; then
@@ -32,6 +32,7 @@ if [ "$status" -eq 0 ]; then
         echo "  $check ($((SECONDS - begun)) s)"
     done
 fi
-awk '/^([a-z]+: )?[0-9]+ passed, [0-9]+ failed$/ { n = NF - 3; passed += $n; failed += $(n + 2) }
-     END { printf "%d passed, %d failed\n", passed, failed }' "$log"
+awk '/^([a-z]+: )?[0-9]+ passed, [0-9]+ failed(, [0-9]+ skipped)?$/ {
+         n = /skipped$/ ? NF - 5 : NF - 3; passed += $n; failed += $(n + 2); if (n == NF - 5) skipped += $(n + 4) }
+     END { printf "%d passed, %d failed", passed, failed; if (skipped) printf ", %d skipped", skipped; print "" }' "$log"
 exit "$status"

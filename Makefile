@@ -17,10 +17,10 @@ build:
 script:
 	@python3 bench/build.py elasticlunr_script
 
-# The programs that run the tables of vectors and make calls of the library alone.
+# The program that runs the tables of vectors, and the test that makes calls of the library alone.
 calls:
 	@python3 bench/build.py elasticlunr_vectors
-	@python3 bench/build.py elasticlunr_calls
+	@cd crates/elasticlunr_calls && rt test > /dev/null
 
 # The search page over the indexes of examples/ in three languages, on http://127.0.0.1:$(PORT)/.
 demo: build

@@ -1,6 +1,6 @@
 """The rows of calls, and what each call promises of memory.
 
-A row of crates/elasticlunr_calls/stdout is a line that names what its calls are made on, and a line for each
+A row of crates/elasticlunr_calls/rows.txt is a line that names what its calls are made on, and a line for each
 call: `CALL -> ANSWER`. An empty line ends it.
 """
 import json
@@ -8,7 +8,7 @@ import os
 from typing import NamedTuple
 
 TOP = os.path.dirname(os.path.dirname(os.path.abspath(__file__)))
-TABLE = os.path.join(TOP, "crates/elasticlunr_calls/stdout")
+TABLE = os.path.join(TOP, "crates/elasticlunr_calls/rows.txt")
 # how many rows and calls the table has
 ROWS = 139
 CALLS = 1301

@@ -1,7 +1,7 @@
 #!/usr/bin/env python3
 """Makes the calls of each row, counts the requests for memory of each, and refuses these one after the other.
 
-The built program `elasticlunr_calls` makes the calls that its input lists. It writes a call right before it
+The built test of `elasticlunr_calls` makes the calls that its input lists. It writes a call right before it
 makes it and ` -> ` right after, so the requests of the call alone are counted (count_requests.c). A row
 passes if
 
@@ -24,7 +24,9 @@ import calls
 from calls import FAILED, Row, fields_of, name_of, promise, rows_of, table
 
 HERE = os.path.dirname(os.path.abspath(__file__))
-PROGRAM = os.path.join(calls.TOP, "crates/elasticlunr_calls/out/elasticlunr_calls")
+PROGRAM = os.path.join(calls.TOP, "crates/elasticlunr_calls/out/elasticlunr_calls_tests")
+TEST = "table::calls"
+PASSED = b"\n\ntest result: ok\n"  # what a test says at its end
 SECONDS = 20  # for each run of the program
 
 # What is called of an index that has failed, and its answers.
@@ -51,13 +53,13 @@ class Program:
         environment = dict(os.environ, LD_PRELOAD=self.shim, REFUSE_REQUEST=str(refused), COUNT_FILE=self.counts)
         given = "\n".join([subject, *listed, "", ""])
         try:
-            ended = subprocess.run([PROGRAM], input=given.encode(), stdout=subprocess.PIPE, stderr=subprocess.DEVNULL,
+            ended = subprocess.run([PROGRAM, TEST], input=given.encode(), stdout=subprocess.PIPE, stderr=subprocess.DEVNULL,
                                    env=environment, timeout=SECONDS)
         except subprocess.TimeoutExpired:
             return f"no end after {SECONDS} seconds", []
         if ended.returncode != 0:
             return f"status {ended.returncode}", []
-        told = rows_of(ended.stdout.decode(errors="replace"))
+        told = rows_of(ended.stdout.removesuffix(PASSED).decode(errors="replace"))
         with open(self.counts) as file:
             counts = [tuple(map(int, line.split())) for line in file]
         os.remove(self.counts)

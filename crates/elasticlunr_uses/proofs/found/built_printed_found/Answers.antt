@@ -14,11 +14,11 @@ use Rattle.elasticlunr_uses.proofs.found.built_printed_found.Goals as goal
 
 pub returns : goal.returns
 returns c token asks has =
-    let english : English = record {} in
+    let language : English = record {} in
     let reading = LanguageReads words (language_leaves english) in
     let index = c.in_ok-index.index in
-    let given = c.in_ok-index.ensures.given english in
-    let only = c.in_ok-index.ensures.reads english in
+    let given = c.in_ok-index.ensures.given language in
+    let only = c.in_ok-index.ensures.reads language in
     let once = c.in_ok-add_doc.ensures.settings in
     let twice = c.in_ok-add_doc-2.ensures.settings ∙ once in
     let first = c.in_ok-add_doc.ensures.added in
@@ -31,4 +31,4 @@ returns c token asks has =
     let searches = c.in_ok-searcher.ensures.stands _ commands (subst (IsPrintOf _ commands) (sym c.as_str.ensures.value) print) in
     finds_the_last reading first.0 second.0 c.args.reference.now c.args.text.now d.each e c.args.query.now (bytes_of c.in_ok-found.found.items)
     (at_fields reading _ _ (ap (λ ch. ch.fields) twice ∙ given.fields) (ap (λ ch. ch.reference_field) twice ∙ given.reference_field) commands c.args.query.now (bytes_of c.in_ok-found.found.items)
-    (c.in_ok-found.ensures.found english _ commands searches)) token asks has
+    (c.in_ok-found.ensures.found language _ commands searches)) token asks has

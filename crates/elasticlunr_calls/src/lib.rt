@@ -1,0 +1,31 @@
+//! Makes the calls of the library that standard input lists, and tells what each answers.
+#![tactic(auto)]
+
+#[cfg(test)]
+mod answer;
+#[cfg(test)]
+mod begun;
+#[cfg(test)]
+mod call;
+#[cfg(test)]
+mod handed_in;
+#[cfg(test)]
+mod indexes;
+#[cfg(test)]
+mod languages;
+#[cfg(test)]
+mod options;
+#[cfg(test)]
+mod rows;
+#[cfg(test)]
+mod stages;
+#[cfg(test)]
+mod stores;
+#[cfg(test)]
+mod subject;
+#[cfg(test)]
+mod table;
+#[cfg(test)]
+mod texts;
+#[cfg(test)]
+mod tries;

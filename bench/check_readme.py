@@ -24,6 +24,7 @@ from running import TOP, program, run, told
 README = os.path.join(TOP, "README.md")
 PROGRAM = program("elasticlunr_index")
 LONG = re.compile(r"make (test|compare)\b")
+FETCHES = re.compile(r"bench/fetch_")  # needs a network: tried by bench/browser.py
 MINUTES = 15  # that a command may take
 KINDS = ("rust", "antt", "console", "json", "text")
 
@@ -80,6 +81,8 @@ def why_not_a_crate(line_of_crate, texts):
 
 
 def why_not_run(command):
+    if FETCHES.match(command):
+        return None if os.access(os.path.join(TOP, command.split()[0]), os.X_OK) else "there is no such script"
     if not LONG.match(command):
         ended = run(["sh", "-c", command], seconds=60 * MINUTES, cwd=TOP)
         return None if ended.status == 0 else f"status {ended.status}: {ended.err.decode(errors='replace')[-500:]}"

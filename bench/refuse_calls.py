@@ -24,7 +24,8 @@ import calls
 from calls import FAILED, Row, fields_of, name_of, promise, rows_of, table
 
 HERE = os.path.dirname(os.path.abspath(__file__))
-PROGRAM = os.path.join(calls.TOP, "crates/elasticlunr_calls/out/elasticlunr_calls_tests")
+# The built test; FORGED_PROGRAM has the path of a program to be tried in its place (forgeries.py).
+PROGRAM = os.environ.get("FORGED_PROGRAM") or os.path.join(calls.TOP, "crates/elasticlunr_calls/out/elasticlunr_calls_tests")
 TEST = "table::calls"
 PASSED = b"\n\ntest result: ok\n"  # what a test says at its end
 SECONDS = 20  # for each run of the program

@@ -22,7 +22,7 @@ from concurrent.futures import FIRST_COMPLETED, ThreadPoolExecutor, wait
 import room
 
 LOGS = os.path.join(room.TOP, "out")
-FIRST = {"elasticlunr_index": "about 21 minutes on four cores"}  # measured: what a build from nothing takes
+FIRST = {"elasticlunr_index": "some 20 minutes on four cores"}  # what a build from nothing takes
 SHOWN = 40  # lines of the log that are shown where a crate isn't proved
 
 

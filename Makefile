@@ -2,9 +2,10 @@
 # shows the search page, and `make compare` compares the program with the original crate.
 PREFIX ?= /usr/local
 PROGRAM = crates/elasticlunr_index/out/elasticlunr_index
+COMMAND = crates/elasticlunr_command/out/elasticlunr_command
 PORT ?= 8095
 
-.PHONY: run build script calls demo test compare install
+.PHONY: run build command script calls demo test compare install
 
 # A job on standard input, or an example where standard input is a terminal or empty.
 run: build
@@ -12,6 +13,10 @@ run: build
 
 build:
 	@python3 bench/build.py elasticlunr_index
+
+# The command `elasticlunr`.
+command:
+	@python3 bench/build.py elasticlunr_command
 
 # The program that prints the script for browsers.
 script:
@@ -35,6 +40,7 @@ test:
 compare: build
 	@bench/compare/compare.sh
 
-install: build
+install: build command
 	@install -d "$(DESTDIR)$(PREFIX)/bin"
 	@install -m 755 $(PROGRAM) "$(DESTDIR)$(PREFIX)/bin/elasticlunr_index"
+	@install -m 755 $(COMMAND) "$(DESTDIR)$(PREFIX)/bin/elasticlunr"

@@ -29,10 +29,10 @@ class Refusing:
     def __exit__(self, *_):
         self.folder.cleanup()
 
-    def run(self, path, given, number):
-        """Runs the program on the given input, and refuses the request of this number, from 1."""
+    def run(self, path, given, number, words=()):
+        """Runs the program with these words on the given input, and refuses the request of this number, from 1."""
         environment = dict(os.environ, LD_PRELOAD=self.shim, REFUSE_REQUEST=str(number), REFUSE_COUNT_FILE=self.counts)
-        ended = run([path], given.encode(), env=environment)
+        ended = run([path, *words], given.encode(), env=environment)
         try:
             with open(self.counts, encoding="ascii") as file:
                 requests = int(file.read())

@@ -20,7 +20,7 @@ if [ "$status" -eq 0 ]; then
             python3 bench/build.py "$program" || status=1
         fi
     done
-    for check in check_readme check_jobs refuse_memory refuse_calls compare_by_chance compare_search long_inputs forgeries browser; do
+    for check in check_readme check_jobs command refuse_memory refuse_calls compare_by_chance compare_search long_inputs forgeries browser; do
         begun=$SECONDS
         python3 "bench/$check.py" 2>&1 | tee -a "$log"
         if [ "${PIPESTATUS[0]}" -ne 0 ]; then

@@ -1,0 +1,244 @@
+#!/usr/bin/env python3
+"""Runs the built command `elasticlunr` on the rows of a table, and on files and devices.
+
+usage: command.py [TABLE]
+
+A line of the table is an object: `name`, `args`, `files` (names and texts of files that lie in the
+folder that it runs in), `stdin`, and what must come of it: `out`, `err` and `status`. In place of `out`
+there may be `job`: the text that elasticlunr_index prints of this job. `before` and `after` stand around that
+text, and `in` names a file that has it in place of standard output. `err` is then `notes` and a last line
+with `documents`, the bytes of the text and the seconds. How many lines the table has stands beside it, in
+TABLE.rows.
+"""
+import json
+import os
+import re
+import resource
+import subprocess
+import sys
+import tempfile
+
+from refusing import Refusing
+from running import HERE, program, run, told
+from tables import rows_missing
+
+COMMAND = program("elasticlunr_command")
+FIRST = program("elasticlunr_index")
+TABLE = os.path.join(HERE, "command_rows.jsonl")
+SECONDS = re.compile(rb"\d+\.\d s\n")
+DOCUMENTS = 100_000
+MEGABYTES = 1500  # that the lines of so many documents may take
+LEAST = 20  # requests for memory that must have been refused
+
+JOB = {
+    "fields": ["title", "body"],
+    "docs": [["1", "Red fox", "The quick fox runs"], ["2", "Dog", "A lazy dog sleeps"], ["3", "Both", ""]],
+}
+OBJECTS = [
+    {"id": "1", "title": "Red fox", "body": "The quick fox runs"},
+    {"id": 2, "title": "Dog", "body": "A lazy dog sleeps", "tags": ["none"]},
+    {"id": "3", "title": "Both"},
+]
+FOUND = [
+    (["fox"], ["1"]),
+    (["foxes dogs"], ["1", "2"]),
+    (["fox dog", "--all"], []),
+    (["lazy dog", "--all"], ["2"]),
+    (["quick", "--field", "title"], []),
+    (["quick", "--field", "body"], ["1"]),
+    (["both"], ["3"]),
+    (["none"], []),
+]
+
+
+class Counts:
+    def __init__(self):
+        self.passed = 0
+        self.failed = 0
+
+    def note(self, name, good, said=""):
+        self.passed += bool(good)
+        self.failed += not good
+        if not good:
+            print(f"command, {name}: {said}", flush=True)
+
+
+def printed(job):
+    """What the first program prints of a job, without the line feed."""
+    ended = run([FIRST], json.dumps(job).encode())
+    return ended.out[:-1] if ended.status == 0 else b"no index of this job"
+
+
+def ran(folder, args, given=b"", **options):
+    return run([COMMAND, *args], given, cwd=folder, **options)
+
+
+def check_row(row, counts):
+    with tempfile.TemporaryDirectory() as folder:
+        for name, text in row.get("files", {}).items():
+            with open(os.path.join(folder, name), "wb") as file:
+                file.write(text.encode("utf-8", "surrogateescape"))
+        given = bytes.fromhex(row["stdin_hex"]) if "stdin_hex" in row else row.get("stdin", "").encode()
+        ended = ran(folder, row["args"], given)
+        wanted = row.get("out", "").encode()
+        err = row.get("err", "")
+        if "job" in row:
+            text = printed(row["job"])
+            wanted = row.get("before", "").encode() + text + row.get("after", "").encode() + b"\n"
+            err = f"{row['notes']}elasticlunr: {row['documents']} documents, {len(text) + 1} bytes, N.N s\n"
+        out = ended.out
+        if "in" in row:
+            with open(os.path.join(folder, row["in"]), "rb") as file:
+                out = file.read()
+        said = SECONDS.sub(b"N.N s\n", ended.err)
+        found = (out, said, ended.status)
+        counts.note(row["name"], found == (wanted, err.encode(), row.get("status", 0)), found)
+
+
+def check_rows(table, counts):
+    missing = rows_missing(table)
+    if missing:
+        counts.note("table", False, missing)
+    with open(table, encoding="utf-8") as file:
+        for line in file:
+            try:
+                row = json.loads(line)
+            except ValueError:
+                row = {"name": "no row"}
+            try:
+                check_row(row, counts)
+            except (KeyError, OSError) as error:
+                counts.note(row.get("name"), False, repr(error))
+
+
+def check_forms(counts):
+    """The three forms of the same documents give the text that the first program gives of the job."""
+    wanted = printed(JOB) + b"\n"
+    lines = "".join(json.dumps(it) + "\n" for it in OBJECTS)
+    forms = {"job": json.dumps(JOB), "objects": json.dumps(OBJECTS, indent=1), "lines": lines}
+    for form, text in forms.items():
+        for words in ([], ["--format", form]):
+            words = [*words, *([] if form == "job" else ["--fields", "title,body"])]
+            ended = run([COMMAND, "build", *words], text.encode())
+            counts.note(f"{form} {words}", (ended.out, ended.status) == (wanted, 0), ended)
+
+
+def check_search(counts):
+    """What is found in an index of the objects."""
+    with tempfile.TemporaryDirectory() as folder:
+        given = json.dumps(OBJECTS).encode()
+        ran(folder, ["build", "--fields", "title,body", "-o", "index.json"], given)
+        for words, wanted in FOUND:
+            ended = ran(folder, ["search", "index.json", *words])
+            lines = "".join(it + "\n" for it in wanted).encode()
+            counts.note(f"search {words}", ended == (lines, b"", 0), ended)
+        ended = ran(folder, ["search", "index.json", "fox", "--field", "titel"])
+        wanted = (b"", b'index.json: no field "titel"; did you mean "title"?\n', 2)
+        counts.note("search in no field", ended == wanted, ended)
+
+
+def check_files(counts):
+    """A file is written whole or not at all, and nothing else stays in its folder."""
+    job = json.dumps(JOB).encode()
+    wanted = printed(JOB) + b"\n"
+    with tempfile.TemporaryDirectory() as folder:
+        path = os.path.join(folder, "index.json")
+
+        def left():
+            with open(path, "rb") as file:
+                return sorted(os.listdir(folder)), file.read()
+
+        ended = ran(folder, ["build", "-o", "index.json"], job)
+        counts.note("new file", (ended.status, ended.out, left()) == (0, b"", (["index.json"], wanted)), ended)
+        with open(path, "wb") as file:
+            file.write(b"old")
+        ended = ran(folder, ["build", "-o", "index.json"], b"[1")
+        counts.note("refused, the old file stays", (ended.status, left()) == (2, (["index.json"], b"old")), ended)
+        # a file may have 100 bytes: the write breaks off in the middle
+        limit = lambda: resource.setrlimit(resource.RLIMIT_FSIZE, (100, 100))
+        ended = ran(folder, ["build", "-o", "index.json"], job, preexec_fn=limit, restore_signals=False)
+        counts.note("cut short, the old file stays", ended.status != 0 and left()[1] == b"old", ended)
+        for name in os.listdir(folder):
+            if name != "index.json":
+                os.remove(os.path.join(folder, name))
+        ended = ran(folder, ["build", "-o", "index.json"], job)
+        counts.note("in place of the old file", (ended.status, left()) == (0, (["index.json"], wanted)), ended)
+        os.symlink("index.json", os.path.join(folder, "link.json"))
+        ended = ran(folder, ["build", "-o", "link.json"], job)
+        counts.note("through a link", ended.status == 0 and os.path.islink(os.path.join(folder, "link.json")), ended)
+        ended = ran(folder, ["build", "-o", "."], job)
+        counts.note("a folder in place of a file", ended.status == 1 and ended.err != b"", ended)
+        ended = ran(folder, ["build", "-o", "none/index.json"], job)
+        counts.note("no such folder", ended.status == 1 and ended.err != b"", ended)
+        ended = ran(folder, ["build", "none.json"])
+        counts.note("no such file", ended.status == 1 and b"none.json" in ended.err, ended)
+        ended = ran(folder, ["build", "."])
+        counts.note("a folder to be read", ended.status == 1 and ended.err != b"", ended)
+        ended = ran(folder, ["build", "-o", "/dev/full"], job)
+        counts.note("a full device", ended.status == 1 and b"/dev/full" in ended.err, ended)
+        check_streams(folder, job, counts)
+
+
+def check_streams(folder, job, counts):
+    with open("/dev/full", "wb") as full:
+        ended = subprocess.run([COMMAND, "build"], input=job, stdout=full, stderr=subprocess.PIPE, timeout=20)
+    counts.note("standard output is full", ended.returncode == 1 and ended.stderr != b"", ended)
+    reading, writing = os.pipe()
+    os.close(reading)
+    with os.fdopen(writing, "wb") as broken:
+        ended = subprocess.run([COMMAND, "build"], input=job, stdout=broken, stderr=subprocess.PIPE, timeout=20)
+    counts.note("a broken pipe", ended.returncode == 1, ended)
+
+
+def check_many(counts):
+    """So many documents as lines, within a bound of memory."""
+    words = "alpha beta gamma delta epsilon zeta eta theta iota kappa lambda mu".split()
+    lines = []
+    for number in range(DOCUMENTS):
+        body = " ".join(words[(number * step) % len(words)] for step in range(1, 9))
+        lines.append(json.dumps({"id": number, "title": words[number % len(words)], "body": body}))
+    with tempfile.TemporaryDirectory() as folder:
+        with open(os.path.join(folder, "docs.jsonl"), "w", encoding="ascii") as file:
+            file.write("\n".join(lines))
+        limit = lambda: resource.setrlimit(resource.RLIMIT_AS, (MEGABYTES << 20, MEGABYTES << 20))
+        args = ["build", "docs.jsonl", "-o", "index.json"]
+        ended = ran(folder, args, preexec_fn=limit, seconds=120)
+        good = ended.status == 0 and ended.err.startswith(b"elasticlunr: %d documents, " % DOCUMENTS)
+        counts.note(f"{DOCUMENTS} lines", good, ended)
+        if good:
+            with open(os.path.join(folder, "index.json"), encoding="utf-8") as file:
+                counts.note("their number", json.load(file)["documentStore"]["length"] == DOCUMENTS, "another number")
+
+
+def check_memory(counts):
+    """Each request for memory refused in turn: status 1 and nothing written, or the whole answer."""
+    job = json.dumps(JOB)
+    wanted = printed(JOB).decode() + "\n"
+    with Refusing() as refusing:
+        refused = wrong = number = 0
+        while wrong < 5:
+            number += 1
+            ended = refusing.run(COMMAND, job, number, ["build"])
+            was_refused = (ended.out, ended.status) == ("", 1)
+            refused += was_refused
+            if not was_refused and (ended.out, ended.status) != (wanted, 0):
+                wrong += 1
+                print(f"command, memory: request {number}: status {ended.status}, {len(ended.out)} characters")
+            if ended.requests < number:
+                break
+    counts.note("memory refused in turn", wrong == 0 and refused >= LEAST, f"{refused} refused, {wrong} wrong")
+
+
+def main():
+    counts = Counts()
+    check_rows(sys.argv[1] if len(sys.argv) > 1 else TABLE, counts)
+    check_forms(counts)
+    check_search(counts)
+    check_files(counts)
+    check_many(counts)
+    check_memory(counts)
+    return told("command", counts.passed, counts.failed)
+
+
+if __name__ == "__main__":
+    sys.exit(main())

@@ -1,0 +1,120 @@
+//! `build` and `check`.
+
+use crate::ended::Ended;
+use crate::files::{input_name, read_input, write_output};
+use crate::form::form_of;
+use crate::index::index_text;
+use crate::jobs::unknown_language;
+use crate::notes::Notes;
+use crate::settings::{Settings, language_name};
+use crate::tell::{failed, troubled, warn};
+use clap::ArgMatches;
+use std::alloc::{AllocError, Global};
+use std::io;
+use std::time::Instant;
+
+/// What is done with the text of an index.
+#[derive(Clone, Copy, Debug, PartialEq, Eq)]
+pub(crate) enum Use {
+    Write,
+    Check,
+}
+
+/// What is asked for, and when that began.
+#[derive(Drop)]
+struct Task<'r, 'a> {
+    given: &'r ArgMatches<'a>,
+    wanted: Use,
+    begun: Instant,
+}
+
+/// Builds an index in the language that is asked for.
+pub(crate) fn build(rt: &HostRuntime, given: &ArgMatches<'_>, wanted: Use) -> io::Result<Ended> {
+    let task = Task {
+        given,
+        wanted,
+        begun: Instant::now(rt)?,
+    };
+    let Some(asked) = given.get_str("lang") else {
+        return build_from(rt, &task, None);
+    };
+    match language_name(rt.alloc(), asked)? {
+        Some(name) => build_from(rt, &task, Some(name)),
+        None => {
+            let said = unknown_language(rt.alloc(), asked)?;
+            eprintln!(rt; "elasticlunr: --lang: {said}")?;
+            Ok(Ended::Misused)
+        }
+    }
+}
+
+/// Reads the input, and builds its index.
+fn build_from(
+    rt: &HostRuntime,
+    task: &Task<'_, '_>,
+    language: Option<String>,
+) -> io::Result<Ended> {
+    let settings = Settings::of_words(rt.alloc(), task.given, language)?;
+    let file = task.given.get_str("file");
+    match read_input(rt, file) {
+        Ok(bytes) => build_of(rt, task, &settings, &bytes),
+        Err(e) => failed(rt, input_name(file), &e),
+    }
+}
+
+/// Builds the index of an input, and does with it what is wanted.
+fn build_of(
+    rt: &HostRuntime,
+    task: &Task<'_, '_>,
+    settings: &Settings,
+    bytes: &[u8],
+) -> io::Result<Ended> {
+    let name = input_name(task.given.get_str("file"));
+    let form = task.given.get_str("format").and_then(form_of);
+    let mut notes = Notes::new(rt.alloc());
+    let built = index_text(rt.alloc(), bytes, form, settings, &mut notes);
+    warn(rt, name, &notes.warnings)?;
+    match built {
+        Ok(_) if task.given.get_flag("strict") && !notes.warnings.is_empty() => Ok(Ended::Refused),
+        Ok(line) if task.wanted == Use::Write => write_index(
+            rt,
+            task,
+            line.as_str(),
+            notes.documents,
+        ),
+        Ok(_) => Ok(Ended::Done),
+        Err(trouble) => troubled(rt, name, trouble),
+    }
+}
+
+/// Writes the text of an index, and says how much it is.
+fn write_index(
+    rt: &HostRuntime,
+    task: &Task<'_, '_>,
+    line: &str,
+    documents: usize,
+) -> io::Result<Ended> {
+    let output = task.given.get_str("output");
+    let written = match task.given.get_str("js") {
+        Some(before) => {
+            let script = script_of(rt.alloc(), before, line)?;
+            write_output(rt, output, script.as_str())
+        }
+        None => write_output(rt, output, line),
+    };
+    match written {
+        Ok(()) => {
+            let bytes = line.len();
+            let seconds = task.begun.elapsed(rt)?.as_secs_f64();
+            eprintln!(rt; "elasticlunr: {documents} documents, {bytes} bytes, {seconds:.1} s")?;
+            Ok(Ended::Done)
+        }
+        Err(e) => failed(rt, output.unwrap_or("standard output"), &e),
+    }
+}
+
+/// The line of an index with a text before it, and a semicolon after it.
+fn script_of(alloc: Global, before: &str, line: &str) -> Result<String, AllocError> {
+    let index = line.strip_suffix('\n').unwrap_or(line);
+    format!(in alloc; "{before}{index};\n")
+}

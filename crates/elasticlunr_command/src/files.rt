@@ -1,0 +1,76 @@
+//! Files, standard input and standard output.
+
+use std::fs::OpenOptions;
+use std::io::{ErrorKind, Read, Write};
+use std::{fs, io, process};
+
+/// The name of an input in a message.
+pub(crate) fn input_name(file: Option<&str>) -> &str {
+    match file {
+        None | Some("-") => "standard input",
+        Some(path) => path,
+    }
+}
+
+/// The bytes of a file; of standard input where no file is named, or `-`.
+pub(crate) fn read_input(rt: &HostRuntime, file: Option<&str>) -> io::Result<Vec<u8>> {
+    match file {
+        None | Some("-") => {
+            let mut bytes = Vec::new(rt.alloc());
+            rt.stdin().read_to_end(&mut bytes)?;
+            Ok(bytes)
+        }
+        Some(path) => fs::read(rt, path),
+    }
+}
+
+/// Writes a text to a file, or to standard output where no file is named.
+pub(crate) fn write_output(rt: &HostRuntime, file: Option<&str>, text: &str) -> io::Result<()> {
+    match file {
+        None | Some("-") => rt.stdout().write_all(text.as_bytes()),
+        Some(path) => write_file(rt, path, text),
+    }
+}
+
+/// Writes a text to a file, whole or not at all. What is no plain file, as a device or a pipe, is
+/// written to as it stands.
+fn write_file(rt: &HostRuntime, path: &str, text: &str) -> io::Result<()> {
+    match fs::metadata(rt, path) {
+        Ok(old) if old.is_file() => {
+            let real = fs::canonicalize(rt, path)?;
+            replace(rt, real.as_str(), text)
+        }
+        Ok(_) => fs::write(rt, path, text),
+        Err(e) if e.kind() == ErrorKind::NotFound => replace(rt, path, text),
+        Err(e) => Err(e),
+    }
+}
+
+/// Writes a text to a new file beside this one, and gives it the name of this one.
+fn replace(rt: &HostRuntime, path: &str, text: &str) -> io::Result<()> {
+    let number = process::id(rt.process());
+    let beside = format!(in rt.alloc(); "{path}.{number}.new")?;
+    write_new(rt, beside.as_str(), text)?;
+    match fs::rename(rt, beside.as_str(), path) {
+        Ok(()) => Ok(()),
+        Err(e) => remove_after(rt, beside.as_str(), e),
+    }
+}
+
+/// Writes a text to a file that isn't there yet; after an error it isn't there.
+fn write_new(rt: &HostRuntime, path: &str, text: &str) -> io::Result<()> {
+    let mut file = OpenOptions::new()
+        .write(true)
+        .create_new(true)
+        .open(rt, path)?;
+    match file.write_all(text.as_bytes()) {
+        Ok(()) => Ok(()),
+        Err(e) => remove_after(rt, path, e),
+    }
+}
+
+/// Removes a file, and gives the error that came before.
+fn remove_after(rt: &HostRuntime, path: &str, before: io::Error) -> io::Result<()> {
+    fs::remove_file(rt, path)?;
+    Err(before)
+}

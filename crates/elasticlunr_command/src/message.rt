@@ -1,0 +1,157 @@
+//! What is wrong in an input: where, what, and what to do.
+
+use crate::form::is_blank;
+use crate::objects::{Kind, kind_of};
+use crate::place::{Place, Step, place_at, place_of};
+use elasticlunr::IndexError;
+use serde_json::{Error, Value};
+use std::alloc::{AllocError, AllocFailed, Global};
+
+/// A line for the user, and the place that it speaks of.
+#[derive(Debug, Drop)]
+pub(crate) struct Message {
+    pub place: Option<Place>,
+    pub text: String,
+}
+
+/// Why there is no index.
+#[derive(Debug, Drop)]
+pub(crate) enum Trouble {
+    Refused(Message),
+    Memory,
+}
+
+impl From<AllocError> for Trouble {
+    fn from(_refused: AllocError) -> Trouble {
+        Trouble::Memory
+    }
+}
+
+impl<T: Drop> From<AllocFailed<T>> for Trouble {
+    fn from(_refused: AllocFailed<T>) -> Trouble {
+        Trouble::Memory
+    }
+}
+
+impl From<IndexError> for Trouble {
+    fn from(_refused: IndexError) -> Trouble {
+        Trouble::Memory
+    }
+}
+
+/// A message about the member of a text that a path leads to.
+pub(crate) fn message_at(text: &[u8], path: &[Step<'_>], said: String) -> Message {
+    Message {
+        place: Some(place_of(text, path)),
+        text: said,
+    }
+}
+
+/// A message about no place.
+pub(crate) fn unplaced(said: String) -> Message {
+    Message {
+        place: None,
+        text: said,
+    }
+}
+
+/// What a value is, in words.
+pub(crate) fn kind_words(kind: Kind) -> &'static str {
+    match kind {
+        Kind::Null => "null",
+        Kind::Boolean => "a truth value",
+        Kind::Number => "a number",
+        Kind::Text => "a text",
+        Kind::Array => "a list",
+        Kind::Object => "an object",
+    }
+}
+
+/// A message that a value is of the wrong kind.
+pub(crate) fn wants(
+    alloc: Global,
+    text: &[u8],
+    path: &[Step<'_>],
+    label: &str,
+    value: &Value,
+    wanted: &str,
+) -> Result<Message, AllocError> {
+    let found = kind_words(kind_of(value));
+    let said = format!(in alloc; "{label}: {found}, where {wanted} is wanted")?;
+    Ok(message_at(text, path, said))
+}
+
+/// A message that a text is not JSON.
+pub(crate) fn not_json(alloc: Global, text: &[u8], error: &Error) -> Result<Message, AllocError> {
+    let offset = offset_of(text, error.line(), error.column());
+    let said = String::from_str(alloc, json_fault(text, offset, error))?;
+    Ok(Message {
+        place: Some(place_at(text, offset)),
+        text: said,
+    })
+}
+
+/// What keeps a text from being JSON.
+fn json_fault(text: &[u8], offset: usize, error: &Error) -> &'static str {
+    if text.starts_with(&[0xef, 0xbb, 0xbf]) {
+        "not JSON: a byte order mark stands before it; save the file as UTF-8 without one"
+    } else if is_blank(text) {
+        "not JSON: it is empty"
+    } else if error.is_eof() {
+        "not JSON: it ends in the middle of a value"
+    } else if has_half_escape(text, offset) {
+        "not JSON: an escape of half a character; `\\ud83d` needs its other half after it"
+    } else if std::str::from_utf8(text).is_err() {
+        "not JSON: it is not UTF-8"
+    } else {
+        "not JSON"
+    }
+}
+
+/// Half of a character of four bytes, as an escape has it.
+#[derive(Clone, Copy, Debug, PartialEq, Eq)]
+enum Half {
+    First,
+    Second,
+}
+
+/// Whether the text of JSON at an offset has an escape of half a character without the other half.
+fn has_half_escape(text: &[u8], offset: usize) -> bool {
+    for at in offset.saturating_add(1)..text.len() {
+        let is_alone = match half_at(text, at) {
+            Some(Half::First) => half_at(text, at.saturating_add(6)) != Some(Half::Second),
+            Some(Half::Second) => half_at(text, at.saturating_sub(6)) != Some(Half::First),
+            None => text[at] == b'"',
+        };
+        if is_alone {
+            return text[at] != b'"';
+        }
+    }
+    false
+}
+
+/// The half that the escape at an offset stands for.
+fn half_at(text: &[u8], at: usize) -> Option<Half> {
+    let Some([b'\\', b'u', b'd' | b'D', digit]) = text.get(at..at.saturating_add(4)) else {
+        return None;
+    };
+    match *digit {
+        b'8' | b'9' | b'a' | b'b' | b'A' | b'B' => Some(Half::First),
+        b'c'..=b'f' | b'C'..=b'F' => Some(Half::Second),
+        _ => None,
+    }
+}
+
+/// The offset of a line and a column, both from 1, which counts bytes.
+fn offset_of(text: &[u8], line: usize, column: usize) -> usize {
+    let mut left = line;
+    for (at, byte) in text.iter().enumerate() {
+        if left <= 1 {
+            return at.saturating_add(column.saturating_sub(1));
+        }
+        if *byte == b'\n' {
+            left -= 1;
+        }
+    }
+    text.len()
+}

@@ -1,0 +1,157 @@
+//! `search`: what a query finds in a printed index.
+
+use crate::ended::Ended;
+use crate::files::{input_name, read_input};
+use crate::message::{Trouble, not_json, unplaced};
+use crate::nearest::nearest;
+use crate::tell::{failed, troubled};
+use clap::ArgMatches;
+use elasticlunr_lang::{AnyLanguage, from_name};
+use elasticlunr_search::{Join, SearchError, Searcher};
+use serde_json::Value;
+use std::alloc::{AllocError, Global};
+use std::collections::BTreeMap;
+use std::io;
+
+/// What is searched for: a query in a field, or in each.
+#[derive(Drop)]
+struct Asked<'a> {
+    field: Option<&'a str>,
+    query: &'a str,
+    join: Join,
+}
+
+/// Prints the references that are found, one a line.
+pub(crate) fn search(rt: &HostRuntime, given: &ArgMatches<'_>) -> io::Result<Ended> {
+    let file = given.get_str("index");
+    let bytes = match read_input(rt, file) {
+        Ok(bytes) => bytes,
+        Err(e) => return failed(rt, input_name(file), &e),
+    };
+    let asked = Asked {
+        field: given.get_str("field"),
+        query: given.get_str("query").unwrap_or(""),
+        join: if given.get_flag("all") {
+            Join::All
+        } else {
+            Join::Any
+        },
+    };
+    match found_lines(rt.alloc(), &bytes, &asked) {
+        Ok(lines) => {
+            print!(rt; "{lines}")?;
+            Ok(Ended::Done)
+        }
+        Err(trouble) => troubled(rt, input_name(file), trouble),
+    }
+}
+
+/// The references that are found in the text of an index, each with a line feed after it.
+fn found_lines(alloc: Global, text: &[u8], asked: &Asked<'_>) -> Result<String, Trouble> {
+    let value = match Value::from_slice(alloc, text) {
+        Ok(value) => value,
+        Err(e) if e.is_memory() => return Err(Trouble::Memory),
+        Err(e) => return Err(Trouble::Refused(not_json(alloc, text, &e)?)),
+    };
+    let Some(language) = language_of(&value) else {
+        return Err(refused(alloc, "no index: it names no language")?);
+    };
+    let searcher = match Searcher::from_value(alloc, language, &value) {
+        Ok(searcher) => searcher,
+        Err(error) => return Err(not_searched(alloc, error)?),
+    };
+    let fields = fields_of(alloc, &value)?;
+    match asked.field {
+        Some(field) => lines_of_field(alloc, &searcher, &fields, field, asked),
+        None => lines_of_all(alloc, &searcher, &fields, asked),
+    }
+}
+
+/// The language that an index names.
+fn language_of(index: &Value) -> Option<AnyLanguage> {
+    from_name(index.get("lang")?.as_str()?)
+}
+
+/// The names of the fields of an index.
+fn fields_of<'v>(alloc: Global, index: &'v Value) -> Result<Vec<&'v str>, AllocError> {
+    let mut names = Vec::new(alloc);
+    if let Some(items) = index.get("fields").and_then(Value::as_array) {
+        for item in items {
+            names.push(item.as_str().unwrap_or(""))?;
+        }
+    }
+    Ok(names)
+}
+
+/// What is found in one field.
+fn lines_of_field(
+    alloc: Global,
+    searcher: &Searcher<AnyLanguage>,
+    fields: &[&str],
+    field: &str,
+    asked: &Asked<'_>,
+) -> Result<String, Trouble> {
+    match searcher.find(asked.join, field, asked.query) {
+        Ok(found) => {
+            let mut lines = String::new(alloc);
+            for reference in &found {
+                lines.push_str(reference.as_str())?;
+                lines.push('\n')?;
+            }
+            Ok(lines)
+        }
+        Err(SearchError::NoSuchField) => Err(no_field(alloc, fields, field)?),
+        Err(error) => Err(not_searched(alloc, error)?),
+    }
+}
+
+/// What is found in one field or another, in the order of the references' bytes.
+fn lines_of_all(
+    alloc: Global,
+    searcher: &Searcher<AnyLanguage>,
+    fields: &[&str],
+    asked: &Asked<'_>,
+) -> Result<String, Trouble> {
+    let mut all = BTreeMap::new(alloc);
+    for field in fields {
+        match searcher.find(asked.join, field, asked.query) {
+            Ok(found) => {
+                for reference in found {
+                    all.insert(reference, ())?;
+                }
+            }
+            Err(error) => return Err(not_searched(alloc, error)?),
+        }
+    }
+    let mut lines = String::new(alloc);
+    for reference in all.keys() {
+        lines.push_str(reference.as_str())?;
+        lines.push('\n')?;
+    }
+    Ok(lines)
+}
+
+/// That an index has no such field.
+fn no_field(alloc: Global, fields: &[&str], field: &str) -> Result<Trouble, AllocError> {
+    let said = match nearest(alloc, field, fields)? {
+        Some(near) => format!(in alloc; "no field \"{field}\"; did you mean \"{near}\"?")?,
+        None => format!(in alloc; "no field \"{field}\"")?,
+    };
+    Ok(Trouble::Refused(unplaced(said)))
+}
+
+/// Why nothing was searched.
+fn not_searched(alloc: Global, error: SearchError) -> Result<Trouble, AllocError> {
+    match error {
+        SearchError::Memory => Ok(Trouble::Memory),
+        SearchError::BadFields => refused(alloc, "no index: it has no list of fields"),
+        SearchError::BadTries => refused(alloc, "no index: a field has no tokens"),
+        SearchError::BadStore => refused(alloc, "no index: it has no store of documents"),
+        _ => refused(alloc, "no index"),
+    }
+}
+
+/// A refusal with these words.
+fn refused(alloc: Global, said: &str) -> Result<Trouble, AllocError> {
+    Ok(Trouble::Refused(unplaced(String::from_str(alloc, said)?)))
+}

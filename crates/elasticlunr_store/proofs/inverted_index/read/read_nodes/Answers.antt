@@ -7,7 +7,7 @@ use Rattle.elasticlunr_store.specs.Reading.{seen, ReadsNode}
 use Rattle.elasticlunr_store.proofs.Gathered.{none_all_listed, listed_behind, places_extended}
 use Rattle.elasticlunr_store.proofs.Reading.{length-seen, seen_there}
 use Rattle.elasticlunr_store.proofs.Refusals.{refused_again}
-use Rattle.elasticlunr_store.proofs.Waiting.{IsRead, root_read, node_read, read_tree, read_trie, root_refused}
+use Rattle.elasticlunr_store.proofs.Waiting.{IsRead, root_read, node_read, read_tree, read_trie, read_parents, root_refused}
 use Rattle.elasticlunr_store.proofs.inverted_index.read.read_nodes.Goals as goal
 
 pub returns-then-not-is_empty-clause-foreign : goal.returns-then-not-is_empty-clause-foreign
@@ -55,6 +55,7 @@ returns-clause-index c =
     let same : length c.loop-alloc.waiting.items ≡ length c.loop-alloc.nodes.items = omega (arith, c.loop-alloc-test.false, c.len.ensures, c.len-in-loop-alloc.ensures, held.read.low, c.loop-alloc.waiting.ok.0, c.loop-alloc.nodes.ok.0, length-seen c.loop-alloc.waiting.items) in
     record {
       trie = read_trie c.loop-alloc.names c.in_ok-root.root.items c.loop-alloc.nodes.items (view c.args.value.now) (seen c.loop-alloc.waiting.items) held.read (length-seen c.loop-alloc.waiting.items ∙ same);
+      parents = read_parents c.loop-alloc.names c.in_ok-root.root.items c.loop-alloc.nodes.items (view c.args.value.now) (seen c.loop-alloc.waiting.items) held.read (length-seen c.loop-alloc.waiting.items ∙ same);
       names_are = held.names_are;
       listed = held.listed;
     }

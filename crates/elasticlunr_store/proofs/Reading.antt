@@ -22,7 +22,7 @@ use Rattle.elasticlunr_store.specs.Children.{Children, child}
 use Rattle.elasticlunr_store.specs.Table.{Entries}
 use Rattle.elasticlunr_store.specs.Tree.{frequency, frequencies}
 use Rattle.elasticlunr_store.specs.Finished.{value_at}
-use Rattle.elasticlunr_store.specs.Reading.{seen, HasNewValues, ReadsChildren}
+use Rattle.elasticlunr_store.specs.Reading.{borrowed_values, HasNewValues, ReadsChildren}
 use Rattle.std.specs.Borrow.{Bor}
 use Rattle.elasticlunr_store.proofs.Docs.{bytes_of}
 use Rattle.elasticlunr_store.proofs.ReadingMaps.{object_of}
@@ -259,18 +259,18 @@ nothing_read vs = record {
 
 -- ---- values behind references
 
-pub seen_push : (rs : List (Bor Value)) (r : Bor Value) → seen (rs ++ r ∷ []) ≡ seen rs ++ r.now ∷ []
-seen_push [] r = refl
-seen_push (x ∷ rs) r = ap (λ vs. x.now ∷ vs) (seen_push rs r)
+pub borrowed_push : (rs : List (Bor Value)) (r : Bor Value) → borrowed_values (rs ++ r ∷ []) ≡ borrowed_values rs ++ r.now ∷ []
+borrowed_push [] r = refl
+borrowed_push (x ∷ rs) r = ap (λ vs. x.now ∷ vs) (borrowed_push rs r)
 
-pub length-seen : (rs : List (Bor Value)) → length (seen rs) ≡ length rs
-length-seen [] = refl
-length-seen (x ∷ rs) = ap suc (length-seen rs)
+pub length-borrowed : (rs : List (Bor Value)) → length (borrowed_values rs) ≡ length rs
+length-borrowed [] = refl
+length-borrowed (x ∷ rs) = ap suc (length-borrowed rs)
 
-seen_at : (rs : List (Bor Value)) (k : ℕ) (d : Bor Value) → k < length rs → slice_get (seen rs) k ≡ Some (get_or rs k d).now
-seen_at [] k d h = absurd (omega arith)
-seen_at (r ∷ rs) zero d h = refl
-seen_at (r ∷ rs) (suc k) d h = seen_at rs k d (omega arith)
+borrowed_at : (rs : List (Bor Value)) (k : ℕ) (d : Bor Value) → k < length rs → slice_get (borrowed_values rs) k ≡ Some (get_or rs k d).now
+borrowed_at [] k d h = absurd (omega arith)
+borrowed_at (r ∷ rs) zero d h = refl
+borrowed_at (r ∷ rs) (suc k) d h = borrowed_at rs k d (omega arith)
 
-pub seen_there : (rs : List (Bor Value)) (n k : ℕ) (r : Bor Value) → k < length rs → n ≡ k → r ≡ get_or rs n r → slice_get (seen rs) k ≡ Some r.now
-seen_there rs n k r h same is = seen_at rs k r h ∙ ap (λ j. Some (get_or rs j r).now) (sym same) ∙ ap (λ x. Some x.now) (sym is)
+pub borrowed_there : (rs : List (Bor Value)) (n k : ℕ) (r : Bor Value) → k < length rs → n ≡ k → r ≡ get_or rs n r → slice_get (borrowed_values rs) k ≡ Some r.now
+borrowed_there rs n k r h same is = borrowed_at rs k r h ∙ ap (λ j. Some (get_or rs j r).now) (sym same) ∙ ap (λ x. Some x.now) (sym is)

@@ -10,7 +10,7 @@ ghost use Rattle.elasticlunr_store.specs.Names.{Names, AreNumbered, AreThere, un
 ghost use Rattle.elasticlunr_store.specs.Nodes.{AreAllNumbered, postings_at};
 ghost use Rattle.elasticlunr_store.specs.Trie.{IsTrie, named, table_of, entries_at};
 ghost use Rattle.elasticlunr_store.specs.Tree.{IsTrieValue, frequencies};
-ghost use Rattle.elasticlunr_store.specs.Printed.{IsOrder, place_members, part, tokens_of, postings_tokens, left_members, node_members, stack_tokens, Advances, HasTrees};
+ghost use Rattle.elasticlunr_store.specs.Printed.{IsOrder, place_members, node_tree, tokens_of, postings_tokens, left_members, node_members, stack_tokens, Advances, HasTrees};
 
 use super::InvertedIndex;
 use super::docs::in_order;
@@ -84,7 +84,7 @@ fn write_members<W: Tokens>(
     requires trees { HasTrees order.names.now nodes.now }
     requires order { IsOrder order }
     requires numbered { AreAllNumbered order.names.now nodes.now }
-    ensures { OnOk result (W.Tokens.written out.new ≡ W.Tokens.written out.old ++ tokens_of (place_members (part order.entry.names.now nodes.now) (named order.entry.names.now empty) root.now)) }
+    ensures { OnOk result (W.Tokens.written out.new ≡ W.Tokens.written out.old ++ tokens_of (place_members (node_tree order.entry.names.now nodes.now) (named order.entry.names.now empty) root.now)) }
 {
     let mut stack = Vec::new(order.alloc);
     stack.push(Left::WithPostings(Place::Root, root))?;

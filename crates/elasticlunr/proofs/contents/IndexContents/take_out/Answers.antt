@@ -2,7 +2,7 @@ use Rattle.std.proofs.Common.{rules, ◌≡◌, ◌<◌, ◌≤◌, Some, ap, le
 use Rattle.elasticlunr.proofs.Removing.{IsTakenUpTo, taken_none, taken_more, written_whole}
 use Rattle.std.specs.List.{slice_get}
 use Rattle.elasticlunr.proofs.Pairing.{within_list}
-use Rattle.elasticlunr.proofs.contents.Contents.take_out.Goals as goal
+use Rattle.elasticlunr.proofs.contents.IndexContents.take_out.Goals as goal
 
 pub loop-trie-init : goal.loop-trie-init
 loop-trie-init c = subst (λ tables. IsTakenUpTo c.args.doc_ref.now 0 c.args.self.now.tries.items tables) (sym c.deref_mut-trie-items.ensures.value) (taken_none c.args.doc_ref.now c.args.self.now.tries.items)

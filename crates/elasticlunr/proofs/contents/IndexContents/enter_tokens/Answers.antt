@@ -12,7 +12,7 @@ use Rattle.elasticlunr.specs.Texts.{texts_left, token_texts, with_tokens, with_a
 use Rattle.elasticlunr.proofs.Counting.{mapped_there}
 use Rattle.elasticlunr.proofs.Entering.{adds_none, adds_more, one_more_field, length-mapped}
 use Rattle.elasticlunr.proofs.Pairing.{enumerated}
-use Rattle.elasticlunr.proofs.contents.Contents.enter_tokens.Goals as goal
+use Rattle.elasticlunr.proofs.contents.IndexContents.enter_tokens.Goals as goal
 
 pub enter_field-requires : goal.enter_field-requires
 enter_field-requires c =

@@ -4,8 +4,8 @@ use Rattle.elasticlunr_text.specs.Text.{bytes_of}
 use Rattle.elasticlunr_store.specs.Contents.{text_map}
 use Rattle.elasticlunr.specs.Texts.{token_texts, reference_alone, with_texts}
 use Rattle.elasticlunr.proofs.Entering.{holds_after}
-use Rattle.elasticlunr.proofs.contents.Contents.enter.Goals.{then-is_stored+in_ok-document, else-is_stored}
-use Rattle.elasticlunr.proofs.contents.Contents.enter.Goals as goal
+use Rattle.elasticlunr.proofs.contents.IndexContents.enter.Goals.{then-is_stored+in_ok-document, else-is_stored}
+use Rattle.elasticlunr.proofs.contents.IndexContents.enter.Goals as goal
 
 pub returns-clause-entered : goal.returns-clause-entered
 returns-clause-entered c =

@@ -9,7 +9,7 @@ use Rattle.elasticlunr.specs.Entered.{ReplacesPostings}
 use Rattle.elasticlunr.specs.Texts.{texts_left}
 use Rattle.elasticlunr.proofs.Pairing.{set_elsewhere}
 use Rattle.elasticlunr.proofs.Counting.{replaced_at}
-use Rattle.elasticlunr.proofs.contents.Contents.enter_field.Goals as goal
+use Rattle.elasticlunr.proofs.contents.IndexContents.enter_field.Goals as goal
 
 pub returns-clause-table : goal.returns-clause-table
 returns-clause-table c =

@@ -2,7 +2,7 @@ use Rattle.std.proofs.Common.{◌≡◌, map}
 use Rattle.elasticlunr_text.specs.Text.{bytes_of}
 use Rattle.elasticlunr.specs.Entered.{AddsTokens}
 use Rattle.elasticlunr.specs.Texts.{texts_left, with_all_tokens}
-use Rattle.elasticlunr.proofs.contents.Contents.enter_tokens.Given as goal
+use Rattle.elasticlunr.proofs.contents.IndexContents.enter_tokens.Given as goal
 
 abbrev pub invariant-loop-i : goal.invariant-loop-i
 invariant-loop-i l = record {

@@ -4,7 +4,7 @@ use Rattle.std.proofs.lemmas.Option.{slice_get_read}
 use Rattle.std.specs.Prelude.{IsSomeAnd, IfSome, IfOk, All}
 use Rattle.elasticlunr_text.specs.Text.{bytes_of}
 use Rattle.elasticlunr_store.specs.Table.{Table, IsTable}
-use Rattle.elasticlunr_store.specs.Contents.{Contents}
+use Rattle.elasticlunr_store.specs.Contents.{Contents, IsStoreValue}
 use Rattle.serde_json.specs.Data.{Data}
 use Rattle.serde_json.specs.Read.{read}
 use Rattle.elasticlunr.specs.declared.contents.IndexContents.{IndexContents}
@@ -67,7 +67,7 @@ value_of_own plan contents parts value are is = record {
     tries = is.printed.tries;
     documents = is.printed.documents;
     each_trie = subst (λ ts. AreTrieValues ts is.printed.tries) are.tries is.printed.each_trie;
-    store = subst (λ c. store.IsStoreValue c is.printed.documents) are.store is.printed.store;
+    store = subst (λ c. IsStoreValue c is.printed.documents) are.store is.printed.store;
     whole = is.printed.whole
         ∙ (λ i. index_object (record { fields = are.fields i; reference_field = are.reference_field i; save = plan.save; language = are.language i; stages = are.stages i }) is.printed.tries is.printed.documents);
   };

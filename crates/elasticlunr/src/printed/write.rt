@@ -1,7 +1,7 @@
 //! The JSON tokens of an index, with no JSON value built.
-ghost use Rattle.std.specs.Prelude.{◌≡◌, ℕ, List, [], ◌∷◌, ◌++◌, map, length, string_bytes, OnOk, IfOk};
+ghost use Rattle.std.specs.Prelude.{◌≡◌, ◌++◌, map, length, string_bytes, OnOk, IfOk};
 ghost use Rattle.json.specs.Tree.{members_tokens};
-ghost use Rattle.serde_json.specs.Data.{Data, array, object};
+ghost use Rattle.serde_json.specs.Data.{Data, array};
 ghost use Rattle.serde_json.specs.Written.{members_outline};
 ghost use Rattle.elasticlunr_store.specs.Tokens.{WritesValue};
 ghost use Rattle.elasticlunr.specs.Printed.{texts};

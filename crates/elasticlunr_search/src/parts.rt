@@ -1,5 +1,5 @@
 //! The parts of a printed index, out of its value.
-ghost use Rattle.std.specs.Prelude.{◌≡◌, ◌≢◌, List, Some, None, IfOk, IfErr, IsSomeAnd, codes};
+ghost use Rattle.std.specs.Prelude.{◌≡◌, ◌≢◌, List, Some, None, IfOk, IfErr};
 ghost use Rattle.elasticlunr_text.specs.Text.{Bytes, bytes_of};
 ghost use Rattle.elasticlunr_store.specs.Table.{Table};
 ghost use Rattle.elasticlunr_store.specs.Contents.{Contents, IsConsistent};

@@ -1,6 +1,5 @@
 //! Searches of a printed index, by a query in its language.
 ghost use Rattle.std.specs.Prelude.{◌≡◌, ◌<◌, ◌⊎◌, ◌↔◌, ℕ, List, false, Some, Err, IfOk, IfErr, IfSome, IsSome, IsTrue, length, option_map, slice_get};
-ghost use Rattle.std.specs.FinMap.{get};
 ghost use Rattle.elasticlunr_text.specs.Stages.{LeavesBy};
 ghost use Rattle.elasticlunr_text.specs.Text.{bytes_of, texts_of};
 ghost use Rattle.elasticlunr_store.specs.Contents.{text_map};

@@ -1,5 +1,6 @@
 //! Laws of the words that this crate's contracts speak of.
 pub mod calls;
+pub mod current;
 pub mod found;
 pub mod order;
 pub mod removal;

@@ -1,5 +1,6 @@
 -- What the calls of an index add to those before them.
 use Rattle.std.proofs.Common.{◌≡◌, inl, ℕ, List, [], ◌∷◌, ◌++◌, Option, refl, sym, ap, subst, ◌∙◌}
+use Rattle.std.specs.Prelude.{IfNone}
 use Rattle.std.specs.List.{AllZip}
 use Rattle.serde_json.specs.Data.{Data}
 use Rattle.elasticlunr_text.specs.Text.{Text, Bytes}
@@ -7,7 +8,7 @@ use Rattle.elasticlunr_text.specs.Stages.{names_of, IsRun}
 use Rattle.elasticlunr.specs.After.{IsAfter}
 use Rattle.elasticlunr.specs.Current.{IsPrintedAfter}
 use Rattle.elasticlunr.specs.Calls.{Call, adding, removing, compacting, followed_by, IsCommandOf, AreCommandsOf}
-use Rattle.elasticlunr.specs.Choices.{Choices, plan_with, Reads}
+use Rattle.elasticlunr.specs.Choices.{Choices, beginning, with_fields, fields_plan, language_plan, plan_with, Reads}
 use Rattle.elasticlunr.specs.Documents as documents
 use Rattle.elasticlunr.specs.History.{Document, Command, add, remove, compact, Commands, none, ◌▸◌}
 use Rattle.elasticlunr.specs.Index.{SameSettings, ForCommands, IsDocument, plan_of, reads_of, StandsFor}
@@ -17,6 +18,7 @@ use Rattle.elasticlunr.specs.Standing.{Plan}
 use Rattle.elasticlunr.specs.Tokenizers.{MayAnswer}
 use Rattle.elasticlunr.specs.declared.index.Index.{Index}
 use Rattle.elasticlunr.proofs.Calling.{document_more, plan_alike}
+use Rattle.elasticlunr.proofs.Choosing.{where_none}
 
 zip_more : {A B : Type 0} (R : A → B → Type 0) (xs : List A) (ys : List B) (x : A) (y : B) → AllZip R xs ys → R x y → AllZip R (xs ++ x ∷ []) (ys ++ y ∷ [])
 zip_more R [] [] x y all is = (is, tt)
@@ -89,3 +91,8 @@ new_after name_of name_text tokens_of leaves leaves_of language plan index print
   were = record { list = []; each = tt; whole = refl };
   stands = stands;
 }
+
+-- the plan of a builder that was given a language and fields alone
+pub plan_of_fields : {L P T : Type 0} (name_of : L → Bytes) (stages_of : L → List Bytes) (language : L) (names : List Bytes) (given : Choices L (Option P) T) (plan : Plan)
+    → given ≡ with_fields names (beginning language) → IfNone given.pipeline (plan ≡ language_plan name_of stages_of given) → plan ≡ fields_plan (name_of language) (stages_of language) names
+plan_of_fields name_of stages_of language names given plan same is = where_none given.pipeline _ (ap (λ c. c.pipeline) same) is ∙ ap (language_plan name_of stages_of) same

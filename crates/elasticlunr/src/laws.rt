@@ -5,3 +5,4 @@ pub mod found;
 pub mod order;
 pub mod removal;
 pub mod values;
+pub mod word;

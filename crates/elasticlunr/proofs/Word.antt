@@ -135,8 +135,8 @@ module _ (reference value : Bytes) (token : Text) (there : token ≢ []) where
       by_tests : (o : Option ℕ) (a b : Bool) → bytes_eq p token ≡ b → IsPosting (option_map_or (count_by (bytes_eq p)) (option_and_then (tokens_at 0) (cond a (Some (record { reference = reference; given = record { value = value; tokens = Some (token ∷ []) } ∷ [] })) None)) 0) o
           → o ≡ cond a (cond b (Some 1000000) None) None
       by_tests o false b e h = h
-      by_tests o true true e h = posted o (subst (λ x. IsPosting (cond x 1 0 + 0) o) e h)
-      by_tests o true false e h = subst (λ x. IsPosting (cond x 1 0 + 0) o) e h
+      by_tests o true true e h = posted o (subst (λ x. IsPosting (0 + cond x 1 0) o) e h)
+      by_tests o true false e h = subst (λ x. IsPosting (0 + cond x 1 0) o) e h
 
     no_posting : (p : Text) → p ≢ token → (q : Bytes) → posting table p q ≡ None
     no_posting p away q = by_test (bytes_eq p []) refl where
@@ -144,9 +144,9 @@ module _ (reference value : Bytes) (token : Text) (there : token ≢ []) where
       neither true o e = e
       neither false o e = refl
 
-      by_token : (b : Bool) → bytes_eq p token ≡ b → cond (bytes_eq q reference) (cond (bytes_eq p token) (Some 1000000) None) None ≡ None
+      by_token : (b : Bool) → bytes_eq p token ≡ b → cond {A = Option ℕ} (bytes_eq q reference) (cond (bytes_eq p token) (Some 1000000) None) None ≡ None
       by_token true e = absurd (away (same p token e))
-      by_token false e = ap (λ b. cond (bytes_eq q reference) (cond b (Some 1000000) None) None) e ∙ neither (bytes_eq q reference) None refl
+      by_token false e = ap (λ b. cond {A = Option ℕ} (bytes_eq q reference) (cond b (Some 1000000) None) None) e ∙ neither (bytes_eq q reference) None refl
 
       by_test : (b : Bool) → bytes_eq p [] ≡ b → posting table p q ≡ None
       by_test true e = ap (λ t. posting table t q) (same p [] e) ∙ is.no_empty q
@@ -161,10 +161,12 @@ module _ (reference value : Bytes) (token : Text) (there : token ≢ []) where
     -- ---- its tree
 
     leaf_none : (c : ℕ) → get_member (encode_utf8 c) (member (codes "df") (number (unsigned 1)) (member (codes "docs") (object (frequencies ((reference, 1000000) ∷ []))) no_members)) ≡ None
-    leaf_none c = get_other (encode_utf8 c) (codes "df") _ _ (apart_df c) ∙ get_other (encode_utf8 c) (codes "docs") _ no_members (apart_docs c)
+    leaf_none c = get_other (encode_utf8 c) (codes "df") (number (unsigned 1)) (member (codes "docs") (object (frequencies ((reference, 1000000) ∷ []))) no_members) (apart_df c)
+        ∙ get_other (encode_utf8 c) (codes "docs") (object (frequencies ((reference, 1000000) ∷ []))) no_members (apart_docs c)
 
     bare_none : (c : ℕ) → get_member (encode_utf8 c) bare ≡ None
-    bare_none c = get_other (encode_utf8 c) (codes "df") _ _ (apart_df c) ∙ get_other (encode_utf8 c) (codes "docs") _ no_members (apart_docs c)
+    bare_none c = get_other (encode_utf8 c) (codes "df") (number (unsigned 0)) (member (codes "docs") (object no_members) no_members) (apart_df c)
+        ∙ get_other (encode_utf8 c) (codes "docs") (object no_members) no_members (apart_docs c)
 
     not_some : {X : Type 0} (o : Option X) → o ≡ None → ¬ IsSome o
     not_some o e some = true≢false (sym some ∙ ap is_some e)
@@ -248,8 +250,8 @@ module _ (reference value : Bytes) (token : Text) (there : token ≢ []) where
       stored_at true = refl
       stored_at false = refl
 
-      length_there : (f : Bytes) (b : Bool) → option_and_then (λ m. map.get m f) (cond b (Some (map.insert map.empty field 1)) None)
-          ≡ option_and_then (λ d. length_in (field ∷ []) d.given f) (cond b (Some (record { reference = reference; given = record { value = value; tokens = Some (token ∷ []) } ∷ [] })) None)
+      length_there : (f : Bytes) (b : Bool) → option_and_then (λ m. map.get m f) (cond b (Some (map.insert (map.empty {X = ℕ} {R = text_cmp}) field 1)) None)
+          ≡ option_and_then (λ (d : Document). length_in (field ∷ []) d.given f) (cond b (Some (record { reference = reference; given = record { value = value; tokens = Some (token ∷ []) } ∷ [] })) None)
       length_there f true = get_one field 1 f
       length_there f false = refl
 

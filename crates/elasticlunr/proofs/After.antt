@@ -4,13 +4,13 @@ use Rattle.std.specs.Prelude.{IfNone}
 use Rattle.std.specs.List.{AllZip}
 use Rattle.serde_json.specs.Data.{Data}
 use Rattle.elasticlunr_text.specs.Text.{Text, Bytes}
-use Rattle.elasticlunr_text.specs.Stages.{names_of, IsRun}
+use Rattle.elasticlunr_text.specs.Stages.{IsRun}
 use Rattle.elasticlunr.specs.After.{IsAfter}
 use Rattle.elasticlunr.specs.Current.{IsPrintedAfter}
-use Rattle.elasticlunr.specs.Calls.{Call, adding, removing, compacting, followed_by, IsCommandOf, AreCommandsOf}
-use Rattle.elasticlunr.specs.Choices.{Choices, beginning, with_fields, fields_plan, language_plan, plan_with, Reads}
+use Rattle.elasticlunr.specs.Calls.{Call, adding, followed_by, IsCommandOf, AreCommandsOf}
+use Rattle.elasticlunr.specs.Choices.{Choices, beginning, with_fields, fields_plan, language_plan, Reads}
 use Rattle.elasticlunr.specs.Documents as documents
-use Rattle.elasticlunr.specs.History.{Document, Command, add, remove, compact, Commands, none, ◌▸◌}
+use Rattle.elasticlunr.specs.History.{Document, Command, add, Commands, none, ◌▸◌}
 use Rattle.elasticlunr.specs.Index.{SameSettings, ForCommands, IsDocument, plan_of, reads_of, StandsFor}
 use Rattle.elasticlunr.specs.Printed.{IsTextAfter}
 use Rattle.elasticlunr.specs.Reading.{LanguageReads, ReadsOnly}

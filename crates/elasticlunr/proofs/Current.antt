@@ -1,17 +1,17 @@
 -- Where nothing is left but the current documents, these decide the text.
-use Rattle.std.proofs.Common.{◌≡◌, ◌≢◌, ◌⊎◌, inl, inr, ℕ, List, [], ◌∷◌, ◌++◌, map, Bool, true, false, cond, not, ◌&&◌, ◌||◌, Option, None, Some, IsTrue, bytes_eq, true≢false, refl, sym, ap, subst, ◌∙◌}
+use Rattle.std.proofs.Common.{◌≡◌, ◌⊎◌, inl, inr, ℕ, List, [], ◌∷◌, ◌++◌, map, Bool, true, false, cond, not, ◌&&◌, ◌||◌, Option, None, Some, IsTrue, bytes_eq, true≢false, refl, sym, ap, subst, ◌∙◌}
 use Rattle.std.proofs.lemmas.Slice.Eq.{bytes_eq-Decides}
 use Rattle.std.specs.List.{AllZip}
 use Rattle.elasticlunr_text.specs.Text.{Text, Bytes}
 use Rattle.serde_json.specs.Data.{Data}
-use Rattle.elasticlunr.specs.Current.{values_after, current, AddEachOnce, EndCompacting, LeaveOnlyCurrent, IsPrintedAfter}
+use Rattle.elasticlunr.specs.Current.{values_after, current, LeaveOnlyCurrent, IsPrintedAfter}
 use Rattle.elasticlunr.specs.Calls.{Call, adding, removing, compacting, HasOneDocument, followed_by, IsCommandOf, AreCommandsOf}
 use Rattle.elasticlunr.specs.Documents.{IsDocument}
 use Rattle.elasticlunr.specs.Fields.{has_name, all_differ}
 use Rattle.elasticlunr.specs.History.{Document, Command, add, remove, compact, Commands, none, ◌▸◌, now, Agree, EndsCompacted, AddsEachOnce}
-use Rattle.elasticlunr.specs.Printed.{IsValue, IsTextAfter}
+use Rattle.elasticlunr.specs.Printed.{IsValue}
 use Rattle.elasticlunr.specs.Standing.{Plan}
-use Rattle.elasticlunr.proofs.Adding.{same, apart}
+use Rattle.elasticlunr.proofs.Adding.{same}
 use Rattle.elasticlunr.proofs.Agreeing.{holds_agreed}
 use Rattle.elasticlunr.proofs.Fresh.{fresh_value}
 

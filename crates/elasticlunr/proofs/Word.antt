@@ -1,5 +1,5 @@
 -- What an index of one document holds, in whose one field one token is read.
-use Rattle.std.proofs.Common.{◌≡◌, ◌≢◌, ◌↔◌, ◌⊎◌, inl, inr, ℕ, zero, suc, ◌<◌, ◌≤◌, ◌*◌, ◌+◌, ◌^◌, List, [], ◌∷◌, ◌++◌, length, arith, map, Bool, true, false, cond, Option, None, Some, is_some, IsTrue, IsSome, IfSome, option_map, option_and_then, codes, encode_utf8, bytes_eq, true≢false, refl, sym, ap, subst, ◌∙◌, append-nil, append_assoc, Less, Equal, Greater}
+use Rattle.std.proofs.Common.{◌≡◌, ◌≢◌, inl, inr, ℕ, zero, suc, ◌<◌, ◌≤◌, ◌*◌, ◌+◌, List, [], ◌∷◌, ◌++◌, length, arith, map, Bool, true, false, cond, Option, None, Some, is_some, IsTrue, IsSome, IfSome, option_map, option_and_then, codes, encode_utf8, bytes_eq, true≢false, refl, sym, ap, subst, ◌∙◌, append-nil, append_assoc, Less, Equal, Greater}
 use Rattle.std.specs.Prelude.{IsSomeAnd, Contains, count_by, slice_index_or}
 use Rattle.std.proofs.lemmas.Nat.{mul-le}
 use Rattle.std.proofs.lemmas.Bool.{cases_eq, cases_lt}
@@ -15,20 +15,20 @@ use Rattle.serde_json.specs.Data.{Data, number, string, object, unsigned, Member
 use Rattle.serde_json.specs.Find.{get_member}
 use Rattle.serde_json.proofs.Views.{get_member-put, get_member-put_other}
 use Rattle.elasticlunr_text.specs.Text.{Text, Bytes, text_cmp}
-use Rattle.elasticlunr_store.specs.Contents.{Contents, TextMap, LengthMap, IsConsistent, length_at, store_value, store_object}
+use Rattle.elasticlunr_store.specs.Contents.{Contents, TextMap, LengthMap, store_value, store_object}
 use Rattle.elasticlunr_store.specs.Maps.{members, keyed, count}
-use Rattle.elasticlunr_store.specs.Table.{Table, Postings, knows, postings, posting, IsPrefix}
+use Rattle.elasticlunr_store.specs.Table.{Table, knows, postings, posting, IsPrefix}
 use Rattle.elasticlunr_store.specs.Tree.{frequencies, IsTree, AreParts, HasKeysInOrder, IsTrieValue}
 use Rattle.elasticlunr_store.proofs.Finishing.{letters_same, not_letter}
 use Rattle.elasticlunr_store.proofs.Tables.{text_tie}
 use Rattle.elasticlunr_store.proofs.Printed.{get_other}
-use Rattle.elasticlunr.specs.History.{Given, Document, Command, add, remove, compact, Commands, none, ◌▸◌, now}
+use Rattle.elasticlunr.specs.History.{Given, Document, Command, add, remove, compact, Commands, none, ◌▸◌}
 use Rattle.elasticlunr.specs.Calls.{adding, followed_by, IsCommandOf}
 use Rattle.elasticlunr.specs.Current.{IsPrintedAfter}
 use Rattle.elasticlunr.specs.Documents.{IsGiven, IsDocument}
 use Rattle.elasticlunr.specs.Printed.{IsValue, AreTrieValues, trie, index_object}
 use Rattle.elasticlunr.specs.Root.{IsRoot}
-use Rattle.elasticlunr.specs.Standing.{Plan, tokens_at, Begins, occurrences, IsPosting, IsTableOf, stored, length_in, IsContentsOf}
+use Rattle.elasticlunr.specs.Standing.{Plan, tokens_at, Begins, IsPosting, IsTableOf, stored, length_in, IsContentsOf}
 use Rattle.elasticlunr.specs.Word.{word_tree, word_trie, word_store}
 use Rattle.elasticlunr.proofs.Adding.{same, apart, either}
 use Rattle.elasticlunr.proofs.Fresh.{same_contents}

@@ -1,7 +1,8 @@
 -- Which documents are current, whatever the order of their references.
-use Rattle.std.proofs.Common.{◌≡◌, ◌≢◌, Bool, true, false, cond, not, ◌&&◌, ◌||◌, Option, None, Some, bytes_eq, refl, sym, ap, ◌∙◌}
+use Rattle.std.proofs.Common.{◌≡◌, ◌≢◌, [], ◌∷◌, IsTrue, Bool, true, false, cond, not, ◌&&◌, ◌||◌, Option, None, Some, bytes_eq, refl, sym, ap, ◌∙◌}
 use Rattle.std.proofs.lemmas.Slice.Eq.{bytes_eq-Decides}
 use Rattle.elasticlunr_text.specs.Text.{Bytes}
+use Rattle.elasticlunr.specs.Fields.{all_differ}
 
 -- other texts are not equal
 pub unequal : (r s : Bytes) → r ≢ s → bytes_eq r s ≡ false
@@ -13,6 +14,9 @@ unequal r s apart = by_test (bytes_eq r s) refl where
 -- a text does not equal two others
 pub not_both : (q r s : Bytes) → r ≢ s → bytes_eq q r ≡ true → bytes_eq q s ≡ true → ⊥
 not_both q r s apart one other = apart (sym ((bytes_eq-Decides q r).0 one) ∙ (bytes_eq-Decides q s).0 other)
+
+pub two_differ : (r s : Bytes) → r ≢ s → IsTrue (all_differ (r ∷ s ∷ []))
+two_differ r s apart = ap (λ b. not (b || false) && (not false && true)) (unequal s r (λ e. apart (sym e)))
 
 module _ {X : Type 0} where
   pub either_order : (a b : Bool) (x y : Option X) → (a ≡ true → b ≡ true → ⊥) → cond b y (cond a x None) ≡ cond a x (cond b y None)

@@ -21,11 +21,19 @@ values_after before (compacting ∷ calls) r = values_after before calls r
 abbrev pub current : List Call → Bytes → Option (List Bytes)
 current calls r = values_after None calls r
 
--- documents are added, as a reference and its values, and nothing else is done; no reference stands twice
+-- no two of the documents, each a reference and its values, have the same reference
+abbrev pub HaveOwnReferences : List (Bytes × List Bytes) → Type 0
+HaveOwnReferences documents = IsTrue (all_differ (map (λ document. document.0) documents))
+
+-- the calls that add them, in order
+abbrev pub additions : List (Bytes × List Bytes) → List Call
+additions documents = map (λ document. adding document.0 document.1) documents
+
+-- documents of different references are added, and nothing else is done
 pub record AddEachOnce (calls : List Call) : Type 0 where
   pub documents : List (Bytes × List Bytes)
-  pub differ : IsTrue (all_differ (map (λ document. document.0) documents))
-  pub are : calls ≡ map (λ document. adding document.0 document.1) documents
+  pub differ : HaveOwnReferences documents
+  pub are : calls ≡ additions documents
 
 -- the last call is a compaction
 pub record EndCompacting (calls : List Call) : Type 0 where

@@ -1,11 +1,11 @@
 //! Laws of texts that the current documents decide.
-ghost use Rattle.std.specs.Prelude.{◌≡◌, ℕ, List};
+ghost use Rattle.std.specs.Prelude.{◌≡◌, ◌↔◌, ℕ, List, Contains};
 ghost use Rattle.elasticlunr_text.specs.Text.{Bytes};
 ghost use Rattle.elasticlunr_lang.specs.Known.{language_leaves};
 ghost use Rattle.elasticlunr_lang.specs.Words.{words};
 ghost use Rattle.elasticlunr_lang.specs.declared.any.AnyLanguage.{AnyLanguage};
 ghost use Rattle.elasticlunr.specs.Calls.{Call};
-ghost use Rattle.elasticlunr.specs.Current.{current, IsPrintedAfter, LeaveOnlyCurrent};
+ghost use Rattle.elasticlunr.specs.Current.{additions, current, HaveOwnReferences, IsPrintedAfter, LeaveOnlyCurrent};
 ghost use Rattle.elasticlunr.specs.Reading.{LanguageReads};
 ghost use Rattle.elasticlunr.specs.Standing.{Plan};
 ghost use Rattle.serde_json.specs.Data.{Data};
@@ -23,4 +23,14 @@ pub fn current_documents_decide_the_text()
 {
     a_kept_language_makes_one_document();
     agreeing_commands_have_equal_values();
+}
+
+/// Documents of different references may be added in any order.
+pub fn documents_may_come_in_any_order()
+    ensures { (language : AnyLanguage) (plan : Plan) (text_of : Data → List ℕ) (documents : List (Bytes × List Bytes)) (others : List (Bytes × List Bytes)) (text : List ℕ) (another : List ℕ)
+        → HaveOwnReferences documents → HaveOwnReferences others → ((document : Bytes × List Bytes) → Contains documents document ↔ Contains others document)
+        → IsPrintedAfter (LanguageReads words (language_leaves language)) text_of plan (additions documents) text
+        → IsPrintedAfter (LanguageReads words (language_leaves language)) text_of plan (additions others) another → text ≡ another }
+{
+    current_documents_decide_the_text();
 }

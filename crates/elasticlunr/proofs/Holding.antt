@@ -21,6 +21,10 @@ pub if_ok : {T E : Type 0} (r : Result T E) (P Q : T → Type 0) → ((x : T) �
 if_ok (Ok x) P Q f h = f x h
 if_ok (Err e) P Q f h = h
 
+pub both_ok : {T E : Type 0} (r : Result T E) (P Q : T → Type 0) → IfOk r P → IfOk r Q → IfOk r (λ x. P x × Q x)
+both_ok (Ok x) P Q p q = (p, q)
+both_ok (Err e) P Q p q = p
+
 -- its contents
 pub held : (plan : Plan) (there : Option IndexContents) (contents : IndexContents) (commands : Commands) → there ≡ Some contents
     → IsSomeAnd there (λ c. Holds plan commands c.tries.items c.store) → Holds plan commands contents.tries.items contents.store

@@ -1,0 +1,42 @@
+use Rattle.std.proofs.Common.{◌≡◌, ◌≢◌, ◌⊎◌, inl, inr, ◌≤◌, arith, length, List, [], ◌∷◌, ◌++◌, Option, None, Some, map, filter_map, codes, encode_utf8, refl, ap, subst, ◌∙◌}
+use Rattle.std.specs.List.{AllZip}
+use Rattle.std.specs.Str.{chars}
+use Rattle.serde_json.specs.Written.{compact_text}
+use Rattle.elasticlunr_text.specs.Text.{Text}
+use Rattle.elasticlunr_text.specs.Stems.{Stem}
+use Rattle.elasticlunr_lang.specs.Known.{language_leaves, language_name, language_stages}
+use Rattle.elasticlunr_lang.specs.Lower.{lower}
+use Rattle.elasticlunr_lang.specs.StopWords.{english_stop_words}
+use Rattle.elasticlunr_lang.specs.Words.{words, is_separator}
+use Rattle.elasticlunr_lang.specs.declared.any.AnyLanguage.TheVariants.{English as english}
+use Rattle.elasticlunr_lang.specs.declared.kept.english.English.{English}
+use Rattle.elasticlunr.specs.Choices.{fields_plan}
+use Rattle.elasticlunr.specs.Reading.{LanguageReads}
+use Rattle.elasticlunr.specs.Word.{one_field_plan, word_value}
+use Rattle.elasticlunr_uses.proofs.first.first_index.Goals as goal
+
+-- the word of the text
+one_word : words (chars (codes "go")) ≡ codes "go" ∷ []
+unfolding is_separator lower
+one_word = refl
+
+-- a word of two letters is its own stem
+two_letters : (stem : Text) → Stem (codes "go") stem → stem ≡ codes "go"
+two_letters stem (inl is) = is.1
+two_letters stem (inr is) = absurd (omega (arith, is.0))
+
+its_stem : (left : Option Text) → language_leaves english (codes "go") left → left ≡ Some (codes "go")
+unfolding english_stop_words
+its_stem None is = absurd is
+its_stem (Some stem) is = ap Some (two_letters stem is)
+
+one_left : (lefts : List (Option Text)) → AllZip (language_leaves english) (codes "go" ∷ []) lefts → filter_map (λ left. left) lefts ≡ codes "go" ∷ []
+one_left [] each = absurd each
+one_left (left ∷ next ∷ lefts) each = absurd each.1
+one_left (left ∷ []) each = ap (λ l. filter_map (λ x. x) (l ∷ [])) (its_stem left each.0)
+
+only_go : (tokens : List Text) → LanguageReads words (language_leaves english) 0 (codes "go") tokens → tokens ≡ codes "go" ∷ []
+only_go tokens is = is.are ∙ one_left is.lefts (subst (λ made. AllZip (language_leaves english) made is.lefts) one_word is.each)
+
+pub returns : goal.returns
+returns c = ?

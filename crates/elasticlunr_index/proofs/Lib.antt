@@ -1,13 +1,1 @@
 pub mod Devices
-pub mod JobValues
-pub mod Stops
-pub mod KeyTests
-pub mod Readings
-pub mod Alike
-pub mod Filling
-pub mod Printing
-pub mod Building
-pub mod OneJob
-pub mod OneLanguage
-pub mod OneLine
-pub mod OneAnswer

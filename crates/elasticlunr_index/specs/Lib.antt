@@ -1,11 +1,3 @@
 pub mod Device
-pub mod Job
-pub mod JobTold
-pub mod Stop
-pub mod Keys
-pub mod Commands
-pub mod Answer
-pub mod IndexStop
-pub mod Filled
 pub mod Status
 pub mod Run

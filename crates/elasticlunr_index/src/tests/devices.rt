@@ -1,6 +1,6 @@
 use super::{Pieces, Room, ran};
 use crate::device::{Fault, FromRead, ToWrite};
-use crate::outcome::{Outcome, Refusal, RunError};
+use crate::outcome::RunError;
 use crate::run::{run, status};
 use std::alloc::Global;
 use std::test::Fail;

@@ -1,6 +1,7 @@
 use super::ran;
-use crate::outcome::{Outcome, Refusal, RunError};
+use crate::outcome::RunError;
 use crate::run::status;
+use elasticlunr_job::outcome::{Outcome, Refusal};
 use serde_json::Value;
 use std::alloc::{AllocError, Global};
 use std::test::Fail;

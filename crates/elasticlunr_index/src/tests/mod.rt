@@ -2,8 +2,9 @@ mod devices;
 mod jobs;
 
 use crate::device::{FromRead, ToWrite};
-use crate::outcome::{Outcome, RunError};
+use crate::outcome::RunError;
 use crate::run::run;
+use elasticlunr_job::outcome::Outcome;
 use std::alloc::Global;
 use std::io;
 use std::io::{ErrorKind, Read, Write};

@@ -1,0 +1,12 @@
+pub mod JobValues
+pub mod Stops
+pub mod KeyTests
+pub mod Readings
+pub mod Alike
+pub mod Filling
+pub mod Printing
+pub mod Building
+pub mod OneJob
+pub mod OneLanguage
+pub mod OneLine
+pub mod OneAnswer

@@ -1,0 +1,44 @@
+-- A job has one line in a language.
+use Rattle.std.proofs.Common.{◌≡◌, List, [], ◌∷◌, refl, sym, ap, subst, ◌∙◌}
+use Rattle.std.specs.List.{AllZip}
+use Rattle.serde_json.specs.Data.{Data}
+use Rattle.elasticlunr_text.specs.Text.{Bytes}
+use Rattle.elasticlunr_lang.specs.Known.{language_leaves}
+use Rattle.elasticlunr_lang.specs.declared.any.AnyLanguage.{AnyLanguage}
+use Rattle.elasticlunr.specs.Calls.{HasOneDocument, followed_by}
+use Rattle.elasticlunr.specs.Documents.{IsDocument}
+use Rattle.elasticlunr.specs.History.{Commands, none}
+use Rattle.elasticlunr.specs.Printed.{IsValue}
+use Rattle.elasticlunr.specs.Reading.{LanguageReads}
+use Rattle.elasticlunr.specs.Standing.{Plan}
+use Rattle.elasticlunr_job.specs.Answer.{IsIndexLine, line, printed_text}
+use Rattle.elasticlunr_job.specs.Commands.{IsAdded, in_order, job_plan, language_tokens}
+use Rattle.elasticlunr_job.specs.Job.{Job}
+
+-- settings and commands have one value
+abbrev pub OneValue : Type 0
+OneValue = (plan : Plan) (commands : Commands) (v w : Data) → IsValue plan commands v → IsValue plan commands w → v ≡ w
+
+-- a language makes one document of a reference and values
+abbrev pub OneDocument : Type 0
+OneDocument = (fields : List Bytes) (reference_field : Bytes) (language : AnyLanguage) → HasOneDocument (IsDocument fields reference_field (LanguageReads (language_tokens language) (language_leaves language)))
+
+-- what is related to the items of a list, where each has one partner
+one_zip : {A B : Type 0} (R : A → B → Type 0) → ((x : A) (y z : B) → R x y → R x z → y ≡ z) → (xs : List A) (ys zs : List B) → AllZip R xs ys → AllZip R xs zs → ys ≡ zs
+one_zip R one [] [] [] a b = refl
+one_zip R one [] [] (z ∷ zs) a b = absurd b
+one_zip R one [] (y ∷ ys) zs a b = absurd a
+one_zip R one (x ∷ xs) [] zs a b = absurd a
+one_zip R one (x ∷ xs) (y ∷ ys) [] a b = absurd b
+one_zip R one (x ∷ xs) (y ∷ ys) (z ∷ zs) a b =
+    let head : y ≡ z = one x y z a.0 b.0 in
+    let tail : ys ≡ zs = one_zip R one xs ys zs a.1 b.1 in cc
+
+pub one_line : OneValue → OneDocument → (job : Job) (language : AnyLanguage) (t u : Bytes) → IsIndexLine job language t → IsIndexLine job language u → t ≡ u
+one_line values documents job language t u a b =
+    let one = documents job.fields job.reference_field language in
+    let same : a.are_commands.documents ≡ b.are_commands.documents =
+    one_zip (IsAdded job language) (λ doc d e. one doc.reference doc.values d e) job.docs a.are_commands.documents b.are_commands.documents a.are_commands.each b.are_commands.each in
+    let commands : a.commands ≡ b.commands = a.are_commands.whole ∙ (ap (λ ds. followed_by none (in_order job ds)) same ∙ sym b.are_commands.whole) in
+    let value : a.value ≡ b.value = values (job_plan job language) b.commands a.value b.value (subst (λ cs. IsValue (job_plan job language) cs a.value) commands a.is_value) b.is_value in
+    a.printed ∙ (ap (λ v. line (printed_text job.pretty v)) value ∙ sym b.printed)

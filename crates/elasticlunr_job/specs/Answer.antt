@@ -1,0 +1,88 @@
+-- The answer to an input: the outcome, and what is written.
+use Rattle.std.specs.Prelude.{◌≡◌, ◌<◌, ◌≤◌, List, [], ◌∷◌, ◌++◌, Bool, length, All, Any, codes, Option, Some, None, true, false, if◌then◌else◌}
+use Rattle.std.specs.Str.{is_utf8}
+use Rattle.serde_json.specs.Data.{Data}
+use Rattle.serde_json.specs.Read.{read}
+use Rattle.serde_json.specs.Written.{compact_text}
+use Rattle.elasticlunr_text.specs.Text.{Bytes}
+use Rattle.elasticlunr_lang.specs.declared.any.AnyLanguage.{AnyLanguage}
+use Rattle.elasticlunr_lang.specs.Known.{language_name}
+use Rattle.elasticlunr.specs.Fields.{all_differ}
+use Rattle.elasticlunr.specs.History.{Commands}
+use Rattle.elasticlunr.specs.Printed.{IsValue, pretty_text}
+use Rattle.elasticlunr_job.specs.Commands.{AreCommandsOf, job_plan}
+use Rattle.elasticlunr_job.specs.Job.{Document, Job, IsJob}
+use Rattle.elasticlunr_job.specs.declared.outcome.Outcome.{Outcome}
+use Rattle.elasticlunr_job.specs.declared.outcome.Outcome.TheVariants.{Printed, Refused}
+use Rattle.elasticlunr_job.specs.declared.outcome.Refusal.{Refusal}
+use Rattle.elasticlunr_job.specs.declared.outcome.Refusal.TheVariants.{NotJson, NotAJob, UnknownLanguage, DuplicateField, TooManyValues}
+
+-- the value that serde_json reads from bytes, which have to be UTF-8
+abbrev pub reading : Bytes → Option Data
+reading bytes = if is_utf8 bytes then read bytes else None
+
+-- the value is no job
+abbrev pub IsNoJob : Data → Type 0
+IsNoJob d = (job : Job) → ¬ IsJob d job
+
+-- the bytes are JSON, and that is this job
+abbrev pub HasJob : Bytes → Job → Type 0
+HasJob bytes job = (d : Data) × (reading bytes ≡ Some d) × IsJob d job
+
+abbrev pub HasTooMany : List Bytes → Document → Type 0
+HasTooMany fields doc = length fields < length doc.values
+
+-- there is a language with this name
+abbrev pub NamesLanguage : Bytes → Type 0
+NamesLanguage name = (language : AnyLanguage) × (language_name language ≡ name)
+
+-- the check that the job fails first
+abbrev pub FailsAt : Job → Refusal → Type 0
+FailsAt job NotJson = ⊥
+FailsAt job NotAJob = ⊥
+FailsAt job UnknownLanguage = ¬ NamesLanguage job.language
+FailsAt job DuplicateField = NamesLanguage job.language × (all_differ job.fields ≡ false)
+FailsAt job TooManyValues = NamesLanguage job.language × (all_differ job.fields ≡ true) × Any (HasTooMany job.fields) job.docs
+
+-- the job passes all checks, and its language is this one
+pub record Passes (job : Job) (language : AnyLanguage) : Type 0 where
+  pub named : language_name language ≡ job.language
+  pub distinct : all_differ job.fields ≡ true
+  pub fits : All (λ doc. length doc.values ≤ length job.fields) job.docs
+
+-- the check that the input fails first
+abbrev pub IsRefused : Bytes → Refusal → Type 0
+IsRefused bytes NotJson = reading bytes ≡ None
+IsRefused bytes NotAJob = (d : Data) × (reading bytes ≡ Some d) × IsNoJob d
+IsRefused bytes refusal = (job : Job) × HasJob bytes job × FailsAt job refusal
+
+abbrev pub printed_text : Bool → Data → Bytes
+printed_text pretty value = if pretty then pretty_text value else compact_text value
+
+abbrev pub refusal_text : Refusal → Bytes
+refusal_text NotJson = codes "refused: not JSON"
+refusal_text NotAJob = codes "refused: not a job"
+refusal_text UnknownLanguage = codes "refused: unknown language"
+refusal_text DuplicateField = codes "refused: duplicate field"
+refusal_text TooManyValues = codes "refused: too many values"
+
+-- a text and a line feed
+abbrev pub line : Bytes → Bytes
+line text = text ++ 10 ∷ []
+
+-- the text of the index that the job asks for, in this language, and a line feed
+pub record IsIndexLine (job : Job) (language : AnyLanguage) (text : Bytes) : Type 0 where
+  pub commands : Commands
+  pub value : Data
+  pub are_commands : AreCommandsOf job language commands
+  pub is_value : IsValue (job_plan job language) commands value
+  pub printed : text ≡ line (printed_text job.pretty value)
+
+-- the job passes all checks, and this is the text of its index in its language, and a line feed
+abbrev pub IsLineOf : Job → Bytes → Type 0
+IsLineOf job text = (language : AnyLanguage) × Passes job language × IsIndexLine job language text
+
+-- to the input the answer is this outcome, and this is written
+abbrev pub IsAnswer : Bytes → Outcome → Bytes → Type 0
+IsAnswer bytes Printed text = (job : Job) × HasJob bytes job × IsLineOf job text
+IsAnswer bytes (Refused refusal) text = IsRefused bytes refusal × (text ≡ line (refusal_text refusal))

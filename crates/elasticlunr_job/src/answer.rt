@@ -1,0 +1,138 @@
+//! What is written for an input.
+
+ghost use Rattle.std.specs.Prelude.{◌≡◌, Any, Some, None, string_bytes, IfOk, IfErr, OnOk};
+ghost use Rattle.elasticlunr.specs.History.{Commands};
+ghost use Rattle.elasticlunr.specs.Index.{fields_of, plan_of, IsDocument, IsFailed, StandsFor};
+ghost use Rattle.elasticlunr.specs.Printed.{IsTextAfter};
+ghost use Rattle.elasticlunr_lang.specs.Known.{language_name};
+ghost use Rattle.elasticlunr_text.specs.Text.{Bytes};
+ghost use Rattle.elasticlunr_job.specs.Answer.{FailsAt, HasTooMany, IsIndexLine, IsLineOf, IsRefused, IsAnswer, line, printed_text, reading, refusal_text};
+ghost use Rattle.elasticlunr_job.specs.Commands.{language_tokens};
+ghost use Rattle.elasticlunr_job.specs.Filled.{Fits, IsBuiltFor};
+ghost use Rattle.elasticlunr_job.specs.JobTold.{job_told};
+ghost use Rattle.elasticlunr_job.specs.Stop.{StopsOnlyBy, StopsWithReason};
+ghost use Rattle.elasticlunr_job.specs.declared.outcome.Outcome.TheVariants.{Printed};
+ghost use Rattle.elasticlunr_job.specs.declared.outcome.Refusal.TheVariants.{TooManyValues, NotJson};
+ghost use Rattle.serde_json.specs.View.{view};
+
+use crate::job::{Job, parse};
+use crate::outcome::{Outcome, Refusal, Stop};
+use elasticlunr::lang::{AnyLanguage, from_name};
+use elasticlunr::laws::calls::an_index_makes_what_its_language_makes;
+use elasticlunr::{Index, IndexBuilder, IndexError};
+use serde_json::Value;
+use std::alloc::{AllocError, Global};
+
+/// The text of an index.
+fn text_of(index: &Index<AnyLanguage>, pretty: bool) -> Result<String, IndexError>
+    ensures ok { IfOk result (λ text. (commands : Commands) → StandsFor language_name name_text index.now commands
+        → IsTextAfter (printed_text pretty) (plan_of language_name name_text index.now) commands (string_bytes text)) }
+    ensures err { IfErr result (λ e. ¬ IsFailed index.now → e ≡ IndexError.Memory) }
+{
+    if pretty {
+        index.to_json_pretty()
+    } else {
+        index.to_json()
+    }
+}
+
+/// The text of an index, and a line feed.
+fn line_of(index: &Index<AnyLanguage>, pretty: bool) -> Result<String, Stop>
+    ensures ok { IfOk result (λ line_text. (commands : Commands) → StandsFor language_name name_text index.now commands
+        → (text : Bytes) × IsTextAfter (printed_text pretty) (plan_of language_name name_text index.now) commands text × (string_bytes line_text ≡ line text)) }
+    ensures err { IfErr result (λ stop. ¬ IsFailed index.now → stop ≡ Stop.Memory) }
+{
+    let mut text = text_of(index, pretty)?;
+    text.push('\n')?;
+    Ok(text)
+}
+
+/// Does to a new index all that the job commands: its text then, and a line feed.
+fn fill_and_print(mut index: Index<AnyLanguage>, job: &Job<'_>) -> Result<String, Stop>
+    ensures fits { OnOk result (Fits (fields_of index) (job_told job.now).docs) }
+    ensures ok { IfOk result (λ text. (language : AnyLanguage)
+        → IsBuiltFor (job_told job.now) language (plan_of language_name name_text index) (IsDocument language_tokens leaves index) (StandsFor language_name name_text index)
+        → IsIndexLine (job_told job.now) language (string_bytes text)) }
+    ensures err { IfErr result (λ stop. ¬ IsFailed index
+        → StopsOnlyBy TooManyValues (Any (HasTooMany (fields_of index)) (job_told job.now).docs) stop) }
+{
+    for doc in &job.docs {
+        index.add_doc(doc.reference, &doc.values)?;
+    }
+    for reference in &job.remove {
+        index.remove_doc(*reference)?;
+    }
+    if job.compact {
+        index.compact()?;
+    }
+    line_of(&index, job.pretty)
+}
+
+/// The text of a job's index, and a line feed. Its texts are not copied, but into the index.
+pub fn job_line(alloc: Global, job: &Job<'_>) -> Result<String, Stop>
+    ensures ok { IfOk result (λ text. IsLineOf (job_told job.now) (string_bytes text)) }
+    ensures err { IfErr result (StopsWithReason (FailsAt (job_told job.now))) }
+{
+    let Some(language) = from_name(job.language) else {
+        return Err(Stop::Refused(Refusal::UnknownLanguage));
+    };
+    let index = IndexBuilder::with_language(alloc, language)?
+        .save_docs(job.save)
+        .set_ref(job.reference_field)?
+        .add_fields(&job.fields)?
+        .build()?;
+    an_index_makes_what_its_language_makes(&index);
+    fill_and_print(index, job)
+}
+
+/// The JSON value that the bytes are. It reads no deeper than 127 steps.
+pub fn read_json(alloc: Global, bytes: &[u8]) -> Result<Value, Stop>
+    ensures ok { IfOk result (λ value. reading bytes.now ≡ Some (view value)) }
+    ensures err { IfErr result (StopsOnlyBy NotJson (reading bytes.now ≡ None)) }
+{
+    match Value::from_slice(alloc, bytes) {
+        Ok(value) => Ok(value),
+        Err(e) if e.is_memory() => Err(Stop::Memory),
+        Err(_) => Err(Stop::Refused(Refusal::NotJson)),
+    }
+}
+
+/// The text of the index that the input asks for, and a line feed.
+fn index_line(alloc: Global, bytes: Vec<u8>) -> Result<String, Stop>
+    ensures ok { IfOk result (λ text. IsAnswer bytes.items Printed (string_bytes text)) }
+    ensures err { IfErr result (StopsWithReason (IsRefused bytes.items)) }
+{
+    let value = read_json(alloc, &bytes)?;
+    drop(bytes);
+    let job = parse(alloc, &value)?;
+    job_line(alloc, &job)
+}
+
+/// The line of a refusal.
+fn refusal_line(refusal: Refusal) -> &'static str
+    ensures { result.now ≡ line (refusal_text refusal) }
+{
+    match refusal {
+        Refusal::NotJson => "refused: not JSON\n",
+        Refusal::NotAJob => "refused: not a job\n",
+        Refusal::UnknownLanguage => "refused: unknown language\n",
+        Refusal::DuplicateField => "refused: duplicate field\n",
+        Refusal::TooManyValues => "refused: too many values\n",
+    }
+}
+
+/// The outcome for an input, and what is written for it: the text of the index or the reason of
+/// the refusal, and a line feed. The input is let go once it is read; its texts are not copied,
+/// but into the index. The error is want of memory.
+pub fn answer(alloc: Global, bytes: Vec<u8>) -> Result<(Outcome, String), AllocError>
+    ensures { IfOk result (λ a. IsAnswer bytes.items a.0 (string_bytes a.1)) }
+{
+    match index_line(alloc, bytes) {
+        Ok(text) => Ok((Outcome::Printed, text)),
+        Err(Stop::Refused(refusal)) => {
+            let text = String::from_str(alloc, refusal_line(refusal))?;
+            Ok((Outcome::Refused(refusal), text))
+        }
+        Err(Stop::Memory) => Err(AllocError),
+    }
+}

@@ -8,9 +8,10 @@ mod own;
 
 use crate::error::UseError;
 use crate::found::built_printed_found;
-use crate::own::{index_with_tokenizer, text_of_words, whole};
+use crate::own::text_of_words;
 use elasticlunr::IndexBuilder;
 use elasticlunr::lang::English;
+use elasticlunr_own::{index_with_tokenizer, whole};
 use std::alloc::Global;
 use std::io;
 use std::process::ExitCode;

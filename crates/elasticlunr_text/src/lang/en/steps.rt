@@ -8,8 +8,8 @@ ghost use Rattle.std.specs.Bool.{OnFalse};
 
 use super::blocks::{has_vowel, is_short, is_vowel, m_above_0, m_above_1, m_is_1};
 use super::endings::{
-    Cut, before, drop_last, drop_suffix, ends_after_stem, ends_with, last_of, push_e, replace_suffix,
-    shortest_cut, split_last, stem_and_letter_before, stem_before,
+    Cut, before, drop_last, drop_suffix, ends_after_stem, ends_with, last_of, push_e,
+    replace_suffix, shortest_cut, split_last, stem_and_letter_before, stem_before,
 };
 use super::tables::{Ending, step_2_endings, step_3_endings, step_4_endings};
 

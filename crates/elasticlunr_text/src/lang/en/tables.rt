@@ -9,25 +9,61 @@ ghost use Rattle.elasticlunr_text.specs.Suffixes.{ending_in, step_2_endings, ste
 pub type Ending = (&'static str, &'static str);
 
 const STEP_2_L: [(&str, &str); 2] = [("ational", "ate"), ("tional", "tion")];
-const STEP_2_I: [(&str, &str); 11] = [("enci", "ence"), ("anci", "ance"), ("bli", "ble"), ("alli", "al"), ("entli", "ent"), ("eli", "e"), ("ousli", "ous"), ("aliti", "al"), ("iviti", "ive"), ("biliti", "ble"), ("logi", "log")];
+
+const STEP_2_I: [(&str, &str); 11] = [
+    ("enci", "ence"),
+    ("anci", "ance"),
+    ("bli", "ble"),
+    ("alli", "al"),
+    ("entli", "ent"),
+    ("eli", "e"),
+    ("ousli", "ous"),
+    ("aliti", "al"),
+    ("iviti", "ive"),
+    ("biliti", "ble"),
+    ("logi", "log"),
+];
+
 const STEP_2_R: [(&str, &str); 2] = [("izer", "ize"), ("ator", "ate")];
+
 const STEP_2_N: [(&str, &str); 2] = [("ization", "ize"), ("ation", "ate")];
+
 const STEP_2_M: [(&str, &str); 1] = [("alism", "al")];
+
 const STEP_2_S: [(&str, &str); 3] = [("iveness", "ive"), ("fulness", "ful"), ("ousness", "ous")];
 
 const STEP_3_E: [(&str, &str); 3] = [("icate", "ic"), ("ative", ""), ("alize", "al")];
+
 const STEP_3_I: [(&str, &str); 1] = [("iciti", "ic")];
+
 const STEP_3_L: [(&str, &str); 2] = [("ical", "ic"), ("ful", "")];
+
 const STEP_3_S: [(&str, &str); 1] = [("ness", "")];
 
 const STEP_4_L: [(&str, &str); 1] = [("al", "")];
-const STEP_4_E: [(&str, &str); 7] = [("ance", ""), ("ence", ""), ("able", ""), ("ible", ""), ("ate", ""), ("ive", ""), ("ize", "")];
+
+const STEP_4_E: [(&str, &str); 7] = [
+    ("ance", ""),
+    ("ence", ""),
+    ("able", ""),
+    ("ible", ""),
+    ("ate", ""),
+    ("ive", ""),
+    ("ize", ""),
+];
+
 const STEP_4_R: [(&str, &str); 1] = [("er", "")];
+
 const STEP_4_C: [(&str, &str); 1] = [("ic", "")];
+
 const STEP_4_T: [(&str, &str); 4] = [("ant", ""), ("ement", ""), ("ment", ""), ("ent", "")];
+
 const STEP_4_U: [(&str, &str); 1] = [("ou", "")];
+
 const STEP_4_M: [(&str, &str); 1] = [("ism", "")];
+
 const STEP_4_I: [(&str, &str); 1] = [("iti", "")];
+
 const STEP_4_S: [(&str, &str); 1] = [("ous", "")];
 
 /// The endings of step 2 whose suffix ends in the letter.

@@ -106,9 +106,13 @@ module _ (key : List ℕ) (d : Data) (no_df : key ≢ codes "df") (no_docs : key
 
 -- ---- the one document
 
+-- its document
+abbrev word_document : (reference value : Bytes) → Text → Document
+word_document reference value token = record { reference = reference; given = record { value = value; tokens = Some (token ∷ []) } ∷ [] }
+
 module _ (reference value : Bytes) (token : Text) (there : token ≢ []) where
   abbrev held : Commands
-  held = none ▸ add (record { reference = reference; given = record { value = value; tokens = Some (token ∷ []) } ∷ [] })
+  held = none ▸ add (word_document reference value token)
 
   only_token : (t : Text) (k : ℕ) → k < 1 → slice_index_or (token ∷ []) k t ≡ t → t ≡ token
   only_token t zero low is = sym is
@@ -117,7 +121,7 @@ module _ (reference value : Bytes) (token : Text) (there : token ≢ []) where
   module _ (table : Table) (is : IsTableOf held 0 table) where
     known_begins : (text : Text) → IsTrue (knows table text) → IsPrefix text token
     known_begins text known = either (λ e. (token, ap (λ t. t ++ token) e)) (λ b. begins b) ((is.known text).0 known) where
-      in_document : (d : Document) → (record { reference = reference; given = record { value = value; tokens = Some (token ∷ []) } ∷ [] }) ≡ d → (t : Text) → IsSomeAnd (tokens_at 0 d) (λ tokens. Contains tokens t) → t ≡ token
+      in_document : (d : Document) → (word_document reference value token) ≡ d → (t : Text) → IsSomeAnd (tokens_at 0 d) (λ tokens. Contains tokens t) → t ≡ token
       in_document d e t has = (let own : Contains (token ∷ []) t = subst (λ x. IsSomeAnd (tokens_at 0 x) (λ tokens. Contains tokens t)) (sym e) has in only_token t own.0 own.1 own.2)
 
       begins : Begins held 0 text → IsPrefix text token
@@ -132,7 +136,7 @@ module _ (reference value : Bytes) (token : Text) (there : token ≢ []) where
 
     posting_is : (p : Text) (q : Bytes) → p ≢ [] → posting table p q ≡ cond (bytes_eq q reference) (cond (bytes_eq p token) (Some 1000000) None) None
     posting_is p q some = by_tests (posting table p q) (bytes_eq q reference) (bytes_eq p token) refl (is.postings p q some) where
-      by_tests : (o : Option ℕ) (a b : Bool) → bytes_eq p token ≡ b → IsPosting (option_map_or (count_by (bytes_eq p)) (option_and_then (tokens_at 0) (cond a (Some (record { reference = reference; given = record { value = value; tokens = Some (token ∷ []) } ∷ [] })) None)) 0) o
+      by_tests : (o : Option ℕ) (a b : Bool) → bytes_eq p token ≡ b → IsPosting (option_map_or (count_by (bytes_eq p)) (option_and_then (tokens_at 0) (cond a (Some (word_document reference value token)) None)) 0) o
           → o ≡ cond a (cond b (Some 1000000) None) None
       by_tests o false b e h = h
       by_tests o true true e h = posted o (subst (λ x. IsPosting (0 + cond x 1 0) o) e h)
@@ -246,12 +250,12 @@ module _ (reference value : Bytes) (token : Text) (there : token ≢ []) where
       full true e = not_empty (cc (e))
       full false e = cc (e)
 
-      stored_at : (b : Bool) → cond b (Some (map.insert (map.insert map.empty reference_field reference) field value)) None ≡ option_map (stored plan) (cond b (Some (record { reference = reference; given = record { value = value; tokens = Some (token ∷ []) } ∷ [] })) None)
+      stored_at : (b : Bool) → cond b (Some (map.insert (map.insert map.empty reference_field reference) field value)) None ≡ option_map (stored plan) (cond b (Some (word_document reference value token)) None)
       stored_at true = refl
       stored_at false = refl
 
       length_there : (f : Bytes) (b : Bool) → option_and_then (λ m. map.get m f) (cond b (Some (map.insert (map.empty {X = ℕ} {R = text_cmp}) field 1)) None)
-          ≡ option_and_then (λ (d : Document). length_in (field ∷ []) d.given f) (cond b (Some (record { reference = reference; given = record { value = value; tokens = Some (token ∷ []) } ∷ [] })) None)
+          ≡ option_and_then (λ (d : Document). length_in (field ∷ []) d.given f) (cond b (Some (word_document reference value token)) None)
       length_there f true = get_one field 1 f
       length_there f false = refl
 
@@ -296,13 +300,13 @@ module _ (reference value : Bytes) (token : Text) (there : token ≢ []) where
           let tokens : g.tokens ≡ Some (token ∷ []) = some_tokens g.tokens (subst (λ v. IsSomeAnd g.tokens (reads 0 v)) its ((each 0).of_value (λ e. apart_fields (cc (e))))) in
           λ i. record { value = its i; tokens = tokens i } ∷ []
 
-      document_is : (d : Document) → IsDocument (field ∷ []) reference_field reads reference (value ∷ []) d → d ≡ record { reference = reference; given = record { value = value; tokens = Some (token ∷ []) } ∷ [] }
+      document_is : (d : Document) → IsDocument (field ∷ []) reference_field reads reference (value ∷ []) d → d ≡ word_document reference value token
       document_is d is =
           let given = given_is d.given is.its_values is.each in
           λ i. record { reference = is.its_reference i; given = given i }
 
       list_is : (list : List Command) → AllZip (IsCommandOf (IsDocument (field ∷ []) reference_field reads)) (adding reference (value ∷ []) ∷ []) list
-          → list ≡ add (record { reference = reference; given = record { value = value; tokens = Some (token ∷ []) } ∷ [] }) ∷ []
+          → list ≡ add (word_document reference value token) ∷ []
       list_is [] all = absurd all
       list_is (add d ∷ []) all = ap (λ x. add x ∷ []) (document_is d all.0)
       list_is (add d ∷ next ∷ list) all = absurd all.1

@@ -36,9 +36,9 @@ fn main(rt: HostRuntime) -> io::Result<ExitCode> {
 
 /// What the uses give, a line each.
 fn lines(alloc: Global) -> Result<String, UseError> {
-    let guide = page("guide", "Copy the folder into your site.");
-    let search = page("search", "Readers find pages by their words.");
-    let draft = page("draft", "Nothing yet.");
+    let guide = Page::new("guide", "Copy the folder into your site.");
+    let search = Page::new("search", "Readers find pages by their words.");
+    let draft = Page::new("draft", "Nothing yet.");
     let mut text = String::new(alloc);
     add_line(&mut text, first_index(alloc)?.as_str())?;
     for reference in &built_printed_found(
@@ -62,10 +62,6 @@ fn lines(alloc: Global) -> Result<String, UseError> {
     let whole_titles = index_with_tokenizer(builder, Box::new(alloc, whole)?)?;
     add_line(&mut text, whole_titles.as_str())?;
     Ok(text)
-}
-
-fn page<'a>(reference: &'a str, text: &'a str) -> Page<'a> {
-    Page { reference, text }
 }
 
 fn add_line(text: &mut String, line: &str) -> Result<(), AllocError> {

@@ -6,3 +6,9 @@ pub struct Page<'a> {
     pub reference: &'a str,
     pub text: &'a str,
 }
+
+impl<'a> Page<'a> {
+    pub fn new(reference: &'a str, text: &'a str) -> Page<'a> {
+        Page { reference, text }
+    }
+}

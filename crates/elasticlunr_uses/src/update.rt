@@ -4,14 +4,9 @@
 //! compacted. Proved: its text is that of a new index of the pages that remain. A caller has to
 //! know that only a compaction forgets the words of the old text and of the removed page.
 ghost use Rattle.std.specs.Prelude.{◌≡◌, ◌≢◌, ◌∷◌, [], IfOk, codes, string_bytes};
-ghost use Rattle.elasticlunr_lang.specs.Known.{language_leaves, language_name, language_stages};
 ghost use Rattle.elasticlunr_lang.specs.declared.any.AnyLanguage.TheVariants.{English as english};
-ghost use Rattle.elasticlunr_lang.specs.Words.{words};
-ghost use Rattle.elasticlunr.specs.Current.{IsPrintedAfter};
 ghost use Rattle.elasticlunr.specs.Calls.{adding, removing, compacting};
-ghost use Rattle.elasticlunr.specs.Choices.{fields_plan};
-ghost use Rattle.elasticlunr.specs.Reading.{LanguageReads};
-ghost use Rattle.serde_json.specs.Written.{compact_text};
+ghost use Rattle.elasticlunr.specs.Kept.{IsTextOfCalls};
 
 use crate::order::in_order;
 use crate::page::Page;
@@ -27,8 +22,9 @@ pub fn updated_and_new(
     goes: Page<'_>,
     new_text: &str,
 ) -> Result<(String, String), IndexError>
-    ensures { IfOk result (λ texts. stays.reference.now ≢ changes.reference.now → stays.reference.now ≢ goes.reference.now
-        → changes.reference.now ≢ goes.reference.now → string_bytes texts.0 ≡ string_bytes texts.1) }
+    ensures { IfOk result (λ texts. stays.entry.reference.now ≢ changes.entry.reference.now
+        → stays.entry.reference.now ≢ goes.entry.reference.now
+        → changes.entry.reference.now ≢ goes.entry.reference.now → string_bytes texts.0 ≡ string_bytes texts.1) }
 {
     current_documents_decide_the_text();
     let changed = Page {
@@ -48,11 +44,12 @@ fn updated(
     goes: Page<'_>,
     changed: Page<'_>,
 ) -> Result<String, IndexError>
-    ensures { IfOk result (λ text. IsPrintedAfter (LanguageReads words (language_leaves english)) compact_text
-        (fields_plan (language_name english) (language_stages english) (codes "body" ∷ []))
-        (adding stays.reference.now (stays.text.now ∷ []) ∷ adding changes.reference.now (changes.text.now ∷ [])
-        ∷ adding goes.reference.now (goes.text.now ∷ []) ∷ adding changed.reference.now (changed.text.now ∷ [])
-        ∷ removing goes.reference.now ∷ compacting ∷ []) (string_bytes text)) }
+    ensures { IfOk result (λ text. IsTextOfCalls english (codes "body" ∷ [])
+        (adding stays.entry.reference.now (stays.entry.text.now ∷ [])
+        ∷ adding changes.entry.reference.now (changes.entry.text.now ∷ [])
+        ∷ adding goes.entry.reference.now (goes.entry.text.now ∷ [])
+        ∷ adding changed.entry.reference.now (changed.entry.text.now ∷ [])
+        ∷ removing goes.entry.reference.now ∷ compacting ∷ []) (string_bytes text)) }
 {
     let mut index = Index::new(alloc, &["body"])?;
     index.add_doc(stays.reference, &[stays.text])?;

@@ -1,6 +1,7 @@
 use Rattle.std.proofs.Common.{◌≡◌, ◌≢◌, ◌⊎◌, inl, inr, ◌≤◌, arith, length, List, [], ◌∷◌, ◌++◌, Option, None, Some, map, filter_map, codes, encode_utf8, refl, ap, subst, ◌∙◌}
 use Rattle.std.specs.List.{AllZip}
 use Rattle.std.specs.Str.{chars}
+use Rattle.json.specs.Print.{escape_byte}
 use Rattle.serde_json.specs.Written.{compact_text}
 use Rattle.elasticlunr_text.specs.Text.{Text}
 use Rattle.elasticlunr_text.specs.Stems.{Stem}
@@ -13,6 +14,7 @@ use Rattle.elasticlunr_lang.specs.declared.kept.english.English.{English}
 use Rattle.elasticlunr.specs.Choices.{fields_plan}
 use Rattle.elasticlunr.specs.Reading.{LanguageReads}
 use Rattle.elasticlunr.specs.Word.{one_field_plan, word_value}
+use Rattle.elasticlunr.proofs.Holding.{if_ok}
 use Rattle.elasticlunr_uses.proofs.first.first_index.Goals as goal
 
 -- the word of the text
@@ -39,4 +41,10 @@ only_go : (tokens : List Text) → LanguageReads words (language_leaves english)
 only_go tokens is = is.are ∙ one_left is.lefts (subst (λ made. AllZip (language_leaves english) made is.lefts) one_word is.each)
 
 pub returns : goal.returns
-returns c = ?
+unfolding escape_byte
+returns c =
+    let language : English = record {} in
+    let one = c.in_ok-add_doc.ensures.after language _ _ (c.in_ok-index.ensures.after language) in
+    if_ok c.to_json.result _ _
+    (λ text printed. c.one_word_is_a_path.ensures english _ _ _ (codes "body") (codes "1") (codes "go") (codes "go") compact_text _ (λ e. cc (e)) (λ e. cc (e)) only_go (printed language _ _ one))
+    c.to_json.ensures.after

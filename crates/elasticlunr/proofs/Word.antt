@@ -31,7 +31,7 @@ use Rattle.elasticlunr.specs.Root.{IsRoot}
 use Rattle.elasticlunr.specs.Standing.{Plan, tokens_at, Begins, IsPosting, IsTableOf, stored, length_in, IsContentsOf}
 use Rattle.elasticlunr.specs.Word.{word_tree, word_trie, word_store}
 use Rattle.elasticlunr.proofs.Adding.{same, apart, either}
-use Rattle.elasticlunr.proofs.Fresh.{same_contents}
+use Rattle.elasticlunr.proofs.Same.{same_contents}
 use Rattle.elasticlunr.proofs.Storing.{found_after_insert}
 use Rattle.elasticlunr.proofs.Unique.{HasOneValue}
 
@@ -281,7 +281,7 @@ module _ (reference value : Bytes) (token : Text) (there : token ≢ []) where
     value_is : HasOneValue → (v : Data) → IsValue plan held v → v ≡ index_object plan (word_trie token reference ∷ []) (word_store reference_field field reference value)
     value_is one v is =
         let tries = tries_are one is.tables is.printed.tries is.holds.one_each is.holds.each is.printed.each_trie in
-        let same_store : is.contents ≡ contents = same_contents plan held held (λ r. refl) is.contents contents is.holds.store is_contents in
+        let same_store : is.contents ≡ contents = same_contents held held (λ r. refl) plan is.contents contents is.holds.store is_contents in
         let documents : is.printed.documents ≡ word_store reference_field field reference value = is.printed.store ∙ ap store_value same_store ∙ contents_value in
         is.printed.whole ∙ λ i. index_object plan (tries i) (documents i)
 

@@ -13,7 +13,7 @@ ghost use Rattle.std.specs.Str.{all_scalars};
 ghost use Rattle.elasticlunr_store.specs.Trie.{IsIndex, table_of};
 
 use super::names::Names;
-use super::nodes::{Node, Reference, gap};
+use super::nodes::{Node, Reference};
 use super::numbered::number_docs;
 use elasticlunr_text::IndexError;
 use serde_json::{Map, Value};
@@ -80,6 +80,7 @@ fn is_own_key(key: &str) -> bool
 }
 
 // The children that the members tell, numbered on from the values that wait. Their values wait behind these.
+// Keys come in the order of their bytes, which is that of the characters, so each child goes last.
 fn read_children<'a>(
     alloc: Global,
     members: &'a Map<String, Value>,
@@ -98,8 +99,7 @@ fn read_children<'a>(
         let Some(c) = only_char(key.as_str()) else {
             return Err(IndexError::ForeignValue);
         };
-        let at = gap(&children, c);
-        children.insert(at, (c, waiting.len()))?;
+        children.push((c, waiting.len()))?;
         waiting.push(value)?;
     }
     Ok(children)

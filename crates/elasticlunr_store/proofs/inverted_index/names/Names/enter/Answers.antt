@@ -6,8 +6,7 @@ use Rattle.elasticlunr_store.proofs.inverted_index.names.Names.enter.Goals as go
 
 pub invariant_of-self : goal.invariant_of-self
 invariant_of-self c =
-    let free : number_of (names_of c.self.inside.in_order.items) c.args.name.now ≡ None = sym (c.self.invariant.0 c.args.name.now) ∙ sym c.in_default-get.ensures.value in
-    (
+    let free : number_of (names_of c.self.inside.in_order.items) c.args.name.now ≡ None = sym (c.self.invariant.0 c.args.name.now) ∙ sym c.in_default-get.ensures.value in (
       numbers_stay _ _ c.self.inside.numbers c.add_name.new.numbers c.args.name.now free c.add_name.result c.self.invariant.0 c.add_name.ensures.name c.add_name.ensures.numbers c.add_name.ensures.same_names c.add_name.ensures.same_numbers,
       distinct_stay _ _ c.args.name.now free c.add_name.result c.self.invariant.1 c.add_name.ensures.name c.add_name.ensures.same_names,
     )

@@ -1,5 +1,5 @@
 -- Which documents are current, whatever the order of their references.
-use Rattle.std.proofs.Common.{◌≡◌, ◌≢◌, [], ◌∷◌, IsTrue, Bool, true, false, cond, not, ◌&&◌, ◌||◌, Option, None, Some, bytes_eq, refl, sym, ap, ◌∙◌}
+use Rattle.std.proofs.Common.{◌≡◌, ◌≢◌, [], ◌∷◌, IsTrue, Bool, true, false, cond, not, ◌&&◌, ◌||◌, Option, None, bytes_eq, refl, sym, ap, ◌∙◌}
 use Rattle.std.proofs.lemmas.Slice.Eq.{bytes_eq-Decides}
 use Rattle.elasticlunr_text.specs.Text.{Bytes}
 use Rattle.elasticlunr.specs.Fields.{all_differ}

@@ -1,4 +1,4 @@
-use Rattle.std.proofs.Common.{◌≡◌, ◌≢◌, ◌⊎◌, inl, inr, ◌≤◌, arith, length, List, [], ◌∷◌, ◌++◌, Option, None, Some, map, filter_map, codes, refl, ap, subst, ◌∙◌}
+use Rattle.std.proofs.Common.{◌≡◌, inl, inr, arith, length, List, [], ◌∷◌, ◌++◌, Option, None, Some, filter_map, codes, refl, ap, subst, ◌∙◌}
 use Rattle.std.specs.List.{AllZip}
 use Rattle.std.specs.Char.{encode_utf8}
 use Rattle.std.specs.Fmt.{digits}
@@ -13,7 +13,6 @@ use Rattle.elasticlunr_lang.specs.StopWords.{english_stop_words}
 use Rattle.elasticlunr_lang.specs.Words.{words, is_separator}
 use Rattle.elasticlunr_lang.specs.declared.any.AnyLanguage.TheVariants.{English as english}
 use Rattle.elasticlunr_lang.specs.declared.kept.english.English.{English}
-use Rattle.elasticlunr.specs.Choices.{fields_plan}
 use Rattle.elasticlunr.specs.Reading.{LanguageReads}
 use Rattle.elasticlunr.specs.Word.{one_field_plan, word_value}
 use Rattle.elasticlunr.proofs.Holding.{if_ok}

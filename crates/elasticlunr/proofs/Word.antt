@@ -64,7 +64,7 @@ root_of_one r is =
     let above : 1000000 ≤ r = is.greatest 1000000 (omega arith) in
     let below : r * r ≤ 1000000000000 = is.fits in
     let small : ¬ (1000001 ≤ r) = λ more. (let much : 1000001 * 1000001 ≤ r * r = mul-le 1000001 1000001 r r more more in omega (arith, much, below)) in
-    elim (cases_lt 1000000 r) [ | inl more ↦ absurd (small (omega (arith, more))) | inr less ↦ omega (arith, less, above) ]
+    elim (cases_lt 1000000 r) [ inl more ↦ absurd (small (omega (arith, more))) | inr less ↦ omega (arith, less, above) ]
 
 apart_df : (c : ℕ) → encode_utf8 c ≢ codes "df"
 apart_df c e = not_letter c 100 102 [] (omega arith) (sym e)

@@ -1,5 +1,5 @@
 -- Which documents are current, whatever the order of their references.
-use Rattle.std.proofs.Common.{◌≡◌, ◌≢◌, [], ◌∷◌, IsTrue, Bool, true, false, cond, not, ◌&&◌, ◌||◌, Option, None, Some, bytes_eq, refl, sym, ap, ◌∙◌}
+use Rattle.std.proofs.Common.{◌≡◌, ◌≢◌, [], ◌∷◌, IsTrue, Bool, true, false, cond, not, ◌&&◌, ◌||◌, Option, None, bytes_eq, refl, sym, ap, ◌∙◌}
 use Rattle.std.proofs.lemmas.Slice.Eq.{bytes_eq-Decides}
 use Rattle.elasticlunr_text.specs.Text.{Bytes}
 use Rattle.elasticlunr.specs.Fields.{all_differ}
@@ -25,10 +25,10 @@ module _ {X : Type 0} where
   either_order false b x y apart = refl
 
   -- what was removed, or put again, does not show
-  pub after_update : (s c g : Bool) (stays old gone new : Option X) → (s ≡ true → g ≡ true → ⊥) → (c ≡ true → g ≡ true → ⊥)
-      → cond g None (cond c new (cond g gone (cond c old (cond s stays None)))) ≡ cond c new (cond s stays None)
-  after_update s true true stays old gone new sg cg = absurd (cg refl refl)
-  after_update true false true stays old gone new sg cg = absurd (sg refl refl)
-  after_update false false true stays old gone new sg cg = refl
-  after_update s true false stays old gone new sg cg = refl
-  after_update s false false stays old gone new sg cg = refl
+  pub after_update : (s c g : Bool) (stays old dropped new : Option X) → (s ≡ true → g ≡ true → ⊥) → (c ≡ true → g ≡ true → ⊥)
+      → cond g None (cond c new (cond g dropped (cond c old (cond s stays None)))) ≡ cond c new (cond s stays None)
+  after_update s true true stays old dropped new sg cg = absurd (cg refl refl)
+  after_update true false true stays old dropped new sg cg = absurd (sg refl refl)
+  after_update false false true stays old dropped new sg cg = refl
+  after_update s true false stays old dropped new sg cg = refl
+  after_update s false false stays old dropped new sg cg = refl

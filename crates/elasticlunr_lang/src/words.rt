@@ -74,15 +74,12 @@ fn split_run(text: &str) -> (&str, Option<&str>)
     }
 }
 
-/// The bytes that a word and what follows it usually take.
-const USUAL_WIDTH: usize = 8;
-
 /// The words of the text in order, in lower case: the longest runs of characters that are neither
 /// white space nor `-`. One pass over the text.
 pub fn tokenize_whitespace(alloc: Global, text: &str) -> Result<Vec<String>, AllocError>
     ensures { IfOk result (λ tokens. texts_of tokens.items ≡ words (chars text.now)) }
 {
-    let mut tokens = Vec::with_capacity(alloc, text.len() / USUAL_WIDTH)?;
+    let mut tokens = Vec::new(alloc);
     let mut left = Some(text);
     while let Some(text) = left {
         let (run, rest) = split_run(text);

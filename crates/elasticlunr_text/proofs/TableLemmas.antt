@@ -1,11 +1,11 @@
 -- The cuts of a word by the endings that end in its last letter are those by all endings.
-use Rattle.std.proofs.Common.{◌≡◌, ℕ, zero, suc, ◌<◌, Bool, true, false, cond, List, [], ◌∷◌, ◌++◌, ⊎_elim, refl, sym, ap, ◌∙◌, subst, arith, length, Contains, filter, eq-eqb}
+use Rattle.std.proofs.Common.{◌≡◌, ℕ, zero, suc, Bool, true, false, cond, List, [], ◌∷◌, ◌++◌, ⊎_elim, refl, sym, ap, ◌∙◌, arith, Contains, filter, eq-eqb}
 use Rattle.std.specs.List.{list_all}
 use Rattle.std.proofs.lemmas.List.Elements.{All-contains, All-contains_itself, All-filter}
 use Rattle.std.proofs.lemmas.List.Sums.{AllPass-from_list_all}
 use Rattle.elasticlunr_text.specs.Suffixes.{Ending, ends_in, ending_in}
 use Rattle.elasticlunr_text.specs.Text.{is_not_empty}
-use Rattle.elasticlunr_text.specs.Stems.{IsStem, IsCut, LastIs, Replaces, DropsEnding, Tries}
+use Rattle.elasticlunr_text.specs.Stems.{IsCut, LastIs, Replaces, DropsEnding, Tries}
 
 -- a text that ends in a character
 ends_in-push : (front : List ℕ) (c : ℕ) → ends_in c (front ++ c ∷ []) ≡ true

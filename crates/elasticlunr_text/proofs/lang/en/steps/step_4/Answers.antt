@@ -1,6 +1,6 @@
 use Rattle.std.proofs.Common.{inl, refl, subst, chars}
 use Rattle.elasticlunr_text.specs.Suffixes.{step_4_endings}
-use Rattle.elasticlunr_text.specs.Stems.{DropsEnding, DropsIon, FirstOf, LastIs, Stays, Tries}
+use Rattle.elasticlunr_text.specs.Stems.{DropsEnding, DropsIon, FirstOf, LastIs, Stays}
 use Rattle.elasticlunr_text.proofs.StepLemmas.{then-first, tries-first, tries-true}
 use Rattle.elasticlunr_text.proofs.TableLemmas.{tries-drops}
 use Rattle.elasticlunr_text.proofs.lang.en.steps.step_4.Goals as goal

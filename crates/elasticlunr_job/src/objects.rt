@@ -30,7 +30,7 @@ pub struct Options<'a> {
 /// What is wrong with a document: the first check that it fails.
 #[derive(Clone, Copy, Debug, PartialEq, Eq)]
 pub enum Problem {
-    /// Its bytes are not JSON.
+    /// Its bytes are not JSON: of a caller that reads it of bytes.
     NotJson,
     /// It is of this kind, and no object.
     NotAnObject(Kind),
@@ -136,7 +136,8 @@ fn text_under<'a>(value: &'a Value, field: &str) -> Result<&'a str, Kind>
 
 /// The texts of the fields, in order.
 fn values_of<'a>(alloc: Global, fields: &[&str], value: &'a Value) -> Result<Vec<&'a str>, AddError>
-    ensures ok { IfOk result (λ found. HasTexts (view value.now) (texts_told fields.now) (texts_told found.items)) }
+    ensures ok { IfOk result (λ found.
+        HasTexts (view value.now) (texts_told fields.now) (texts_told found.items)) }
     ensures err { IfErr result (IsMemoryOr (HasFieldProblem (view value.now) (texts_told fields.now))) }
 {
     let mut found = Vec::with_capacity(alloc, fields.len())?;
@@ -217,7 +218,8 @@ fn job_of<'a>(
     options: &Options<'a>,
     objects: &'a [Object<'a>],
 ) -> Result<Job<'a>, AllocError>
-    ensures { IfOk result (λ job. job_told job ≡ job_of (options_told options.now) (map object_told objects.now)) }
+    ensures { IfOk result (λ job.
+        job_told job ≡ job_of (options_told options.now) (map object_told objects.now)) }
 {
     let mut docs = Vec::with_capacity(alloc, objects.len())?;
     for object in objects {
@@ -236,13 +238,14 @@ fn job_of<'a>(
 }
 
 /// The text of the index of these objects, and a line feed. Their texts are not copied, but into
-/// the index.
+/// the index. All are read before the first is added.
 pub fn objects_line(
     alloc: Global,
     options: &Options<'_>,
     items: &[Value],
 ) -> Result<String, ObjectsError>
-    ensures ok { IfOk result (λ text. IsLineOfObjects (options_told options.now) (map view items.now) (string_bytes text)) }
+    ensures ok { IfOk result (λ text.
+        IsLineOfObjects (options_told options.now) (map view items.now) (string_bytes text)) }
     ensures err { IfErr result (FailsObjects (options_told options.now) (map view items.now)) }
 {
     let objects = objects_of(alloc, options, items)?;

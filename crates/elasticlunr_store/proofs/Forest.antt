@@ -4,7 +4,7 @@ use Rattle.std.proofs.lemmas.Bool.{cases_eq, cases_lt}
 use Rattle.std.specs.Str.{bytes_eq}
 use Rattle.std.proofs.Common.{◌≡◌, ◌≢◌, ◌⊎◌, inl, inr, ℕ, suc, ◌+◌, ◌<◌, ◌≤◌, Bool, true, false, [], ◌∷◌, ◌++◌, length, Option, Some, None, option_map, option_and_then, refl, sym, ap, subst, ◌∙◌, arith, true≢false, append-nil, append_assoc, add-zero, le_refl}
 use Rattle.elasticlunr_text.specs.Text.{Text}
-use Rattle.elasticlunr_store.specs.Trie.{rank, Step, walk, IsForest, HasOneParent, HaveOneParent}
+use Rattle.elasticlunr_store.specs.Trie.{rank, Step, walk, IsForest, HaveOneParent}
 use Rattle.elasticlunr_store.specs.declared.inverted_index.nodes.Place.{Place}
 use Rattle.elasticlunr_store.specs.declared.inverted_index.nodes.Place.TheVariants.{Root, At}
 

@@ -23,7 +23,11 @@ pub fn index_value(alloc: Global, parts: Parts<'_>) -> Result<Value, IndexError>
 {
     let mut members = Map::new(alloc);
     let documents = parts.store.to_value()?;
-    put_member(&mut members, String::from_str(alloc, "documentStore")?, documents)?;
+    put_member(
+        &mut members,
+        String::from_str(alloc, "documentStore")?,
+        documents,
+    )?;
     let fields = array_of_names(alloc, parts.fields)?;
     put_member(&mut members, String::from_str(alloc, "fields")?, fields)?;
     let tries = object_of_tries(alloc, parts.fields, parts.tries)?;

@@ -1,5 +1,5 @@
 -- That a tokenizer has one answer for each text.
-use Rattle.std.specs.Prelude.{◌≡◌, List, Ok, Result, String, Vec}
+use Rattle.std.specs.Prelude.{◌≡◌, Ok, Result, String, Vec}
 use Rattle.std.specs.Borrow.{Bor}
 use Rattle.std.specs.declared.alloc.Global.{Global}
 use Rattle.std.specs.declared.alloc.AllocError.{AllocError}

@@ -1,10 +1,10 @@
 -- The tokens of a query, and what is found of them.
-use Rattle.std.proofs.Common.{◌≡◌, ◌↔◌, ◌<◌, ℕ, zero, suc, Bool, true, false, not, nat_eq, cond, List, [], ◌∷◌, Option, Some, IfSome, IsTrue, IsUtf8, String, Global, string_bytes, string_len, length, encode_utf8_all, arith, refl, sym, ap, subst, ◌∙◌, map, filter_map}
+use Rattle.std.proofs.Common.{◌≡◌, ◌↔◌, ◌<◌, ℕ, Bool, true, false, not, nat_eq, cond, List, [], ◌∷◌, Option, Some, IfSome, IsTrue, IsUtf8, String, Global, string_bytes, string_len, length, encode_utf8_all, arith, refl, sym, ap, subst, ◌∙◌, filter_map}
 use Rattle.std.specs.Prelude.{IsSome}
-use Rattle.std.specs.List.{slice_get, filter, AllZip, AllByRecursion}
+use Rattle.std.specs.List.{filter, AllZip}
 use Rattle.std.specs.Str.{chars, all_scalars}
 use Rattle.std.proofs.lemmas.Bool.{eqb-true}
-use Rattle.std.proofs.lemmas.Str.{chars-nil, encodes-chars, scalars-chars, IsUtf8-string_bytes}
+use Rattle.std.proofs.lemmas.Str.{chars-nil, encodes-chars, IsUtf8-string_bytes}
 use Rattle.elasticlunr_text.specs.Text.{Text, Bytes, text_of, texts_of, is_not_empty}
 use Rattle.elasticlunr_store.specs.Table.{Table, posting}
 use Rattle.elasticlunr.specs.Found.{Matches, FindsAny, FindsAll}

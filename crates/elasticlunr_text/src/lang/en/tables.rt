@@ -1,4 +1,4 @@
-//! The suffixes that the steps of the English stemmer cut or replace, by the letter that they end in.
+//! The suffixes that the English stemmer cuts or replaces, by step and by their last letter.
 ghost use Rattle.std.specs.Prelude.{◌≡◌, IsTrue, length, nat_le};
 ghost use Rattle.std.specs.List.{list_all};
 ghost use Rattle.elasticlunr_text.specs.Ascii.{all_ascii};

@@ -6,7 +6,8 @@ usage: check_readme.py [README]
 - README gives lines of crates.txt, each of a crate that has one file of Rust. The blocks of Rust are
   these files, in their order and letter for letter, and a block of proofs after one is the file of
   that crate whose path it begins with: so `rt ci`, which proves every crate, has proved the blocks.
-  Such a crate holds nothing else.
+  Such a crate holds nothing else. A block of Rust that is a file of the crate of uses, letter for
+  letter, is a use, and counts as none of these.
 - Each command of a block of shell is run at the top of the repository and must end well. `make test`,
   of which this is a part, and `make compare` are only looked up, by `make -n`.
 - Each job in JSON must be answered by the built program as the definitions say (model.py).
@@ -23,6 +24,7 @@ from running import TOP, program, run, told
 
 README = os.path.join(TOP, "README.md")
 PROGRAM = program("elasticlunr_index")
+USES = os.path.join(TOP, "crates", "elasticlunr_uses", "src")
 LONG = re.compile(r"make (test|compare)\b")
 FETCHES = re.compile(r"bench/fetch_")  # needs a network: tried by bench/browser.py
 MINUTES = 15  # that a command may take
@@ -41,6 +43,15 @@ def crate_lines(found):
     """The lines of crates.txt that README gives."""
     texts = [text for kind, _, text in found if kind == "text" and re.fullmatch(r"(\w+:( \w+)+\n)+", text)]
     return texts[0].splitlines() if len(texts) == 1 else []
+
+
+def texts_of_uses():
+    """What the files of the crate of uses hold."""
+    texts = []
+    for name in sorted(os.listdir(USES)):
+        with open(os.path.join(USES, name), encoding="utf-8") as file:
+            texts.append(file.read())
+    return texts
 
 
 def files_of_rust(found):
@@ -105,8 +116,12 @@ def commands(text):
 def tried(path):
     """The name of each block, or of a part of one, and why it doesn't stand."""
     found = list(blocks(path))
+    uses = texts_of_uses()
+    for kind, line, text in found:
+        if kind == "rust" and text in uses:
+            yield f"line {line}: a use", None
     lines = crate_lines(found)
-    crates = files_of_rust(found)
+    crates = files_of_rust(block for block in found if block[0] != "rust" or block[2] not in uses)
     if not lines or len(lines) != len(crates):
         yield "the lines of crates.txt", f"README has {len(lines)}, and {len(crates)} blocks of Rust"
     for line_of_crate, (line, texts) in zip(lines, crates):

@@ -2,54 +2,16 @@
    whose number stands in REFUSE_REQUEST, counting from 1. The program writes a call right before it makes it, and ` -> `
    right after: the requests between the two are the call's own. The file that COUNT_FILE names gets a line for each call:
    the number of the last request before it, and of the last one by its end. It belongs to no crate. */
-#define _GNU_SOURCE
-#include <dlfcn.h>
+#include "requests.h"
 #include <stdio.h>
-#include <stdlib.h>
 #include <string.h>
 #include <unistd.h>
 
 #define MOST_CALLS 4096
 
-static long requests;
 static long at_write; /* how many there were at the last write to standard output */
 static long before[MOST_CALLS], by_end[MOST_CALLS];
 static int calls;
-
-static int is_refused(void)
-{
-    static long refused = -1;
-    if (refused < 0) {
-        const char *number = getenv("REFUSE_REQUEST");
-        refused = number ? atol(number) : 0;
-    }
-    requests += 1;
-    return requests == refused;
-}
-
-void *malloc(size_t size)
-{
-    static void *(*next)(size_t);
-    if (!next)
-        next = dlsym(RTLD_NEXT, "malloc");
-    return is_refused() ? NULL : next(size);
-}
-
-void *realloc(void *block, size_t size)
-{
-    static void *(*next)(void *, size_t);
-    if (!next)
-        next = dlsym(RTLD_NEXT, "realloc");
-    return is_refused() ? NULL : next(block, size);
-}
-
-void *aligned_alloc(size_t alignment, size_t size)
-{
-    static void *(*next)(size_t, size_t);
-    if (!next)
-        next = dlsym(RTLD_NEXT, "aligned_alloc");
-    return is_refused() ? NULL : next(alignment, size);
-}
 
 ssize_t write(int file, const void *bytes, size_t count)
 {

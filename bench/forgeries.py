@@ -110,6 +110,7 @@ def forged_readmes(folder):
         ("README with another line of Rust", whole.replace('add_doc("1"', 'add_doc("2"', 1), another % "src/lib.rt"),
         ("README with another proof", whole.replace("if-is_empty.true", "if-is_empty.false", 1), another % r"proofs/\S+"),
         ("README with a block of Rust more", whole + "```rust\npub fn nothing() {}\n```\n", numbers % (2, 3)),
+        ("README with another use", whole.replace('&["go"]', '&["to"]', 1), numbers % (2, 3)),
         ("README without Rust", rust.sub("", whole), numbers % (2, 0)),
         ("README without the lines of crates.txt", whole.replace("```text", "```"), numbers % (0, 2)),
         ("README with another line of crates.txt", whole.replace("site: elasticlunr", "site: std"), "crates.txt has no line"),

@@ -14,7 +14,7 @@ texts_are_texts [] = tt
 texts_are_texts (s ∷ strings) = (scalars-chars (string_bytes s) (IsUtf8-string_bytes s), texts_are_texts strings)
 
 -- what one relation leaves of texts, another does that holds wherever the one does
-leaves_as : (M R : Text → Option Text → Type 0) → ((token : Text) (left : Option Text) → IsTrue (all_scalars token) → M token left → R token left)
+pub leaves_as : (M R : Text → Option Text → Type 0) → ((token : Text) (left : Option Text) → IsTrue (all_scalars token) → M token left → R token left)
     → (tokens : List Text) (lefts : List (Option Text)) → AllByRecursion (λ token. IsTrue (all_scalars token)) tokens → AllZip M tokens lefts → AllZip R tokens lefts
 leaves_as M R as_R [] [] are all = tt
 leaves_as M R as_R [] (left ∷ lefts) are all = absurd all

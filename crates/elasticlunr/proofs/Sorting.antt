@@ -17,7 +17,9 @@ use Rattle.serde_json.proofs.Views.{get_member-put, get_member-put_other}
 use Rattle.elasticlunr.specs.Fields.{has_name, all_differ}
 use Rattle.elasticlunr.specs.Printed.{members_after, AreTrieValues, no_tries, trie}
 use Rattle.elasticlunr.specs.Sorted.{last_under, AreMembersOf}
-use Rattle.elasticlunr.proofs.Members.{same_or_not, same_by_get, order_put}
+use Rattle.elasticlunr_store.proofs.Forest.{same_or_not}
+use Rattle.elasticlunr_store.proofs.OneValue.{same_by_get}
+use Rattle.elasticlunr.proofs.Members.{order_put}
 
 abbrev pub Entries : Type 0
 Entries = List (Bor Bytes × Bor Table)

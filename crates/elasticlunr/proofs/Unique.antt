@@ -1,50 +1,29 @@
 -- What settings and commands leave is one.
-use Rattle.std.proofs.Common.{◌≡◌, ◌≤◌, ℕ, zero, suc, List, [], ◌∷◌, length, arith, true≢false, is_some, Option, Some, None, IfSome, unwrap_or, option_and_then, refl, sym, ap, subst, ◌∙◌}
-use Rattle.std.proofs.lemmas.Cmp.{nat_list_cmp_total}
-use Rattle.std.specs.FinMap.{slice_cmp-IsAntisymmetric, nat_cmp-IsAntisymmetric}
+use Rattle.std.proofs.Common.{◌≡◌, ℕ, zero, suc, List, [], ◌∷◌, length, arith, true≢false, is_some, Option, Some, None, IfSome, unwrap_or, refl, sym, ap, subst, ◌∙◌}
 use Rattle.std.specs.List.{slice_get}
 use Rattle.std.specs.FinMap as map
-use Rattle.elasticlunr_text.specs.Text.{Text, Bytes, text_cmp}
-use Rattle.elasticlunr_store.specs.Table.{Table, Postings, posting}
+use Rattle.elasticlunr_text.specs.Text.{Text}
+use Rattle.elasticlunr_store.specs.Table.{Table, Postings}
 use Rattle.elasticlunr_store.specs.Tree.{IsTrieValue}
-use Rattle.elasticlunr_store.specs.Contents.{Contents, LengthMap, IsConsistent, length_at}
+use Rattle.elasticlunr_store.specs.Contents.{Contents}
 use Rattle.serde_json.specs.Data.{Data}
-use Rattle.elasticlunr.specs.Root.{IsRoot}
 use Rattle.elasticlunr.specs.History.{Commands, Agree}
-use Rattle.elasticlunr.specs.Standing.{Plan, IsPosting, occurrences, IsTableOf, IsContentsOf}
+use Rattle.elasticlunr.specs.Standing.{Plan, IsTableOf}
 use Rattle.elasticlunr.specs.Printed.{index_object, AreTrieValues, trie, IsValueOf, IsValue, PrintAlike}
 use Rattle.elasticlunr.proofs.Agreeing.{holds_agreed}
-
--- maps with texts as keys that find the same are one
-same_finds : {X : Type 0} (m n : map.FinMap text_cmp X) → ((q : Bytes) → map.get m q ≡ map.get n q) → m ≡ n
-same_finds m n is = map.same_map nat_list_cmp_total (slice_cmp-IsAntisymmetric nat_cmp-IsAntisymmetric) m n is
-
--- a number has one root
-one_root : (n r s : ℕ) → IsRoot n r → IsRoot n s → r ≡ s
-one_root n r s one two = let below : r ≤ s = two.greatest r one.fits in let above : s ≤ r = one.greatest s two.fits in omega arith
-
--- a count has one posting
-one_posting : (n : ℕ) (o p : Option ℕ) → IsPosting n o → IsPosting n p → o ≡ p
-one_posting zero o p one two = one ∙ sym two
-one_posting (suc n) None p one two = absurd one
-one_posting (suc n) (Some r) None one two = absurd two
-one_posting (suc n) (Some r) (Some s) one two = ap Some (one_root (suc n) r s one two)
+use Rattle.elasticlunr.proofs.Same.{same_maps, same_contents, same_postings}
 
 module _ (commands : Commands) (i : ℕ) (T U : Table) (one : IsTableOf commands i T) (two : IsTableOf commands i U) where
-  same_posting : (t : Text) (r : Bytes) → posting T t r ≡ posting U t r
-  same_posting [] r = one.no_empty r ∙ sym (two.no_empty r)
-  same_posting (x ∷ t) r = one_posting (occurrences commands i (x ∷ t) r) (posting T (x ∷ t) r) (posting U (x ∷ t) r) (one.postings (x ∷ t) r (λ e. cc (e))) (two.postings (x ∷ t) r (λ e. cc (e)))
-
   same_get : (t : Text) (o p : Option Postings) → map.get T t ≡ o → map.get U t ≡ p → o ≡ p
   same_get t None None eo ep = refl
   same_get t None (Some P) eo ep = absurd (true≢false (sym ((one.known t).1 ((two.known t).0 (ap is_some ep))) ∙ ap is_some eo))
   same_get t (Some P) None eo ep = absurd (true≢false (sym ((two.known t).1 ((one.known t).0 (ap is_some eo))) ∙ ap is_some ep))
-  same_get t (Some P) (Some Q) eo ep = ap Some (same_finds P Q (λ r.
-      ap (λ o. map.get (unwrap_or o map.empty) r) (sym eo) ∙ same_posting t r ∙ ap (λ o. map.get (unwrap_or o map.empty) r) ep))
+  same_get t (Some P) (Some Q) eo ep = ap Some (same_maps P Q (λ r.
+      ap (λ o. map.get (unwrap_or o map.empty) r) (sym eo) ∙ same_postings commands commands (λ q. refl) i T U one two t r ∙ ap (λ o. map.get (unwrap_or o map.empty) r) ep))
 
   -- a field has one table
   one_table : T ≡ U
-  one_table = same_finds T U (λ t. same_get t (map.get T t) (map.get U t) refl refl)
+  one_table = same_maps T U (λ t. same_get t (map.get T t) (map.get U t) refl refl)
 
 -- where each place has one answer, the lists are one
 same_lists : (P : ℕ → Table → Type 0) → ((i : ℕ) (T U : Table) → P i T → P i U → T ≡ U) → (ts us : List Table) → length ts ≡ length us
@@ -56,25 +35,6 @@ same_lists P one (T ∷ ts) (U ∷ us) many first second =
     let here : T ≡ U = one zero T U (first zero) (second zero) in
     let more : ts ≡ us = same_lists (λ i. P (suc i)) (λ i. one (suc i)) ts us (omega arith) (λ i. first (suc i)) (λ i. second (suc i)) in
     λ i. here i ∷ more i
-
-module _ (c d : Contents) (one : IsConsistent c) (two : IsConsistent d) (lengths : (r field : Bytes) → length_at c r field ≡ length_at d r field) where
-  lengths_at : (r : Bytes) (o p : Option LengthMap) → map.get c.lengths r ≡ o → map.get d.lengths r ≡ p → o ≡ p
-  lengths_at r None None eo ep = refl
-  lengths_at r None (Some n) eo ep = absurd (two.has_lengths r (ep ∙ ap Some (same_finds n map.empty (λ field.
-      ap (option_and_then (λ m. map.get m field)) (sym ep) ∙ sym (lengths r field) ∙ ap (option_and_then (λ m. map.get m field)) eo ∙ sym (map.get-empty text_cmp field)))))
-  lengths_at r (Some m) None eo ep = absurd (one.has_lengths r (eo ∙ ap Some (same_finds m map.empty (λ field.
-      ap (option_and_then (λ n. map.get n field)) (sym eo) ∙ lengths r field ∙ ap (option_and_then (λ n. map.get n field)) ep ∙ sym (map.get-empty text_cmp field)))))
-  lengths_at r (Some m) (Some n) eo ep = ap Some (same_finds m n (λ field.
-      ap (option_and_then (λ x. map.get x field)) (sym eo) ∙ lengths r field ∙ ap (option_and_then (λ x. map.get x field)) ep))
-
--- settings and commands have one store
-one_store : (plan : Plan) (commands : Commands) (c d : Contents) → IsContentsOf plan commands c → IsContentsOf plan commands d → c ≡ d
-one_store plan commands c d one two =
-    let save : c.save ≡ d.save = one.save ∙ sym two.save in
-    let texts : c.texts ≡ d.texts = same_finds c.texts d.texts (λ r. one.texts r ∙ sym (two.texts r)) in
-    let lengths : c.lengths ≡ d.lengths = same_finds c.lengths d.lengths (λ r.
-    lengths_at c d one.are_contents two.are_contents (λ q field. one.lengths q field ∙ sym (two.lengths q field)) r (map.get c.lengths r) (map.get d.lengths r) refl refl) in
-    λ i. record { save = save i; texts = texts i; lengths = lengths i }
 
 -- what the store promises of a table: it has one trie value at most
 abbrev pub HasOneValue : Type 0
@@ -105,7 +65,7 @@ module _ (only : HasOneValue) where
   pub one_value : (plan : Plan) (commands : Commands) (v w : Data) → IsValue plan commands v → IsValue plan commands w → v ≡ w
   one_value plan commands v w one two =
       let tables = same_lists (IsTableOf commands) (one_table commands) one.tables two.tables (one.holds.one_each ∙ sym two.holds.one_each) one.holds.each two.holds.each in
-      let contents = one_store plan commands one.contents two.contents one.holds.store two.holds.store in
+      let contents = same_contents commands commands (λ r. refl) plan one.contents two.contents one.holds.store two.holds.store in
       let printed = subst (λ c. IsValueOf plan two.tables c v) contents (subst (λ ts. IsValueOf plan ts one.contents v) tables one.printed) in
       one_printed_alike plan plan two.tables two.contents v w (record { same_fields = refl; same_reference_field = refl; same_language = refl; same_stages = refl }) printed two.printed
 

@@ -1,6 +1,8 @@
 //! Laws of the words that this crate's contracts speak of.
 pub mod calls;
+pub mod current;
 pub mod found;
 pub mod order;
 pub mod removal;
 pub mod values;
+pub mod word;

@@ -1,8 +1,5 @@
 //! Calls that begin with English, and those of parts that are handed in.
-ghost use Rattle.std.specs.Prelude.{◌≡◌, ℕ, List, Ok, Vec, String};
-ghost use Rattle.std.specs.Borrow.{Bor};
-ghost use Rattle.std.specs.declared.alloc.Global.{Global};
-ghost use Rattle.elasticlunr_text.specs.Text.{bytes_of};
+ghost use Rattle.elasticlunr.specs.OneAnswer.{HasOneAnswer};
 
 use crate::answer::Answer;
 use crate::call::Call;
@@ -114,8 +111,7 @@ fn add_tokenizer(
     tokenizer: Tokenizer,
 ) -> io::Result<()>
     requires callable { Tokenizer.IsAlwaysCallable tokenizer }
-    requires one_answer { (a b : Global) (s t : Bor (List ℕ)) (v w : Vec (String Global) Global) → s.now ≡ t.now
-        → Tokenizer.post tokenizer a s (Ok v) → Tokenizer.post tokenizer b t (Ok w) → bytes_of v.items ≡ bytes_of w.items }
+    requires one_answer { HasOneAnswer (Tokenizer.post tokenizer) }
 {
     let Ok(builder) = made else {
         return subject::not_made(rt, call);

@@ -99,11 +99,16 @@ fn json(alloc: Global, text: &str, unread: Refusal) -> Result<Value, Refusal>
 
 /// The references that are found in the value of a printed index, by the language that it names.
 fn find_in(alloc: Global, request: &Request<'_>, index: &Value) -> Result<Vec<String>, Refusal>
-    ensures { IfOk result (λ found. (language : AnyLanguage) × (get (codes "lang") (view index.now) ≡ Some (string (language_name language)))
-        × ((plan : Plan) (commands : Commands) (text : List ℕ) → read text ≡ Some (view index.now) → IsPrintOf plan commands text
-        → AreRead (LanguageReads (⟦<AnyLanguage as Language>⟧.tokens_of language) (⟦<AnyLanguage as Language>⟧.leaves_of language)) plan.fields plan.reference_field commands
+    ensures { IfOk result (λ found. (language : AnyLanguage)
+        × (get (codes "lang") (view index.now) ≡ Some (string (language_name language)))
+        × ((plan : Plan) (commands : Commands) (text : List ℕ)
+        → read text ≡ Some (view index.now) → IsPrintOf plan commands text
+        → AreRead (LanguageReads (⟦<AnyLanguage as Language>⟧.tokens_of language)
+        (⟦<AnyLanguage as Language>⟧.leaves_of language)) plan.fields plan.reference_field commands
         → (i : ℕ) × (slice_get plan.fields i ≡ Some request.now.field.now)
-        × Finds (LanguageReads (⟦<AnyLanguage as Language>⟧.tokens_of language) (⟦<AnyLanguage as Language>⟧.leaves_of language)) request.now.join commands i request.now.query.now (bytes_of found.items))) }
+        × Finds (LanguageReads (⟦<AnyLanguage as Language>⟧.tokens_of language)
+        (⟦<AnyLanguage as Language>⟧.leaves_of language))
+        request.now.join commands i request.now.query.now (bytes_of found.items))) }
 {
     let language = language_of(index)?;
     let searcher = Searcher::from_value(alloc, language, index)?;

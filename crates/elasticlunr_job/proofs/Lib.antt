@@ -10,3 +10,5 @@ pub mod OneJob
 pub mod OneLanguage
 pub mod OneLine
 pub mod OneAnswer
+pub mod FieldTexts
+pub mod Several

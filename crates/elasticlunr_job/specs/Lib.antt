@@ -6,3 +6,6 @@ pub mod Commands
 pub mod Answer
 pub mod IndexStop
 pub mod Filled
+pub mod Kinds
+pub mod Objects
+pub mod ObjectsTold

@@ -25,8 +25,10 @@ use std::alloc::{AllocError, Global};
 
 /// The text of an index.
 fn text_of(index: &Index<AnyLanguage>, pretty: bool) -> Result<String, IndexError>
-    ensures ok { IfOk result (λ text. (commands : Commands) → StandsFor language_name name_text index.now commands
-        → IsTextAfter (printed_text pretty) (plan_of language_name name_text index.now) commands (string_bytes text)) }
+    ensures ok { IfOk result (λ text. (commands : Commands)
+        → StandsFor language_name name_text index.now commands
+        → IsTextAfter (printed_text pretty) (plan_of language_name name_text index.now)
+        commands (string_bytes text)) }
     ensures err { IfErr result (λ e. ¬ IsFailed index.now → e ≡ IndexError.Memory) }
 {
     if pretty {
@@ -38,8 +40,11 @@ fn text_of(index: &Index<AnyLanguage>, pretty: bool) -> Result<String, IndexErro
 
 /// The text of an index, and a line feed.
 fn line_of(index: &Index<AnyLanguage>, pretty: bool) -> Result<String, Stop>
-    ensures ok { IfOk result (λ line_text. (commands : Commands) → StandsFor language_name name_text index.now commands
-        → (text : Bytes) × IsTextAfter (printed_text pretty) (plan_of language_name name_text index.now) commands text × (string_bytes line_text ≡ line text)) }
+    ensures ok { IfOk result (λ line_text. (commands : Commands)
+        → StandsFor language_name name_text index.now commands
+        → (text : Bytes)
+        × IsTextAfter (printed_text pretty) (plan_of language_name name_text index.now) commands text
+        × (string_bytes line_text ≡ line text)) }
     ensures err { IfErr result (λ stop. ¬ IsFailed index.now → stop ≡ Stop.Memory) }
 {
     let mut text = text_of(index, pretty)?;
@@ -51,7 +56,8 @@ fn line_of(index: &Index<AnyLanguage>, pretty: bool) -> Result<String, Stop>
 fn fill_and_print(mut index: Index<AnyLanguage>, job: &Job<'_>) -> Result<String, Stop>
     ensures fits { OnOk result (Fits (fields_of index) (job_told job.now).docs) }
     ensures ok { IfOk result (λ text. (language : AnyLanguage)
-        → IsBuiltFor (job_told job.now) language (plan_of language_name name_text index) (IsDocument language_tokens leaves index) (StandsFor language_name name_text index)
+        → IsBuiltFor (job_told job.now) language (plan_of language_name name_text index)
+        (IsDocument language_tokens leaves index) (StandsFor language_name name_text index)
         → IsIndexLine (job_told job.now) language (string_bytes text)) }
     ensures err { IfErr result (λ stop. ¬ IsFailed index
         → StopsOnlyBy TooManyValues (Any (HasTooMany (fields_of index)) (job_told job.now).docs) stop) }

@@ -7,5 +7,7 @@
 
 pub mod answer;
 pub mod job;
+pub mod kind;
 pub mod laws;
+pub mod objects;
 pub mod outcome;

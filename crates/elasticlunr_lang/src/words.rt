@@ -1,13 +1,12 @@
 //! The words of a text.
-ghost use Rattle.std.specs.Prelude.{◌≡◌, ◌∷◌, [], ◌++◌, IfOk, OnOk, filter};
-ghost use Rattle.std.specs.Str.{chars};
+ghost use Rattle.std.specs.Prelude.{◌≡◌, ◌<◌, ◌∷◌, [], ◌++◌, IfOk, IfSome, OnOk, filter, map, length, option_map};
+ghost use Rattle.std.specs.Str.{chars, IsAscii};
 ghost use Rattle.elasticlunr_text.specs.Text.{text_of, texts_of, is_not_empty};
 ghost use Rattle.elasticlunr_lang.specs.Lower.{lower};
-ghost use Rattle.elasticlunr_lang.specs.Words.{words, is_separator};
+ghost use Rattle.elasticlunr_lang.specs.Words.{words, in_lower_case, is_separator, IsRunOf};
 
 use crate::lower::lower_char;
 use std::alloc::{AllocError, Global};
-use std::mem;
 
 #[tactic(auto, unfolding(crate::specs::Words::is_separator))]
 fn is_separator(c: char) -> bool
@@ -28,14 +27,51 @@ fn push_lower(text: &mut String, c: char) -> Result<(), AllocError>
     Ok(())
 }
 
-/// Adds the word, unless it is empty.
-fn push_word(words: &mut Vec<String>, word: String) -> Result<(), AllocError>
-    ensures { OnOk result (texts_of words.new.items ≡ texts_of words.old.items ++ filter is_not_empty (text_of word ∷ [])) }
+/// The text in lower case, byte by byte.
+fn ascii_word(alloc: Global, run: &str) -> Result<String, AllocError>
+    requires { IsAscii run.now }
+    ensures { IfOk result (λ word. text_of word ≡ in_lower_case (chars run.now)) }
 {
-    if !word.is_empty() {
+    let mut word = String::from_str(alloc, run)?;
+    word.make_ascii_lowercase();
+    Ok(word)
+}
+
+/// The text in lower case.
+fn word_of(alloc: Global, run: &str) -> Result<String, AllocError>
+    ensures { IfOk result (λ word. text_of word ≡ in_lower_case (chars run.now)) }
+{
+    if run.is_ascii() {
+        return ascii_word(alloc, run);
+    }
+    let mut word = String::with_capacity(alloc, run.len())?;
+    for c in run.chars() {
+        push_lower(&mut word, c)?;
+    }
+    Ok(word)
+}
+
+/// Adds the word of a run, unless it is empty.
+fn push_word(alloc: Global, words: &mut Vec<String>, run: &str) -> Result<(), AllocError>
+    ensures { OnOk result (texts_of words.new.items
+        ≡ texts_of words.old.items ++ map in_lower_case (filter is_not_empty (chars run.now ∷ []))) }
+{
+    if !run.is_empty() {
+        let word = word_of(alloc, run)?;
         words.push(word)?;
     }
     Ok(())
+}
+
+/// The text up to its first separator, and what follows that.
+fn split_run(text: &str) -> (&str, Option<&str>)
+    ensures run { IsRunOf (chars text.now) (chars result.0.now) (option_map (λ rest. chars rest.now) result.1) }
+    ensures shorter { IfSome result.1 (λ rest. length rest.now < length text.now) }
+{
+    match text.split_once(|c| is_separator(c)) {
+        Some((run, rest)) => (run, Some(rest)),
+        None => (text, None),
+    }
 }
 
 /// The words of the text in order, in lower case: the longest runs of characters that are neither
@@ -44,15 +80,11 @@ pub fn tokenize_whitespace(alloc: Global, text: &str) -> Result<Vec<String>, All
     ensures { IfOk result (λ tokens. texts_of tokens.items ≡ words (chars text.now)) }
 {
     let mut tokens = Vec::new(alloc);
-    let mut token = String::new(alloc);
-    for c in text.chars() {
-        if is_separator(c) {
-            let word = mem::replace(&mut token, String::new(alloc));
-            push_word(&mut tokens, word)?;
-        } else {
-            push_lower(&mut token, c)?;
-        }
+    let mut left = Some(text);
+    while let Some(text) = left {
+        let (run, rest) = split_run(text);
+        push_word(alloc, &mut tokens, run)?;
+        left = rest;
     }
-    push_word(&mut tokens, token)?;
     Ok(tokens)
 }

@@ -1,10 +1,9 @@
 //! A stage, a language and a tokenizer of one's own.
 #![tactic(auto)]
 
-ghost use Rattle.std.specs.Prelude.{◌≡◌, ◌∷◌, [], ℕ, List, IfOk, Ok, Vec, String};
-ghost use Rattle.std.specs.Borrow.{Bor};
-ghost use Rattle.std.specs.declared.alloc.Global.{Global};
+ghost use Rattle.std.specs.Prelude.{◌≡◌, ◌∷◌, [], IfOk};
 ghost use Rattle.elasticlunr_text.specs.Text.{bytes_of};
+ghost use Rattle.elasticlunr.specs.OneAnswer.{HasOneAnswer};
 
 use elasticlunr::lang::{English, tokenize_whitespace};
 use elasticlunr::pipeline::{Pipeline, PipelineFn, Stage};
@@ -13,7 +12,7 @@ use std::alloc::{AllocError, Global};
 
 /// A stage: drops what the trimmer has emptied.
 #[derive(Drop)]
-struct DropEmpty {}
+pub struct DropEmpty {}
 
 impl PipelineFn for DropEmpty {
     ghost use Rattle.std.specs.Prelude.{codes};
@@ -37,7 +36,7 @@ impl PipelineFn for DropEmpty {
 
 /// A language: words in lower case, of which all stay as they are.
 #[derive(Drop)]
-struct Plain {}
+pub struct Plain {}
 
 impl Language for Plain {
     ghost use Rattle.std.specs.Prelude.{◌≡◌, ◌∷◌, [], Some, codes};
@@ -107,8 +106,7 @@ pub fn index_with_tokenizer(
     tokenizer: Tokenize,
 ) -> Result<String, IndexError>
     requires callable { Tokenize.IsAlwaysCallable tokenizer }
-    requires one_answer { (a b : Global) (s t : Bor (List ℕ)) (v w : Vec (String Global) Global) → s.now ≡ t.now
-        → Tokenize.post tokenizer a s (Ok v) → Tokenize.post tokenizer b t (Ok w) → bytes_of v.items ≡ bytes_of w.items }
+    requires one_answer { HasOneAnswer (Tokenize.post tokenizer) }
 {
     let mut index = builder
         .add_field_with_tokenizer("title", tokenizer)?

@@ -1,31 +1,19 @@
 -- The tokens of a query, and what is found of them.
-use Rattle.std.proofs.Common.{◌≡◌, ◌↔◌, ◌<◌, ℕ, zero, suc, Bool, true, false, not, nat_eq, cond, List, [], ◌∷◌, Option, Some, IfSome, IsTrue, IsUtf8, String, Global, string_bytes, string_len, length, encode_utf8_all, arith, refl, sym, ap, subst, ◌∙◌, map, filter_map}
+use Rattle.std.proofs.Common.{◌≡◌, ◌↔◌, ◌<◌, ℕ, Bool, true, false, not, nat_eq, cond, List, [], ◌∷◌, Option, Some, IfSome, IsTrue, IsUtf8, String, Global, string_bytes, string_len, length, encode_utf8_all, arith, refl, sym, ap, subst, ◌∙◌, filter_map}
 use Rattle.std.specs.Prelude.{IsSome}
-use Rattle.std.specs.List.{slice_get, filter, AllZip, AllByRecursion}
+use Rattle.std.specs.List.{filter, AllZip}
 use Rattle.std.specs.Str.{chars, all_scalars}
 use Rattle.std.proofs.lemmas.Bool.{eqb-true}
-use Rattle.std.proofs.lemmas.Str.{chars-nil, encodes-chars, scalars-chars, IsUtf8-string_bytes}
+use Rattle.std.proofs.lemmas.Str.{chars-nil, encodes-chars, IsUtf8-string_bytes}
 use Rattle.elasticlunr_text.specs.Text.{Text, Bytes, text_of, texts_of, is_not_empty}
 use Rattle.elasticlunr_store.specs.Table.{Table, posting}
 use Rattle.elasticlunr.specs.Found.{Matches, FindsAny, FindsAll}
 use Rattle.elasticlunr.specs.History.{Commands}
 use Rattle.elasticlunr.specs.Reading.{LanguageReads}
 use Rattle.elasticlunr.specs.Standing.{IsTableOf}
+use Rattle.elasticlunr.proofs.Reading.{texts_are_texts, leaves_as}
 use Rattle.elasticlunr_search.specs.Query.{AreTokensOf}
 use Rattle.elasticlunr_search.specs.Tries.{HaveAny, HaveAll}
-
--- the texts of strings are lists of characters
-are_texts : (strings : List (String Global)) → AllByRecursion (λ token. IsTrue (all_scalars token)) (texts_of strings)
-are_texts [] = tt
-are_texts (s ∷ strings) = (scalars-chars (string_bytes s) (IsUtf8-string_bytes s), are_texts strings)
-
--- what one relation leaves of texts, another does that holds wherever the one does
-leaves_as : (M R : Text → Option Text → Type 0) → ((token : Text) (left : Option Text) → IsTrue (all_scalars token) → M token left → R token left)
-    → (tokens : List Text) (lefts : List (Option Text)) → AllByRecursion (λ token. IsTrue (all_scalars token)) tokens → AllZip M tokens lefts → AllZip R tokens lefts
-leaves_as M R as_R [] [] are all = tt
-leaves_as M R as_R [] (left ∷ lefts) are all = absurd all
-leaves_as M R as_R (token ∷ tokens) [] are all = absurd all
-leaves_as M R as_R (token ∷ tokens) (left ∷ lefts) are all = (as_R token left are.0 all.0, leaves_as M R as_R tokens lefts are.1 all.1)
 
 zero_test : (n : ℕ) → 0 < n → nat_eq n 0 ≡ false
 zero_test n h = elim (nat_eq n 0) as (λ b. nat_eq n 0 ≡ b → b ≡ false) [
@@ -65,9 +53,9 @@ pub asked : (M R : Text → Option Text → Type 0) (makes : Text → List Text)
     → AreTokensOf (LanguageReads makes R) i query (texts_of kept)
 asked M R makes same one i query made left kept is ran only = record {
   all = texts_of left;
-  read = record { lefts = ran.0; each = subst (λ ts. AllZip R ts ran.0) is (leaves_as M R (λ token l t. (same token l t).0) (texts_of made) ran.0 (are_texts made) ran.1); are = ran.2 };
+  read = record { lefts = ran.0; each = subst (λ ts. AllZip R ts ran.0) is (leaves_as M R (λ token l t. (same token l t).0) (texts_of made) ran.0 (texts_are_texts made) ran.1); are = ran.2 };
   no_other = λ others reads. one (texts_of made) others (texts_of left)
-      (reads.lefts, leaves_as R M (λ token l t. (same token l t).1) (texts_of made) reads.lefts (are_texts made) (subst (λ ts. AllZip R ts reads.lefts) (sym is) reads.each), reads.are) ran;
+      (reads.lefts, leaves_as R M (λ token l t. (same token l t).1) (texts_of made) reads.lefts (texts_are_texts made) (subst (λ ts. AllZip R ts reads.lefts) (sym is) reads.each), reads.are) ran;
   are = ap texts_of only ∙ texts_kept left;
 }
 

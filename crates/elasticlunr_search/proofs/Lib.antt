@@ -5,7 +5,6 @@ pub mod Shapes
 pub mod Sets
 pub mod Those
 pub mod Steps
-pub mod Names
 pub mod Asking
 pub mod Searching
 pub mod Wording

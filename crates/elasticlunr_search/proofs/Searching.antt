@@ -1,9 +1,9 @@
 -- From what a searcher stands for to what it finds.
-use Rattle.std.proofs.Common.{◌≡◌, ℕ, List, Option, Some, Result, Ok, Err, refl, sym, subst}
+use Rattle.std.proofs.Common.{◌≡◌, ℕ, List, Option, Some, Result, Ok, Err, sym, subst}
 use Rattle.std.specs.Result.{IfOk, IfErr}
 use Rattle.std.specs.List.{slice_get}
 use Rattle.elasticlunr_text.specs.Stages.{LeavesBy}
-use Rattle.elasticlunr_text.specs.Text.{Text, Bytes, bytes_of}
+use Rattle.elasticlunr_text.specs.Text.{Text, Bytes}
 use Rattle.elasticlunr.specs.History.{Commands}
 use Rattle.elasticlunr.specs.Reading.{LanguageReads}
 use Rattle.elasticlunr.specs.Standing.{Plan}

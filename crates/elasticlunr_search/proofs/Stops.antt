@@ -1,8 +1,8 @@
 -- What the exit of a `?` returns.
-use Rattle.std.proofs.Common.{◌≡◌, ◌⊎◌, inl, inr, Result, ◌∙◌, sym, subst}
+use Rattle.std.proofs.Common.{◌≡◌, inl, inr, Result, sym, subst}
 use Rattle.std.specs.Result.{IfErr, IsErrAnd}
 use Rattle.std.proofs.lemmas.Result.{err_from_is_err_and}
-use Rattle.elasticlunr_search.specs.Refusal.{StopsBy, Lacks, Refuses}
+use Rattle.elasticlunr_search.specs.Refusal.{StopsBy}
 use Rattle.elasticlunr_search.specs.declared.error.SearchError.{SearchError}
 use Rattle.elasticlunr_search.specs.declared.error.SearchError.TheVariants.{Memory}
 

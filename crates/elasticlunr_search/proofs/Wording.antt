@@ -3,11 +3,11 @@ use Rattle.std.proofs.Common.{◌≡◌, ◌≢◌, ◌<◌, ◌↔◌, ◌⊎�
 use Rattle.std.specs.Prelude.{IsSomeAnd, Contains}
 use Rattle.std.specs.List.{slice_get, filter}
 use Rattle.elasticlunr_text.specs.Text.{Text, Bytes, is_not_empty}
-use Rattle.elasticlunr.specs.Documents.{IsGiven, HoldsReference}
-use Rattle.elasticlunr.specs.Found.{HasToken, Matches, FindsAny, FindsAll}
+use Rattle.elasticlunr.specs.Documents.{IsGiven}
+use Rattle.elasticlunr.specs.Found.{HasToken, FindsAny, FindsAll}
 use Rattle.elasticlunr.specs.History.{Given, Document, Commands, none, ◌▸◌, add, remove, compact, now}
 use Rattle.elasticlunr.specs.Standing.{tokens_at}
-use Rattle.elasticlunr_search.specs.Query.{AreTokensOf, IsFound}
+use Rattle.elasticlunr_search.specs.Query.{AreTokensOf}
 use Rattle.elasticlunr_search.specs.Words.{AreRead, Asks, Has, Finds}
 use Rattle.elasticlunr_search.specs.declared.words.Join.TheVariants.{Any, All}
 

@@ -1,5 +1,5 @@
 -- A search as its user sees it: of texts in documents, by a text.
-use Rattle.std.specs.Prelude.{◌≡◌, ◌≢◌, ℕ, List, [], Some, IsSomeAnd, IfSome, Contains, slice_get}
+use Rattle.std.specs.Prelude.{◌≢◌, ℕ, List, [], IsSomeAnd, IfSome, Contains, slice_get}
 use Rattle.elasticlunr_text.specs.Text.{Text, Bytes}
 use Rattle.elasticlunr.specs.Documents.{IsGiven}
 use Rattle.elasticlunr.specs.Found.{AreThose}

@@ -1,5 +1,5 @@
 //! The parts of a printed index, out of its value.
-ghost use Rattle.std.specs.Prelude.{◌≡◌, ◌≢◌, List, Some, None, IfOk, IfErr, IsSomeAnd, codes};
+ghost use Rattle.std.specs.Prelude.{◌≡◌, ◌≢◌, List, Some, None, IfOk, IfErr};
 ghost use Rattle.elasticlunr_text.specs.Text.{Bytes, bytes_of};
 ghost use Rattle.elasticlunr_store.specs.Table.{Table};
 ghost use Rattle.elasticlunr_store.specs.Contents.{Contents, IsConsistent};
@@ -65,7 +65,8 @@ pub(crate) fn tries_of(
     value: &Value,
 ) -> Result<Vec<InvertedIndex>, SearchError>
     ensures ok { IfOk result (λ tries. HasTries (view value.now) (bytes_of names.now) tries.items) }
-    ensures err { IfErr result (StopsBy BadTries ((tables : List Table) → ¬ HasTries (view value.now) (bytes_of names.now) tables)) }
+    ensures err { IfErr result (StopsBy BadTries ((tables : List Table)
+        → ¬ HasTries (view value.now) (bytes_of names.now) tables)) }
 {
     let Some(index) = value.get("index") else {
         return Err(SearchError::BadTries);
@@ -95,7 +96,8 @@ fn trie_of(alloc: Global, name: &str, index: &Value) -> Result<InvertedIndex, Se
 /// The document store.
 pub(crate) fn store_of(alloc: Global, value: &Value) -> Result<DocumentStore, SearchError>
     ensures ok { IfOk result (HasStore (view value.now)) }
-    ensures err { IfErr result (StopsBy BadStore ((contents : Contents) → IsConsistent contents → ¬ HasStore (view value.now) contents)) }
+    ensures err { IfErr result (StopsBy BadStore ((contents : Contents)
+        → IsConsistent contents → ¬ HasStore (view value.now) contents)) }
 {
     let Some(documents) = value.get("documentStore") else {
         return Err(SearchError::BadStore);

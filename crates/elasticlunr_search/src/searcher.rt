@@ -1,6 +1,5 @@
 //! Searches of a printed index, by a query in its language.
 ghost use Rattle.std.specs.Prelude.{◌≡◌, ◌<◌, ◌⊎◌, ◌↔◌, ℕ, List, false, Some, Err, IfOk, IfErr, IfSome, IsSome, IsTrue, length, option_map, slice_get};
-ghost use Rattle.std.specs.FinMap.{get};
 ghost use Rattle.elasticlunr_text.specs.Stages.{LeavesBy};
 ghost use Rattle.elasticlunr_text.specs.Text.{bytes_of, texts_of};
 ghost use Rattle.elasticlunr_store.specs.Contents.{text_map};
@@ -51,10 +50,12 @@ impl<L: Language> Searcher<L> {
 
     /// Reads the printed text of an index, in any layout, once.
     pub fn read(alloc: Global, language: L, text: &str) -> Result<Searcher<L>, SearchError>
-        ensures stands { IfOk result (λ s. (plan : Plan) (commands : Commands) → IsPrintOf plan commands text.now
+        ensures stands { IfOk result (λ s. (plan : Plan) (commands : Commands)
+            → IsPrintOf plan commands text.now
             → StandsFor L.leaves_of leaves s language plan commands) }
         ensures refused { IfErr result (Refuses text.now) }
-        ensures accepted { IfErr result (λ e. (plan : Plan) (commands : Commands) (print : IsPrintOf plan commands text.now)
+        ensures accepted { IfErr result (λ e. (plan : Plan) (commands : Commands)
+            (print : IsPrintOf plan commands text.now)
             → (e ≡ Memory) ⊎ (max_depth < depth print.value)) }
     {
         values_hold_their_parts();
@@ -64,7 +65,8 @@ impl<L: Language> Searcher<L> {
 
     /// The same from the value of the text.
     pub fn from_value(alloc: Global, language: L, value: &Value) -> Result<Searcher<L>, SearchError>
-        ensures stands { IfOk result (λ s. (plan : Plan) (commands : Commands) (text : List ℕ) → read text ≡ Some (view value.now) → IsPrintOf plan commands text
+        ensures stands { IfOk result (λ s. (plan : Plan) (commands : Commands) (text : List ℕ)
+            → read text ≡ Some (view value.now) → IsPrintOf plan commands text
             → StandsFor L.leaves_of leaves s language plan commands) }
         ensures lacks { IfErr result (Lacks (view value.now)) }
     {
@@ -89,10 +91,13 @@ impl<L: Language> Searcher<L> {
     pub fn find(&self, join: Join, field: &str, query: &str) -> Result<Vec<String>, SearchError>
         ensures no_field { (result ≡ Err NoSuchField) ↔ (has_name field.now (fields_of self.now) ≡ false) }
         ensures errors { IfErr result (λ e. (e ≡ NoSuchField) ⊎ (e ≡ Memory)) }
-        ensures found { IfOk result (λ found. (language : L) (plan : Plan) (commands : Commands) → StandsFor L.leaves_of leaves self.now language plan commands
-            → AreRead (LanguageReads (L.tokens_of language) (L.leaves_of language)) plan.fields plan.reference_field commands
+        ensures found { IfOk result (λ found. (language : L) (plan : Plan) (commands : Commands)
+            → StandsFor L.leaves_of leaves self.now language plan commands
+            → AreRead (LanguageReads (L.tokens_of language) (L.leaves_of language))
+            plan.fields plan.reference_field commands
             → (i : ℕ) × (slice_get plan.fields i ≡ Some field.now)
-            × Finds (LanguageReads (L.tokens_of language) (L.leaves_of language)) join commands i query.now (bytes_of found.items)) }
+            × Finds (LanguageReads (L.tokens_of language) (L.leaves_of language))
+            join commands i query.now (bytes_of found.items)) }
     {
         match join {
             Join::Any => self.find_any(field, query),
@@ -105,8 +110,10 @@ impl<L: Language> Searcher<L> {
     pub fn find_any(&self, field: &str, query: &str) -> Result<Vec<String>, SearchError>
         ensures no_field { (result ≡ Err NoSuchField) ↔ (has_name field.now (fields_of self.now) ≡ false) }
         ensures errors { IfErr result (λ e. (e ≡ NoSuchField) ⊎ (e ≡ Memory)) }
-        ensures found { IfOk result (λ found. (language : L) (plan : Plan) (commands : Commands) → StandsFor L.leaves_of leaves self.now language plan commands
-            → IsFound (FindsAny commands) (LanguageReads (L.tokens_of language) (L.leaves_of language)) plan.fields field.now query.now (bytes_of found.items)) }
+        ensures found { IfOk result (λ found. (language : L) (plan : Plan) (commands : Commands)
+            → StandsFor L.leaves_of leaves self.now language plan commands
+            → IsFound (FindsAny commands) (LanguageReads (L.tokens_of language) (L.leaves_of language))
+            plan.fields field.now query.now (bytes_of found.items)) }
     {
         postings_tell_tokens();
         let Some(trie) = self.trie(field) else {
@@ -123,8 +130,10 @@ impl<L: Language> Searcher<L> {
     pub fn find_all(&self, field: &str, query: &str) -> Result<Vec<String>, SearchError>
         ensures no_field { (result ≡ Err NoSuchField) ↔ (has_name field.now (fields_of self.now) ≡ false) }
         ensures errors { IfErr result (λ e. (e ≡ NoSuchField) ⊎ (e ≡ Memory)) }
-        ensures found { IfOk result (λ found. (language : L) (plan : Plan) (commands : Commands) → StandsFor L.leaves_of leaves self.now language plan commands
-            → IsFound (FindsAll commands) (LanguageReads (L.tokens_of language) (L.leaves_of language)) plan.fields field.now query.now (bytes_of found.items)) }
+        ensures found { IfOk result (λ found. (language : L) (plan : Plan) (commands : Commands)
+            → StandsFor L.leaves_of leaves self.now language plan commands
+            → IsFound (FindsAll commands) (LanguageReads (L.tokens_of language) (L.leaves_of language))
+            plan.fields field.now query.now (bytes_of found.items)) }
     {
         postings_tell_tokens();
         let Some(trie) = self.trie(field) else {
@@ -139,7 +148,8 @@ impl<L: Language> Searcher<L> {
     /// their texts, none where there is no such document.
     pub fn texts(&self, reference: &str) -> Result<Option<BTreeMap<String, String>>, SearchError>
         ensures errors { IfErr result (λ e. e ≡ Memory) }
-        ensures texts { IfOk result (λ texts. (language : L) (plan : Plan) (commands : Commands) → StandsFor L.leaves_of leaves self.now language plan commands
+        ensures texts { IfOk result (λ texts. (language : L) (plan : Plan) (commands : Commands)
+            → StandsFor L.leaves_of leaves self.now language plan commands
             → option_map (λ t. text_map t.entries) texts ≡ option_map (stored plan) (now commands reference.now)) }
     {
         match self.printed.store.get_doc(reference) {
@@ -162,8 +172,10 @@ impl<L: Language> Searcher<L> {
 
     /// The tokens of a query.
     fn tokens(&self, query: &str) -> Result<Vec<String>, AllocError>
-        ensures { IfOk result (λ tokens. (i : ℕ) → LeavesBy leaves self.now.pipeline (L.leaves_of self.now.language)
-            → AreTokensOf (LanguageReads (L.tokens_of self.now.language) (L.leaves_of self.now.language)) i query.now (texts_of tokens.items)) }
+        ensures { IfOk result (λ tokens. (i : ℕ)
+            → LeavesBy leaves self.now.pipeline (L.leaves_of self.now.language)
+            → AreTokensOf (LanguageReads (L.tokens_of self.now.language) (L.leaves_of self.now.language))
+            i query.now (texts_of tokens.items)) }
     {
         a_run_has_one_answer(&self.pipeline);
         let made = self.language.tokenize(self.alloc, query)?;

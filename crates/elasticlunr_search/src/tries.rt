@@ -51,7 +51,8 @@ pub(crate) fn find_all_in(
 /// The references that have a posting at a token.
 fn references_of(trie: &InvertedIndex, token: &str) -> Result<Vec<String>, AllocError>
     ensures sorted { IfOk result (λ found. IsStrictlySortedBy text_cmp (bytes_of found.items)) }
-    ensures listed { IfOk result (λ found. (r : Bytes) → is_listed r (bytes_of found.items) ≡ is_some (posting trie.now (chars token.now) r)) }
+    ensures listed { IfOk result (λ found. (r : Bytes)
+        → is_listed r (bytes_of found.items) ≡ is_some (posting trie.now (chars token.now) r)) }
 {
     match trie.references(token) {
         Ok(references) => Ok(references),

@@ -1,5 +1,5 @@
 -- A posting is set, by the number and by the name of its reference.
-use Rattle.std.proofs.Common.{◌≡◌, ◌≢◌, ◌⊎◌, inl, inr, ℕ, suc, ◌<◌, ◌≤◌, ◌^◌, Bool, true, false, cond, eqb, ne_eqb, is_some, IsTrue, List, [], ◌∷◌, ◌++◌, length, Option, Some, None, option_map, option_and_then, refl, sym, ap, subst, ◌∙◌, arith, length-append, bytes_eq}
+use Rattle.std.proofs.Common.{◌≡◌, ◌≢◌, ◌⊎◌, inl, inr, ℕ, suc, ◌<◌, ◌≤◌, ◌^◌, Bool, true, false, cond, eqb, ne_eqb, is_some, IsTrue, List, [], ◌∷◌, ◌++◌, length, Option, Some, None, option_map, option_and_then, refl, sym, ap, subst, ◌∙◌, arith, length-append, bytes_eq, Result, Ok, Err, OnOk, OnErr, String, Global}
 use mathlib.Core.Bool.{false≢true}
 use Rattle.std.specs.FinMap.{get, insert, get-insert}
 use Rattle.std.proofs.lemmas.Bool.{cases_eq, cases_lt, eq-eqb}
@@ -9,7 +9,7 @@ use Rattle.elasticlunr_store.proofs.Places.{get_before, get_behind, get_past}
 use Rattle.std.proofs.lemmas.Cmp.{nat_cmp_total}
 use Rattle.std.proofs.lemmas.Slice.Eq.{bytes_eq-Decides}
 use Rattle.elasticlunr_store.specs.Frequencies.{Frequencies}
-use Rattle.elasticlunr_store.specs.Names.{AreNames, Names, number_of, entered, at}
+use Rattle.elasticlunr_store.specs.Names.{AreDistinct, AreNames, Names, names_of, number_of, entered, at}
 use Rattle.elasticlunr_store.specs.Nodes.{postings_at, list_at, has, AreListed, KeepsLists, SetsNumber, SameNodes, SamePostings, SetsPosting}
 use Rattle.elasticlunr_text.specs.Text.{Bytes}
 use Rattle.elasticlunr_store.specs.declared.inverted_index.nodes.Node.{Node}
@@ -82,7 +82,7 @@ module _ (names : Names) (r : Bytes) where
       here (Some n) e = ap (λ ns. at ns r P) (old_names n e)
 
 -- names that are entered still differ
-module _ (names : Names) (are : AreNames names) (r : Bytes) (utf8 : IsUtf8 r) where
+module _ (names : Names) (r : Bytes) where
   entered_text : (n : ℕ) (q : Bytes) → slice_get (names ++ r ∷ []) n ≡ Some q → ((n < length names) × (slice_get names n ≡ Some q)) ⊎ ((n ≡ length names) × (q ≡ r))
   entered_text n q e = elim (cases_lt n (length names)) [
     | inl before ↦ inl (before, sym (get_before names (r ∷ []) n before) ∙ e)
@@ -92,25 +92,33 @@ module _ (names : Names) (are : AreNames names) (r : Bytes) (utf8 : IsUtf8 r) wh
     ]
   ]
 
-  pub names_entered : AreNames (entered names r)
-  names_entered = by (number_of names r) refl
-    where
-      by : (o : Option ℕ) → number_of names r ≡ o → AreNames (entered names r)
-      by (Some n) e = subst AreNames (sym (old_names names r n e)) are
-      by None e = subst AreNames (sym (new_names names r e)) (record {
-        distinct = λ n q there. number-push names r e q ∙ elim (entered_text n q there) [
-          | inr last ↦ ap (λ b. cond b (Some (length names)) (number_of names q)) (ap (bytes_eq r) last.1 ∙ bytes_same r) ∙ ap Some (sym last.0)
-          | inl old ↦ elim (same_name q r (bytes_eq r q) refl) [
-            | inl same ↦ let number : number_of names r ≡ Some n = ap (number_of names) (sym same) ∙ are.distinct n q old.1 in absurd (cc)
-            | inr apart ↦ apart_name q apart (bytes_eq r q) refl ∙ are.distinct n q old.1
-          ]
-        ];
-        texts = λ n q there. elim (entered_text n q there) [ inl old ↦ are.texts n q old.1 | inr last ↦ subst IsUtf8 (sym last.1) utf8 ];
-      })
-        where
-          apart_name : (q : Bytes) → q ≢ r → (b : Bool) → bytes_eq r q ≡ b → cond (bytes_eq r q) (Some (length names)) (number_of names q) ≡ number_of names q
-          apart_name q apart true is = absurd (apart (sym ((bytes_eq-Decides r q).0 is)))
-          apart_name q apart false is = ap (λ b. cond b (Some (length names)) (number_of names q)) is
+  apart_name : (q : Bytes) → q ≢ r → (b : Bool) → bytes_eq r q ≡ b → cond (bytes_eq r q) (Some (length names)) (number_of names q) ≡ number_of names q
+  apart_name q apart true is = absurd (apart (sym ((bytes_eq-Decides r q).0 is)))
+  apart_name q apart false is = ap (λ b. cond b (Some (length names)) (number_of names q)) is
+
+  pub distinct_push : AreDistinct names → number_of names r ≡ None → AreDistinct (names ++ r ∷ [])
+  distinct_push distinct e n q there = number-push names r e q ∙ elim (entered_text n q there) [
+    | inr last ↦ ap (λ b. cond b (Some (length names)) (number_of names q)) (ap (bytes_eq r) last.1 ∙ bytes_same r) ∙ ap Some (sym last.0)
+    | inl old ↦ elim (same_name q r (bytes_eq r q) refl) [
+      | inl same ↦ let number : number_of names r ≡ Some n = ap (number_of names) (sym same) ∙ distinct n q old.1 in absurd (cc)
+      | inr apart ↦ apart_name q apart (bytes_eq r q) refl ∙ distinct n q old.1
+    ]
+  ]
+
+pub names_entered : (names : Names) → AreNames names → (r : Bytes) → IsUtf8 r → AreNames (entered names r)
+names_entered names are r utf8 = by (number_of names r) refl
+  where
+    by : (o : Option ℕ) → number_of names r ≡ o → AreNames (entered names r)
+    by (Some n) e = subst AreNames (sym (old_names names r n e)) are
+    by None e = subst AreNames (sym (new_names names r e)) (record {
+      distinct = distinct_push names r are.distinct e;
+      texts = λ n q there. elim (entered_text names r n q there) [ inl old ↦ are.texts n q old.1 | inr last ↦ subst IsUtf8 (sym last.1) utf8 ];
+    })
+
+-- the names of a map stay distinct where one more name comes
+pub distinct_stay : {E : Type 0} (old new : List (String Global)) (name : Bytes) → number_of (names_of old) name ≡ None → (result : Result ℕ E) → AreDistinct (names_of old) → OnOk result (names_of new ≡ names_of old ++ name ∷ []) → OnErr result (new ≡ old) → AreDistinct (names_of new)
+distinct_stay old new name free (Ok x) distinct names same = subst AreDistinct (sym names) (distinct_push (names_of old) name distinct free)
+distinct_stay old new name free (Err e) distinct names same = subst (λ ss. AreDistinct (names_of ss)) (sym same) distinct
 
 module _ (names : Names) (references : List Reference) (nodes : List Node) (are : AreListed names references nodes) where
   -- more names, longer lists, and the same postings

@@ -1,5 +1,5 @@
 -- No nodes.
-use Rattle.std.proofs.Common.{◌≡◌, ℕ, [], ◌∷◌, Some, None, sym, ◌∙◌}
+use Rattle.std.proofs.Common.{◌≡◌, ℕ, [], ◌∷◌, Some, None, sym, ◌∙◌, arith}
 use Rattle.std.specs.Ordering.{nat_cmp}
 use Rattle.std.specs.Cmp.Lexicographic.{slice_cmp}
 use Rattle.std.specs.FinMap.{get, empty, get-insert, get-empty}
@@ -17,6 +17,7 @@ none k n f e = let nothing : get (postings_at [] k) n ≡ None = get-empty nat_c
 pub blank_index : IsIndex [] [] [] []
 blank_index = record {
   trie = empty_trie;
+  parents = λ k lt. absurd (omega arith);
   names_are = record { distinct = λ n r e. absurd (cc); texts = λ n r e. absurd (cc) };
   listed = record { listed = λ k n f e. absurd (none k n f e); named = λ k n f e. absurd (none k n f e); small = λ k n f e. absurd (none k n f e) };
 }

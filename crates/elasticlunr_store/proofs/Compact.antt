@@ -9,13 +9,13 @@ use Rattle.elasticlunr_store.specs.Frequencies.{Frequencies}
 use Rattle.elasticlunr_store.specs.Names.{at, Names, AreNames}
 use Rattle.elasticlunr_store.specs.Children.{Children, child}
 use Rattle.elasticlunr_store.specs.Nodes.{children_of, entries_of, AreAllNumbered}
-use Rattle.elasticlunr_store.specs.Trie.{rank, children_at, entries_at, step_of, walk, table_of, IsForest, IsTrie, named}
+use Rattle.elasticlunr_store.specs.Trie.{rank, children_at, entries_at, step_of, walk, table_of, IsForest, IsTrie, HaveOneParent, named}
 use Rattle.elasticlunr_store.specs.Compact.{Bears, is_marked, new_number, kept_children, KeepsBelow}
 use Rattle.elasticlunr_store.specs.declared.inverted_index.nodes.Node.{Node}
 use Rattle.elasticlunr_store.specs.declared.inverted_index.nodes.Place.{Place}
 use Rattle.elasticlunr_store.specs.declared.inverted_index.nodes.Place.TheVariants.{Root, At}
 use Rattle.elasticlunr_store.proofs.Places.{get_past, get_set, get_set_other, get_behind, get_before}
-use Rattle.elasticlunr_store.proofs.Forest.{walk_cons, walk_on, walk_after, walk_front, rises, within, one_path}
+use Rattle.elasticlunr_store.proofs.Forest.{walk_cons, walk_on, walk_after, walk_front, rises, within, one_path, AreChildren, children_from, one_parent_each}
 use Rattle.elasticlunr_store.proofs.Adding.{known_from, known_to, posting_walk, posting_none}
 use Rattle.std.proofs.lemmas.List.{nil_from_length}
 use mathlib.Core.Bool.{false≢true}
@@ -160,6 +160,22 @@ module _ (root : Children) (nodes : List Node) (trie : IsTrie root nodes) (names
   kept_between k t (At m) low e kept =
       let b = (marked m kept.0).0 kept.1 in
       (low, (marked k low).1 (record { text = t ++ b.text; place = b.place; leads = walk_after (step_of [] nodes) t b.text (At k) (At m) (walk_below root nodes t k ∙ e) ∙ b.leads; reference = b.reference; frequency = b.frequency; own = b.own }))
+
+  new_children_are : AreChildren (step_of root nodes) (length nodes) → AreChildren (step_of root2 nodes2) (length nodes2)
+  new_children_are are a lt =
+      let from = moved_from a lt in
+      let child = are from.0 from.1.0 in
+      let parent = kept_parent child.0 child.1 from.0 child.2 from.1 in
+      (moved child.0, child.1, ap (λ es. value_of es child.1) (new_children child.0 parent) ∙ child_kept marks (children_at root nodes child.0) (trie.in_order child.0) child.1 from.0 child.2 from.1.1 ∙ ap Some (sym from.2))
+    where
+      kept_parent : (p : Place) (c k : ℕ) → step_of root nodes p c ≡ Some k → IsKept (At k) → IsKept p
+      kept_parent Root c k e kept = tt
+      kept_parent (At j) c k e kept =
+          kept_between j (c ∷ []) (At k) (omega (arith, trie.forest.higher (At j) c k e, trie.forest.is_node (At j) c k e)) (walk_on (step_of root nodes) (At j) c k [] e) kept
+
+  pub compact_parents : HaveOneParent (step_of root nodes) (length nodes) → HaveOneParent (step_of root2 nodes2) (length nodes2)
+  compact_parents parents =
+      one_parent_each (step_of root2 nodes2) (length nodes2) (length nodes2) new_forest (new_children_are (children_from (step_of root nodes) (length nodes) parents))
 
   -- a place with a posting is kept
   kept_posting : (q : Place) (r : Bytes) (n : ℕ) → rank q ≤ length nodes → at names r (entries_at root nodes q) ≡ Some n → IsKept q

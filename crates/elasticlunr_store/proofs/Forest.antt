@@ -4,7 +4,7 @@ use Rattle.std.proofs.lemmas.Bool.{cases_eq, cases_lt}
 use Rattle.std.specs.Str.{bytes_eq}
 use Rattle.std.proofs.Common.{◌≡◌, ◌≢◌, ◌⊎◌, inl, inr, ℕ, suc, ◌+◌, ◌<◌, ◌≤◌, Bool, true, false, [], ◌∷◌, ◌++◌, length, Option, Some, None, option_map, option_and_then, refl, sym, ap, subst, ◌∙◌, arith, true≢false, append-nil, append_assoc, add-zero, le_refl}
 use Rattle.elasticlunr_text.specs.Text.{Text}
-use Rattle.elasticlunr_store.specs.Trie.{rank, Step, walk, IsForest}
+use Rattle.elasticlunr_store.specs.Trie.{rank, Step, walk, IsForest, HaveOneParent}
 use Rattle.elasticlunr_store.specs.declared.inverted_index.nodes.Place.{Place}
 use Rattle.elasticlunr_store.specs.declared.inverted_index.nodes.Place.TheVariants.{Root, At}
 
@@ -130,6 +130,25 @@ module _ (step : Step) (n : ℕ) (forest : IsForest step n) where
       let front = same v one.0 one.2 (two.2 ∙ ap Some (sym place)) in
       λ i. front i ++ letter i ∷ []) t there) s
 
+-- each of n nodes is a child
+abbrev pub AreChildren : Step → ℕ → Type 0
+AreChildren step n = (k : ℕ) → k < n → (p : Place) × (c : ℕ) × (step p c ≡ Some k)
+
+-- in a forest this is the same as having one parent
+pub children_from : (step : Step) (n : ℕ) → HaveOneParent step n → AreChildren step n
+children_from step n parents k lt = let one = parents k lt in (one.parent, one.character, one.is_child)
+
+pub one_parent_each : (step : Step) (n m : ℕ) → IsForest step m → AreChildren step n → HaveOneParent step n
+one_parent_each step n m forest are k lt =
+    let child = are k lt in
+    record {
+      parent = child.0;
+      character = child.1;
+      is_child = child.2;
+      lower = forest.higher child.0 child.1 k child.2;
+      only = λ q d e. (forest.one_parent q child.0 d child.1 k e child.2, forest.one_character q child.0 d child.1 k e child.2);
+    }
+
 -- `to` is `from`, with the value_of k of the place p under the character c
 pub record Attaches (from to : Step) (p : Place) (c k : ℕ) : Type 0 where
   pub here : to p c ≡ Some k
@@ -191,6 +210,12 @@ module _ (from to : Step) (n : ℕ) (forest : IsForest from n) (blank : IsBlankF
     ];
   }
 
+  pub attached_children : AreChildren from n → AreChildren to (suc n)
+  attached_children are k lt = elim (cases_eq k n) [
+    | inl same ↦ (p, c, attaches.here ∙ ap Some (sym same))
+    | inr apart ↦ let child = are k (omega arith) in (child.0, child.1, old_step child.0 child.1 k child.2)
+  ]
+
   pub attached_blank : IsBlankFrom to (suc n)
   attached_blank k d h = attaches.other_place (At k) d (λ e. let r : rank (At k) ≡ rank p = ap rank e in omega (arith, low)) ∙ blank k d (omega arith)
 
@@ -246,6 +271,7 @@ OldOrNew from to n whole s = (walk to Root s ≡ walk from Root s) ⊎ ((k : ℕ
 
 pub record Grown (from to : Step) (n : ℕ) (t cs : Text) (p : Place) : Type 0 where
   pub forest : IsForest to (n + length cs)
+  pub children : AreChildren from n → AreChildren to (n + length cs)
   pub blank : IsBlankFrom to (n + length cs)
   pub whole : walk to Root (t ++ cs) ≡ Some (end_of p n cs)
   pub others : (s : Text) → OldOrNew from to n (t ++ cs) s
@@ -279,6 +305,7 @@ grown [] t from to n p forest blank leads free same =
     let P : Step → Type 0 = λ step. Grown from step n t [] p in
     subst P ext (record {
       forest = subst (λ m. IsForest from m) (sym (add-zero n)) forest;
+      children = λ are k lt. are k (omega arith);
       blank = λ k d h. blank k d (omega arith);
       whole = ap (walk from Root) (append-nil t) ∙ leads;
       others = λ s. inl refl;
@@ -293,6 +320,7 @@ grown (c ∷ cs) t from to n p forest blank leads free (mid, attaches, more) =
     let count : suc n + length cs ≡ n + suc (length cs) = omega arith in
     record {
       forest = subst (λ m. IsForest to m) count next.forest;
+      children = λ are k lt. next.children (attached_children from mid n forest blank t p c leads gap attaches are) k (omega arith);
       blank = subst (λ m. IsBlankFrom to m) count next.blank;
       whole = ap (walk to Root) (sym split) ∙ next.whole;
       others = λ s. elim (next.others s) [

@@ -11,7 +11,7 @@ use Rattle.elasticlunr_store.specs.Table.{AddsToken}
 use Rattle.elasticlunr_store.specs.Pairs.{Pairs, value_of, IsStrictlySorted}
 use Rattle.elasticlunr_store.specs.Names.{Names, number_of, at}
 use Rattle.elasticlunr_store.specs.Nodes.{children_of, entries_of, postings_at, list_at, has, AreListed, KeepsLists}
-use Rattle.elasticlunr_store.specs.Trie.{Step, rank, children_at, entries_at, step_of, walk, table_of, IsTrie, AreCharacters, IsForest}
+use Rattle.elasticlunr_store.specs.Trie.{Step, rank, children_at, entries_at, step_of, walk, table_of, IsTrie, AreCharacters, IsForest, HaveOneParent}
 use Rattle.elasticlunr_store.specs.Branch.{IsInner, IsBranch, Grows}
 use Rattle.elasticlunr_store.specs.declared.inverted_index.nodes.Reference.{Reference}
 use Rattle.std.specs.FinMap as map
@@ -19,7 +19,7 @@ use Rattle.elasticlunr_store.proofs.Added.{inserted_here, inserted_other}
 use Rattle.elasticlunr_store.proofs.Removed.{one_name}
 use Rattle.elasticlunr_store.proofs.Gap.{sets_only_insert, sorted_insert}
 use Rattle.elasticlunr_store.proofs.Places.{get_before, get_behind, get_past}
-use Rattle.elasticlunr_store.proofs.Forest.{same_place, Grown, Chains, AttachesAll, IsBlankFrom, attaches_all, grown, end_of, within, walk_off, walk_after}
+use Rattle.elasticlunr_store.proofs.Forest.{same_place, Grown, Chains, AttachesAll, IsBlankFrom, attaches_all, grown, end_of, within, walk_off, walk_after, children_from, one_parent_each}
 use Rattle.elasticlunr_store.proofs.Adding.{Entered, token_added, posting_none}
 use Rattle.elasticlunr_store.specs.declared.inverted_index.nodes.Node.{Node}
 use Rattle.elasticlunr_store.specs.declared.inverted_index.nodes.Place.{Place}
@@ -188,6 +188,11 @@ module _ (root : Pairs) (nodes : List Node) (trie : IsTrie root nodes) (root2 : 
     forest = subst (λ k. IsForest (step_of root2 nodes2) k) (omega (arith, grows.count, lines)) branch_grown.forest;
     characters = characters;
   }
+
+  pub branch_parents : HaveOneParent (step_of root nodes) (length nodes) → HaveOneParent (step_of root2 nodes2) (length nodes2)
+  branch_parents parents =
+      one_parent_each (step_of root2 nodes2) (length nodes2) (length nodes2) branch_trie.forest
+      (λ k lt. branch_grown.children (children_from (step_of root nodes) (length nodes) parents) k (omega (arith, grows.count, lines)))
 
   end_is : end_of p (length nodes) (c ∷ cs) ≡ At (length nodes + length cs)
   end_is = end_of_at cs (length nodes)

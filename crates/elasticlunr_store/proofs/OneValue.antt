@@ -22,12 +22,12 @@ below_none : (k : List ℕ) (ms : Members) → IsBelow k ms → get_member k ms 
 below_none k no_members h = refl
 below_none k (member l d ms) h = ap (λ o. match_ordering o (get_member k ms) (Some d) (get_member k ms)) h.0 ∙ below_none k ms h.1
 
-further : (k l : List ℕ) (ms : Members) → slice_cmp nat_cmp k l ≡ Less → IsBelow l ms → IsBelow k ms
+pub further : (k l : List ℕ) (ms : Members) → slice_cmp nat_cmp k l ≡ Less → IsBelow l ms → IsBelow k ms
 further k l no_members h below = tt
 further k l (member m d ms) h below = (nat_list_cmp_total.trans k l m h below.0, further k l ms h below.1)
 
 -- members in order are told by what is found at each key
-same_by_get : (ms ns : Members) → HasKeysInOrder ms → HasKeysInOrder ns → ((k : List ℕ) → get_member k ms ≡ get_member k ns) → ms ≡ ns
+pub same_by_get : (ms ns : Members) → HasKeysInOrder ms → HasKeysInOrder ns → ((k : List ℕ) → get_member k ms ≡ get_member k ns) → ms ≡ ns
 same_by_get no_members no_members one two same = refl
 same_by_get no_members (member l e ns) one two same = let bad : None ≡ Some e = same l ∙ get_here l e ns in absurd (cc)
 same_by_get (member k d ms) no_members one two same = let bad : None ≡ Some d = sym (same k) ∙ get_here k d ms in absurd (cc)

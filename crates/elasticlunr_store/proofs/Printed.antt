@@ -16,7 +16,7 @@ use Rattle.serde_json.specs.Find.{get_member}
 use Rattle.elasticlunr_text.specs.Text.{Text}
 use Rattle.elasticlunr_store.specs.Table.{Postings, knows}
 use Rattle.elasticlunr_store.specs.Tree.{IsTree, AreParts, IsBelow, HasKeysInOrder, frequencies}
-use Rattle.elasticlunr_store.specs.Printed.{children_members, postings_before, place_members, tree_of, part, HasTrees}
+use Rattle.elasticlunr_store.specs.Printed.{children_members, postings_before, place_members, tree_of, node_tree, HasTrees}
 use Rattle.elasticlunr_store.proofs.Forest.{walk_push, walk_to, last_step}
 use Rattle.elasticlunr_store.proofs.Tables.{In, knows_walk, postings_walk, text_tie}
 use Rattle.elasticlunr_store.proofs.Finishing.{not_letter, letters_same}
@@ -204,9 +204,9 @@ module _ (root : Children) (nodes : List Node) (trie : IsTrie root nodes) (names
   tree_at (suc n) t k leads deep = place_tree root nodes trie names t (At k) leads (tree_of names nodes n)
       (λ c j step. tree_at n (t ++ c ∷ []) j (walk_to (step_of root nodes) t c j Root (At k) leads step) (omega (arith, trie.forest.higher (At k) c j step)))
 
-  pub root_tree : IsTree (table_of root nodes names) [] (object (place_members (part names nodes) (named names map.empty) root))
-  unfolding part
-  root_tree = place_tree root nodes trie names [] Root refl (part names nodes) (λ c k step. tree_at (length nodes) (c ∷ []) k (walk_to (step_of root nodes) [] c k Root Root refl step) (omega arith))
+  pub root_tree : IsTree (table_of root nodes names) [] (object (place_members (node_tree names nodes) (named names map.empty) root))
+  unfolding node_tree
+  root_tree = place_tree root nodes trie names [] Root refl (node_tree names nodes) (λ c k step. tree_at (length nodes) (c ∷ []) k (walk_to (step_of root nodes) [] c k Root Root refl step) (omega arith))
 
   -- the depth makes no difference
   same_children : (value other : ℕ → Data) (es : Children) → ((c k : ℕ) → In (c, k) es → value k ≡ other k) → children_members value es ≡ children_members other es
@@ -231,5 +231,5 @@ module _ (root : Children) (nodes : List Node) (trie : IsTrie root nodes) (names
       (λ c j there. deep_enough n m j (omega (arith, h, trie.forest.higher (At k) c j (child_of k c j there))) (omega (arith, g, trie.forest.higher (At k) c j (child_of k c j there)))))
 
   pub has_trees : HasTrees names nodes
-  unfolding part
+  unfolding node_tree
   has_trees k = deep_enough (length nodes) (suc (length nodes)) k (omega arith) (omega arith)

@@ -8,7 +8,7 @@ use Rattle.json.specs.Token.{Token}
 use Rattle.serde_json.specs.Data.{Members, member}
 use Rattle.elasticlunr_store.specs.Tree.{frequencies}
 use Rattle.elasticlunr_store.specs.Table.{Postings}
-use Rattle.elasticlunr_store.specs.Printed.{children_members, place_members, postings_before, postings_tokens, tokens_of, part, node_members, left_members, stack_tokens, HasTrees}
+use Rattle.elasticlunr_store.specs.Printed.{children_members, place_members, postings_before, postings_tokens, tokens_of, node_tree, node_members, left_members, stack_tokens, HasTrees}
 use Rattle.elasticlunr_store.proofs.Named.{no_df, no_entries}
 use Rattle.std.specs.FinMap.{empty}
 use Rattle.elasticlunr_store.specs.declared.inverted_index.nodes.Node.{Node}
@@ -38,23 +38,23 @@ module _ (names : Names) (nodes : List Node) where
 
   -- a child comes first: its key, the beginning of its object, its members, and then the others
   pub child_first : HasTrees names nodes → (c k : ℕ) (ms : Members) (more : List Token)
-      → tokens_of (member (encode_utf8 c) (part names nodes k) ms) ++ more ≡ (Token.key (encode_utf8 c) ∷ Token.begin_object ∷ []) ++ (tokens_of (node_members names nodes k) ++ (tokens_of ms ++ more))
+      → tokens_of (member (encode_utf8 c) (node_tree names nodes k) ms) ++ more ≡ (Token.key (encode_utf8 c) ∷ Token.begin_object ∷ []) ++ (tokens_of (node_members names nodes k) ++ (tokens_of ms ++ more))
   child_first trees c k ms more =
       ap (λ d. tokens_of (member (encode_utf8 c) d ms) ++ more) (trees k)
       ∙ ap (λ ts. Token.key (encode_utf8 c) ∷ Token.begin_object ∷ ts) (append_assoc (tokens_of (node_members names nodes k)) (tokens_of ms) more)
 
   -- `df` and `docs` before a child above `d`
-  pub above_d : (P : Postings) (es : Children) → ((c k : ℕ) (rest : Children) → es ≡ (c, k) ∷ rest → 100 < c) → place_members (part names nodes) P es ≡ postings_before P (children_members (part names nodes) es)
+  pub above_d : (P : Postings) (es : Children) → ((c k : ℕ) (rest : Children) → es ≡ (c, k) ∷ rest → 100 < c) → place_members (node_tree names nodes) P es ≡ postings_before P (children_members (node_tree names nodes) es)
   above_d P [] above = refl
   above_d P ((c, k) ∷ es) above = rw (lt-ltb 100 c (above c k es refl)) refl
 
   -- a child up to `d`
-  pub up_to_d : (P : Postings) (c k : ℕ) (es : Children) → c ≤ 100 → place_members (part names nodes) P ((c, k) ∷ es) ≡ member (encode_utf8 c) (part names nodes k) (place_members (part names nodes) P es)
+  pub up_to_d : (P : Postings) (c k : ℕ) (es : Children) → c ≤ 100 → place_members (node_tree names nodes) P ((c, k) ∷ es) ≡ member (encode_utf8 c) (node_tree names nodes k) (place_members (node_tree names nodes) P es)
   up_to_d P c k es low = rw (le-ltb 100 c low) refl
 
   -- the key of a child is written, and its members and then those after it are left
   pub opened : HasTrees names nodes → (ls : List Left) (l : Left) (c k : ℕ) (ls1 ls2 : List Left) → ls1 ≡ ls ++ l ∷ [] → stack_tokens names nodes ls2 ≡ tokens_of (node_members names nodes k) ++ stack_tokens names nodes ls1
-      → tokens_of (member (encode_utf8 c) (part names nodes k) (left_members names nodes l)) ++ stack_tokens names nodes ls ≡ (Token.key (encode_utf8 c) ∷ Token.begin_object ∷ []) ++ stack_tokens names nodes ls2
+      → tokens_of (member (encode_utf8 c) (node_tree names nodes k) (left_members names nodes l)) ++ stack_tokens names nodes ls ≡ (Token.key (encode_utf8 c) ∷ Token.begin_object ∷ []) ++ stack_tokens names nodes ls2
   opened trees ls l c k ls1 ls2 one two =
       child_first trees c k (left_members names nodes l) (stack_tokens names nodes ls)
       ∙ ap (λ ts. (Token.key (encode_utf8 c) ∷ Token.begin_object ∷ []) ++ ts)

@@ -1,9 +1,10 @@
 -- What a value tells, when it is read.
 use Rattle.std.proofs.Common.{true, ◌≡◌, ◌≢◌, ◌⊎◌, inl, inr, ℕ, zero, suc, get_or, ◌+◌, ◌<◌, List, [], ◌∷◌, ◌++◌, length, Option, Some, None, IsSome, is_some, option_map, option_and_then, codes, encode_utf8, refl, sym, ap, subst, ◌∙◌, arith, append-nil, append_assoc, Less, Equal, Greater, String, Global, string_bytes, string_cmp, length-append}
 use mathlib.Core.Bool.{false≢true}
-use Rattle.std.proofs.lemmas.Bool.{cases_eq}
+use Rattle.std.proofs.lemmas.Bool.{cases_eq, cases_lt}
 use Rattle.std.proofs.lemmas.Cmp.{nat_list_cmp_total, tied_itself}
 use Rattle.std.proofs.lemmas.Str.{encode_same}
+use Rattle.std.specs.declared.cmp.Ordering.{Ordering}
 use Rattle.std.specs.Ordering.{nat_cmp, match_ordering, ordering_reverse, is_eq}
 use Rattle.std.specs.Cmp.Lexicographic.{slice_cmp}
 use Rattle.std.specs.Str.{all_scalars}
@@ -17,16 +18,17 @@ use Rattle.serde_json.specs.Events.{members_len}
 use Rattle.serde_json.specs.View.{view, members_view}
 use Rattle.serde_json.proofs.Views.{Entry, get_member-put, get_member-put_other}
 use Rattle.serde_json.specs.declared.value.Value.{Value}
-use Rattle.elasticlunr_store.specs.Pairs.{IsGapFor, IsStrictlySorted}
+use Rattle.elasticlunr_store.specs.Pairs.{key_at, IsGapFor, IsStrictlySorted}
 use Rattle.elasticlunr_store.specs.Children.{Children, child}
 use Rattle.elasticlunr_store.specs.Table.{Entries}
 use Rattle.elasticlunr_store.specs.Tree.{frequency, frequencies}
 use Rattle.elasticlunr_store.specs.Finished.{value_at}
-use Rattle.elasticlunr_store.specs.Reading.{seen, HasNewValues, ReadsChildren}
+use Rattle.elasticlunr_store.specs.Reading.{borrowed_values, HasNewValues, ReadsChildren}
 use Rattle.std.specs.Borrow.{Bor}
 use Rattle.elasticlunr_store.proofs.Docs.{bytes_of}
 use Rattle.elasticlunr_store.proofs.ReadingMaps.{object_of}
-use Rattle.elasticlunr_store.proofs.Gap.{sets_only_insert, sorted_insert}
+use Rattle.elasticlunr_store.proofs.Gap.{sets_only_insert, sorted_insert, value_at_place}
+use Rattle.elasticlunr_store.proofs.Rising.{encode_rising}
 use Rattle.elasticlunr_store.proofs.Forest.{same_or_not}
 use Rattle.elasticlunr_store.proofs.Finishing.{not_letter, letters_same}
 use Rattle.elasticlunr_store.proofs.Places.{get_before, get_behind, get_within}
@@ -101,9 +103,34 @@ two_characters text rest more c d x first second one =
 
 -- ---- children
 
+-- characters stand in the order of their bytes
+letter_below : (d c : ℕ) → slice_cmp nat_cmp (encode_utf8 d) (encode_utf8 c) ≡ Less → d < c
+letter_below d c less = elim (cases_lt d c) [
+  | inl lt ↦ lt
+  | inr ge ↦ elim (cases_eq d c) [
+    | inl same ↦
+        let tied : slice_cmp nat_cmp (encode_utf8 d) (encode_utf8 c) ≡ Equal = ap (λ x. slice_cmp nat_cmp (encode_utf8 d) (encode_utf8 x)) (sym same) ∙ tied_itself nat_list_cmp_total (encode_utf8 d) in
+        absurd (less_is_not_equal (sym less ∙ tied))
+    | inr apart ↦
+        let greater : slice_cmp nat_cmp (encode_utf8 d) (encode_utf8 c) ≡ Greater = nat_list_cmp_total.antisymm (encode_utf8 d) (encode_utf8 c) ∙ ap ordering_reverse (encode_rising c d (omega arith)) in
+        absurd (less_is_not_greater (sym less ∙ greater))
+  ]
+]
+  where
+    less_is_not_equal : Less ≡ Equal → ⊥
+    less_is_not_equal e = cc
+
+    less_is_not_greater : Less ≡ Greater → ⊥
+    less_is_not_greater e = cc
+
 below_middle : (first : Entry) (es : List Entry) (e : Entry) (more : List Entry) → AllByRecursion (λ y. string_cmp first.0 y ≡ Less) (keys_of (es ++ e ∷ more)) → string_cmp first.0 e.0 ≡ Less
 below_middle first [] e more h = h.0
 below_middle first (x ∷ es) e more h = below_middle first es e more h.1
+
+below_either : {P : Type 0} (o : Ordering) (rest : Option Data) (d : Data) → (o ≡ Equal → P) → (IsSome rest → P) → IsSome (match_ordering o rest (Some d) rest) → P
+below_either Less rest d here more some = more some
+below_either Equal rest d here more some = here refl
+below_either Greater rest d here more some = more some
 
 -- a key stands once
 pub not_among : (done : List Entry) (e : Entry) (more : List Entry) → IsStrictlySortedBy string_cmp (keys_of (done ++ e ∷ more)) → get_member (string_bytes e.0) (members_view done) ≡ None
@@ -122,6 +149,15 @@ found_among (first ∷ done) e more h =
     let above : slice_cmp nat_cmp (string_bytes e.0) (string_bytes first.0) ≡ Greater =
     nat_list_cmp_total.antisymm (string_bytes e.0) (string_bytes first.0) ∙ ap ordering_reverse (below_middle first done e more h.0) in
     rw above (found_among done e more h.1)
+
+-- what stands among the members before a key is below it
+pub below_next : (done : List Entry) (e : Entry) (more : List Entry) → IsStrictlySortedBy string_cmp (keys_of (done ++ e ∷ more)) → (q : List ℕ) → IsSome (get_member q (members_view done)) → slice_cmp nat_cmp q (string_bytes e.0) ≡ Less
+unfolding IsStrictlySortedBy
+below_next [] e more h q some = absurd (false≢true some)
+below_next (first ∷ done) e more h q some =
+    below_either (slice_cmp nat_cmp q (string_bytes first.0)) (get_member q (members_view done)) (view first.1)
+    (λ is. ap (λ x. slice_cmp nat_cmp x (string_bytes e.0)) (text_tie q (string_bytes first.0) (ap is_eq is)) ∙ below_middle first done e more h.0)
+    (below_next done e more h.1 q) some
 
 pub is_there : (done : List Entry) (e : Entry) (more : List Entry) → IsSome (get_member (string_bytes e.0) (members_view (done ++ e ∷ more)))
 is_there [] e more = ap (λ o. is_some (match_ordering o (get_member (string_bytes e.0) (members_view more)) (Some (view e.1)) (get_member (string_bytes e.0) (members_view more)))) (tied_itself nat_list_cmp_total (string_bytes e.0))
@@ -241,6 +277,25 @@ module _ (es : Children) (old new : List Value) (ms : Members) (reads : ReadsChi
       ];
     }
 
+  -- a character above those of the members goes last
+  pub goes_last : (c : ℕ) → ((q : List ℕ) → IsSome (get_member q ms) → slice_cmp nat_cmp q (encode_utf8 c) ≡ Less) → IsGapFor es c (length es)
+  goes_last c above = record {
+    in_range = omega arith;
+    smaller_before = λ j lt.
+        let d = key_at es j in
+        let k = get_or es j (0, 0) in
+        let here : child es d ≡ Some k.1 = value_at_place es reads.values.sorted d j (record { in_range = lt; has_key = refl }) in
+        let v = value_there d k.1 here in
+        let some : get_member (encode_utf8 d) ms ≡ Some (view v.0) = reads.present d ∙ ap (option_and_then (value_at new)) here ∙ ap (option_map view) v.1 in
+        letter_below d c (above (encode_utf8 d) (ap is_some some));
+    greater_after = λ j le lt. absurd (omega arith);
+  }
+
+-- a new last one
+pub insert_last : {A : Type 0} (xs : List A) (x : A) → insert xs (length xs) x ≡ xs ++ x ∷ []
+insert_last [] x = refl
+insert_last (y ∷ xs) x = ap (λ t. y ∷ t) (insert_last xs x)
+
 -- no member is read yet
 pub nothing_read : (vs : List Value) → ReadsChildren [] vs vs no_members
 nothing_read vs = record {
@@ -259,18 +314,18 @@ nothing_read vs = record {
 
 -- ---- values behind references
 
-pub seen_push : (rs : List (Bor Value)) (r : Bor Value) → seen (rs ++ r ∷ []) ≡ seen rs ++ r.now ∷ []
-seen_push [] r = refl
-seen_push (x ∷ rs) r = ap (λ vs. x.now ∷ vs) (seen_push rs r)
+pub borrowed_push : (rs : List (Bor Value)) (r : Bor Value) → borrowed_values (rs ++ r ∷ []) ≡ borrowed_values rs ++ r.now ∷ []
+borrowed_push [] r = refl
+borrowed_push (x ∷ rs) r = ap (λ vs. x.now ∷ vs) (borrowed_push rs r)
 
-pub length-seen : (rs : List (Bor Value)) → length (seen rs) ≡ length rs
-length-seen [] = refl
-length-seen (x ∷ rs) = ap suc (length-seen rs)
+pub length-borrowed : (rs : List (Bor Value)) → length (borrowed_values rs) ≡ length rs
+length-borrowed [] = refl
+length-borrowed (x ∷ rs) = ap suc (length-borrowed rs)
 
-seen_at : (rs : List (Bor Value)) (k : ℕ) (d : Bor Value) → k < length rs → slice_get (seen rs) k ≡ Some (get_or rs k d).now
-seen_at [] k d h = absurd (omega arith)
-seen_at (r ∷ rs) zero d h = refl
-seen_at (r ∷ rs) (suc k) d h = seen_at rs k d (omega arith)
+borrowed_at : (rs : List (Bor Value)) (k : ℕ) (d : Bor Value) → k < length rs → slice_get (borrowed_values rs) k ≡ Some (get_or rs k d).now
+borrowed_at [] k d h = absurd (omega arith)
+borrowed_at (r ∷ rs) zero d h = refl
+borrowed_at (r ∷ rs) (suc k) d h = borrowed_at rs k d (omega arith)
 
-pub seen_there : (rs : List (Bor Value)) (n k : ℕ) (r : Bor Value) → k < length rs → n ≡ k → r ≡ get_or rs n r → slice_get (seen rs) k ≡ Some r.now
-seen_there rs n k r h same is = seen_at rs k r h ∙ ap (λ j. Some (get_or rs j r).now) (sym same) ∙ ap (λ x. Some x.now) (sym is)
+pub borrowed_there : (rs : List (Bor Value)) (n k : ℕ) (r : Bor Value) → k < length rs → n ≡ k → r ≡ get_or rs n r → slice_get (borrowed_values rs) k ≡ Some r.now
+borrowed_there rs n k r h same is = borrowed_at rs k r h ∙ ap (λ j. Some (get_or rs j r).now) (sym same) ∙ ap (λ x. Some x.now) (sym is)

@@ -8,7 +8,7 @@ use Rattle.elasticlunr_store.specs.Table.{Table, Postings, knows, posting, AddsT
 use Rattle.elasticlunr_store.specs.Pairs.{Pairs, value_of, IsStrictlySorted}
 use Rattle.elasticlunr_store.specs.Names.{Names, number_of, at}
 use Rattle.elasticlunr_store.specs.Nodes.{children_of, entries_of, SameShape, SamePostings, SetsPosting, LosesReference}
-use Rattle.elasticlunr_store.specs.Trie.{children_at, entries_at, step_of, walk, named, table_of, IsTrie, IsForest, AreCharacters}
+use Rattle.elasticlunr_store.specs.Trie.{children_at, entries_at, step_of, walk, named, table_of, IsTrie, IsForest, AreCharacters, HaveOneParent}
 use Rattle.elasticlunr_store.specs.declared.inverted_index.nodes.Node.{Node}
 use Rattle.elasticlunr_store.specs.declared.inverted_index.nodes.Place.{Place}
 use Rattle.elasticlunr_store.specs.declared.inverted_index.nodes.Place.TheVariants.{Root, At}
@@ -42,6 +42,9 @@ module _ (root : Pairs) (nodes : List Node) (trie : IsTrie root nodes) (nodes2 :
     forest = subst (λ s. IsForest s (length nodes2)) same_steps (subst (IsForest (step_of root nodes)) (sym shape.count) trie.forest);
     characters = λ q. subst AreCharacters (sym (children q)) (trie.characters q);
   }
+
+  pub settled_parents : HaveOneParent (step_of root nodes) (length nodes) → HaveOneParent (step_of root nodes2) (length nodes2)
+  settled_parents parents = subst (λ s. HaveOneParent s (length nodes2)) same_steps (subst (HaveOneParent (step_of root nodes)) (sym shape.count) parents)
 
   pub same_walk : (t : Text) → walk (step_of root nodes2) Root t ≡ walk (step_of root nodes) Root t
   same_walk t = λ i. walk (sym same_steps i) Root t

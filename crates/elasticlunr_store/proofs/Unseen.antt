@@ -15,7 +15,7 @@ use Rattle.elasticlunr_store.specs.declared.inverted_index.nodes.Reference.{Refe
 use Rattle.elasticlunr_store.specs.declared.inverted_index.nodes.Place.{Place}
 use Rattle.elasticlunr_store.specs.declared.inverted_index.nodes.Place.TheVariants.{Root, At}
 use Rattle.elasticlunr_store.proofs.Added.{names_entered, still_listed, length-entered, same_postings, at-entered}
-use Rattle.elasticlunr_store.proofs.Settled.{settled_trie, unseen}
+use Rattle.elasticlunr_store.proofs.Settled.{settled_trie, settled_parents, unseen}
 
 module _ (root : Pairs) (nodes : List Node) (names : Names) (references : List Reference) (index : IsIndex root nodes names references) (r : Bytes) (names2 : Names) (is : names2 ≡ entered names r) where
   module _ (root2 : Pairs) (nodes2 : List Node) (same : SameTrie root nodes root2 nodes2) where
@@ -27,6 +27,7 @@ module _ (root : Pairs) (nodes : List Node) (names : Names) (references : List R
         subst (λ ns. IsIndex root2 nodes2 ns references2) (sym is) (subst (λ es. IsIndex es nodes2 (entered names r) references2) (sym (same.children Root)) (record {
           names_are = names_entered names index.names_are r utf8;
           trie = settled_trie root nodes index.trie nodes2 same_nodes.shape;
+          parents = settled_parents root nodes index.trie nodes2 same_nodes.shape index.parents;
           listed = still_listed names references nodes index.listed (entered names r) references2 nodes2 (length-entered names r _ refl) keeps same_nodes.postings;
         }))
 

@@ -11,18 +11,18 @@ use Rattle.serde_json.specs.declared.value.Value.{Value}
 use Rattle.elasticlunr_text.specs.Text.{Text}
 use Rattle.elasticlunr_store.specs.Table.{Table, IsTable, postings, posting, Entries, postings_of}
 use Rattle.elasticlunr_store.specs.Tree.{IsTree, frequencies}
-use Rattle.elasticlunr_store.specs.Pairs.{IsStrictlySorted}
+use Rattle.elasticlunr_store.specs.Pairs.{IsStrictlySorted, value_of}
 use Rattle.elasticlunr_store.specs.Names.{Names}
 use Rattle.elasticlunr_store.specs.Children.{Children, child}
 use Rattle.elasticlunr_store.specs.Nodes.{children_of, entries_of}
-use Rattle.elasticlunr_store.specs.Trie.{rank, walk, IsForest, children_at, entries_at, step_of, table_of, IsTrie, AreCharacters, named}
+use Rattle.elasticlunr_store.specs.Trie.{rank, walk, IsForest, children_at, entries_at, step_of, table_of, IsTrie, AreCharacters, named, HaveOneParent}
 use Rattle.elasticlunr_store.specs.Finished.{value_at, IsNode}
 use Rattle.elasticlunr_store.specs.Reading.{ReadsNode}
 use Rattle.elasticlunr_store.specs.declared.inverted_index.nodes.Node.{Node}
 use Rattle.elasticlunr_store.specs.declared.inverted_index.nodes.Place.{Place}
 use Rattle.elasticlunr_store.specs.declared.inverted_index.nodes.Place.TheVariants.{Root, At}
 use Rattle.elasticlunr_store.proofs.Places.{get_before, get_behind, get_past}
-use Rattle.elasticlunr_store.proofs.Forest.{same_place, walk_to}
+use Rattle.elasticlunr_store.proofs.Forest.{same_place, walk_to, AreChildren, one_parent_each}
 use Rattle.elasticlunr_store.proofs.Finishing.{node_tree}
 use Rattle.elasticlunr_store.proofs.Unique.{part_at, same_docs}
 use Rattle.elasticlunr_store.proofs.Docs.{bytes_of}
@@ -44,6 +44,7 @@ pub record IsRead (names : Names) (root : Children) (nodes : List Node) (d : Dat
   pub low : length nodes ≤ length vs
   pub in_order : (p : Place) → IsStrictlySorted (children_at root nodes p)
   pub forest : IsForest (step_of root nodes) (length vs)
+  pub children : AreChildren (step_of root nodes) (length vs)
   pub characters : (p : Place) → AreCharacters (children_at root nodes p)
   pub read : (p : Place) → rank p ≤ length nodes → HasNode names root nodes d vs p
   pub possible : (T : Table) → IsTable T → IsTree T [] d → (k : ℕ) (v : Value) → slice_get vs k ≡ Some v → (p : Text) × IsTree T p (view v)
@@ -97,6 +98,7 @@ root_read names kids es new d reads bare = record {
     one_parent = parent;
     one_character = character;
   };
+  children = λ k lt. let child = reads.values.each k (omega arith) lt in (Root, child.0, child.1);
   characters = letters;
   read = at_root;
   possible = λ T table tree k v there. child_possible kids es [] new d reads T [] tree k v (omega arith) there;
@@ -215,6 +217,20 @@ module _ (names names2 : Names) (root : Children) (nodes : List Node) (d : Data)
     ];
   }
 
+  more_children : AreChildren (step_of root after) (length new)
+  more_children k lt = elim (cases_lt k (length vs)) [
+    | inl old ↦ let child = before.children k old in (child.0, child.1, stays child.0 child.1 child.2)
+    | inr fresh ↦ let child = reads.values.each k fresh lt in (At (length nodes), child.0, ap (λ es. value_of es child.0) (new_children (At (length nodes)) refl) ∙ child.1)
+  ]
+    where
+      stays : (q : Place) (c : ℕ) → step_of root nodes q c ≡ Some k → step_of root after q c ≡ Some k
+      stays q c e = elim (same_place q (At (length nodes))) [
+        | inr apart ↦ ap (λ es. value_of es c) (other_children q apart) ∙ e
+        | inl is ↦
+            let none : step_of root nodes q c ≡ None = ap (λ x. step_of root nodes x c) is ∙ ap (λ o. value_of (children_of o) c) (get_past nodes (length nodes) (omega arith)) in
+            absurd (cc)
+      ]
+
   -- a value stays where it is
   same_value : (k : ℕ) → k < length vs → slice_get new k ≡ slice_get vs k
   same_value k lt = ap (λ xs. slice_get xs k) reads.values.grown ∙ get_before vs reads.values.more k lt
@@ -256,6 +272,7 @@ module _ (names names2 : Names) (root : Children) (nodes : List Node) (d : Data)
       | inr apart ↦ subst IsStrictlySorted (sym (other_children q apart)) (before.in_order q)
     ];
     forest = more_forest;
+    children = more_children;
     characters = λ q. elim (same_place q (At (length nodes))) [
       | inl is ↦ subst AreCharacters (sym (new_children q is)) reads.values.characters
       | inr apart ↦ subst AreCharacters (sym (other_children q apart)) (before.characters q)
@@ -276,6 +293,9 @@ module _ (names names2 : Names) (root : Children) (nodes : List Node) (d : Data)
 module _ (names : Names) (root : Children) (nodes : List Node) (d : Data) (vs : List Value) (all : IsRead names root nodes d vs) (count : length vs ≡ length nodes) where
   pub read_trie : IsTrie root nodes
   read_trie = record { in_order = all.in_order; forest = subst (IsForest (step_of root nodes)) count all.forest; characters = all.characters }
+
+  pub read_parents : HaveOneParent (step_of root nodes) (length nodes)
+  read_parents = one_parent_each (step_of root nodes) (length nodes) (length vs) all.forest (λ k lt. all.children k (omega (arith, count)))
 
   tree_from : (fuel : ℕ) (t : Text) (p : Place) → walk (step_of root nodes) Root t ≡ Some p → rank p ≤ length nodes → length nodes ≤ rank p + fuel → (x : Data) → data_at d vs p ≡ Some x → IsTree (table_of root nodes names) t x
   tree_from zero t p leads low far x is =

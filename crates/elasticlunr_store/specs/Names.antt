@@ -26,9 +26,13 @@ entered names r = if is_some (number_of names r) then names else names ++ r ∷ 
 abbrev pub names_of : List (String Global) → Names
 names_of strings = map string_bytes strings
 
+-- no name comes twice: the number of each is its place
+abbrev pub AreDistinct : Names → Type 0
+AreDistinct names = (n : ℕ) (r : Bytes) → slice_get names n ≡ Some r → number_of names r ≡ Some n
+
 -- no name comes twice, and each is a text
 pub record AreNames (names : Names) : Type 0 where
-  pub distinct : (n : ℕ) (r : Bytes) → slice_get names n ≡ Some r → number_of names r ≡ Some n
+  pub distinct : AreDistinct names
   pub texts : (n : ℕ) (r : Bytes) → slice_get names n ≡ Some r → IsUtf8 r
 
 -- each posting is that of a number with a name

@@ -48,20 +48,20 @@ module _ (names : Names) (nodes : List Node) where
   tree_of (suc n) k = object (place_members (tree_of n) (named names (entries_of (slice_get nodes k))) (children_of (slice_get nodes k)))
 
   -- the tree of the node k
-  unfoldable pub part : ℕ → Data
-  part k = tree_of (length nodes) k
+  unfoldable pub node_tree : ℕ → Data
+  node_tree k = tree_of (length nodes) k
 
   -- its members
   abbrev pub node_members : ℕ → Members
-  node_members k = place_members part (named names (entries_of (slice_get nodes k))) (children_of (slice_get nodes k))
+  node_members k = place_members node_tree (named names (entries_of (slice_get nodes k))) (children_of (slice_get nodes k))
 
   -- each node has a tree
   abbrev pub HasTrees : Type 0
-  HasTrees = (k : ℕ) → part k ≡ object (node_members k)
+  HasTrees = (k : ℕ) → node_tree k ≡ object (node_members k)
 
   abbrev pub left_members : Left → Members
-  left_members (WithPostings p es) = place_members part (named names (entries_at [] nodes p)) es.now
-  left_members (WithoutPostings es) = children_members part es.now
+  left_members (WithPostings p es) = place_members node_tree (named names (entries_at [] nodes p)) es.now
+  left_members (WithoutPostings es) = children_members node_tree es.now
 
   -- the last comes first
   abbrev pub stack_tokens : List Left → List Token

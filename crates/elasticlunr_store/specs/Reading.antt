@@ -14,8 +14,8 @@ use Rattle.elasticlunr_store.specs.Tree.{frequencies}
 use Rattle.elasticlunr_store.specs.Finished.{value_at, IsNode}
 
 -- the values behind references
-abbrev pub seen : List (Bor Value) → List Value
-seen rs = map (λ r. r.now) rs
+abbrev pub borrowed_values : List (Bor Value) → List Value
+borrowed_values rs = map (λ r. r.now) rs
 
 -- new is old with the values of these children behind it, each once
 pub record HasNewValues (children : Children) (old new : List Value) : Type 0 where

@@ -53,6 +53,18 @@ module _ (step : Step) where
     pub one_parent : (p q : Place) (c d k : ℕ) → step p c ≡ Some k → step q d ≡ Some k → p ≡ q
     pub one_character : (p q : Place) (c d k : ℕ) → step p c ≡ Some k → step q d ≡ Some k → c ≡ d
 
+  -- The node k is the child of exactly one place, the root or a node of a lower number, and under exactly one character.
+  pub record HasOneParent (k : ℕ) : Type 0 where
+    pub parent : Place
+    pub character : ℕ
+    pub is_child : step parent character ≡ Some k
+    pub lower : rank parent ≤ k
+    pub only : (q : Place) (d : ℕ) → step q d ≡ Some k → (q ≡ parent) × (d ≡ character)
+
+  -- each of n nodes has one parent, so none stands alone
+  abbrev pub HaveOneParent : ℕ → Type 0
+  HaveOneParent n = (k : ℕ) → k < n → HasOneParent k
+
 -- the postings that frequencies by number stand for: those of each name
 abbrev pub named : Names → Frequencies → Postings
 named names P = from_entries (pairs (λ r. at names r P) names)
@@ -89,9 +101,10 @@ module _ (root : Pairs) (nodes : List Node) where
     pub forest : IsForest step_of (length nodes)
     pub characters : (p : Place) → AreCharacters (children_at p)
 
--- nodes in a forest, whose postings are listed by their references, whose names differ
+-- nodes below the root, each of which has one parent, whose postings are listed by their references, whose names differ
 pub record IsIndex (root : Pairs) (nodes : List Node) (names : Names) (references : List Reference) : Type 0 where
   pub trie : IsTrie root nodes
+  pub parents : HaveOneParent (step_of root nodes) (length nodes)
   pub names_are : AreNames names
   pub listed : AreListed names references nodes
 

@@ -101,8 +101,8 @@ impl SearchOptions {
         })
     }
 
-    /// The JSON value of the options: an object with the keys `bool`, `expand` and `fields`. What is
-    /// `None` is not written.
+    /// The JSON value of the options: an object with the keys `bool`, `expand` and `fields`. What
+    /// is `None` is not written.
     pub fn to_value(&self, alloc: Global) -> Result<Value, IndexError>
         ensures value { IfOk result (λ v. view v ≡ options_value (options_of self.now)) }
         ensures small { HasSmallBoosts (options_of self.now) }
@@ -113,8 +113,8 @@ impl SearchOptions {
         Ok(whole_value(alloc, self.bool, self.expand, fields)?)
     }
 
-    /// The options that a JSON value gives. `bool`, `expand` and `fields` must be there; options of a
-    /// field may be absent or null. Other keys are skipped.
+    /// The options that a JSON value gives. `bool`, `expand` and `fields` must be there; options of
+    /// a field may be absent or null. Other keys are skipped.
     pub fn from_value(alloc: Global, value: &Value) -> Result<Self, IndexError>
         ensures ok { IfOk result (λ options. ReadsOptions (view value.now) (options_of options)) }
         ensures err { IfErr result (IsRefused ((options : Options) → ¬ (ReadsOptions (view value.now) options))) }

@@ -29,8 +29,8 @@ use value::{document_lengths_value, document_texts_value, store_value};
 /// have.
 ///
 /// It stands for its contents: whether texts are kept, a map from references to texts by field, and
-/// a map from references to lengths by field. A reference may have lengths and no texts. Where texts
-/// are not kept each map of texts is empty.
+/// a map from references to lengths by field. A reference may have lengths and no texts. Where
+/// texts are not kept each map of texts is empty.
 #[derive(Debug, Drop)]
 pub struct DocumentStore {
     alloc: Global,
@@ -52,8 +52,8 @@ impl Model for DocumentStore {
 }
 
 impl DocumentStore {
-    /// An empty store, which keeps texts or does not. It requests no memory; later calls take it from
-    /// this allocator.
+    /// An empty store, which keeps texts or does not. It requests no memory; later calls take it
+    /// from this allocator.
     pub fn new(alloc: Global, save: bool) -> Self
         ensures new { result ≡ new_contents save }
         ensures contents { IsContents result }
@@ -170,7 +170,8 @@ impl DocumentStore {
 
     /// A copy of the texts of a reference.
     pub fn get_doc(&self, doc_ref: &str) -> Result<Option<BTreeMap<String, String>>, IndexError>
-        ensures ok { IfOk result (λ doc. option_map (λ texts. text_map texts.entries) doc ≡ get self.now.texts doc_ref.now) }
+        ensures ok { IfOk result (λ doc. option_map (λ texts. text_map texts.entries) doc
+            ≡ get self.now.texts doc_ref.now) }
         ensures memory { IsOkUnless result Memory }
     {
         match self.docs.get(doc_ref) {
@@ -213,7 +214,8 @@ impl DocumentStore {
     pub fn from_value(alloc: Global, value: &Value) -> Result<Self, IndexError>
         ensures ok { IfOk result (λ store. IsStoreValue store (view value.now)) }
         ensures contents { IfOk result (λ store. IsContents store) }
-        ensures foreign { IfErr result (IsRefused ((c : Contents) → IsConsistent c → ¬ (IsStoreValue c (view value.now)))) }
+        ensures foreign { IfErr result (IsRefused ((c : Contents)
+            → IsConsistent c → ¬ (IsStoreValue c (view value.now)))) }
     {
         let Some(members) = value.as_object() else {
             return Err(IndexError::ForeignValue);

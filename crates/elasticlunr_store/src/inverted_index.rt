@@ -48,10 +48,11 @@ use value::tree_value;
 /// one, and for some pairs of a known token and a reference a frequency. Known texts stay known
 /// when their postings go, until the trie is compacted.
 ///
-/// The nodes stand in one vector, and name their children by number. So a trie is dropped without
-/// recursion, and a text is looked up by halves at each of its characters. A reference has a
-/// number, under which its postings stand; its name is kept once. A name may stay when its postings
-/// go, until the trie is compacted; no call shows it.
+/// The nodes stand in one vector, and name their children by number. Each is the child of exactly
+/// one: of the root, or of a node of a lower number. So a trie is dropped without recursion, and a
+/// text is looked up by halves at each of its characters. A reference has a number, under which its
+/// postings stand; its name is kept once. A name may stay when its postings go, until the trie is
+/// compacted; no call shows it.
 #[derive(Debug, Drop)]
 pub struct InvertedIndex {
     root: Vec<(char, usize)>,
@@ -95,8 +96,8 @@ impl InvertedIndex {
     /// nothing.
     ///
     /// Where memory is wanting, the table stays as it was. The work is in proportion to the token;
-    /// the reference is looked up once among all names, and by halves among the postings of the
-    /// token.
+    /// the reference is looked up among all names unless it is the newest one, and by halves among
+    /// the postings of the token.
     pub fn add_token(
         &mut self,
         doc_ref: &str,

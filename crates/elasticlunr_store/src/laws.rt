@@ -15,7 +15,8 @@ ghost use Rattle.elasticlunr_store.specs.Refused.{IsRefused, IsAnswer};
 
 /// A value is the trie value of one table at most.
 pub fn one_table_a_value()
-    ensures { (T : Table) (U : Table) (v : Data) → IsTable T → IsTable U → IsTrieValue T v → IsTrieValue U v → T ≡ U }
+    ensures { (T : Table) (U : Table) (v : Data)
+        → IsTable T → IsTable U → IsTrieValue T v → IsTrieValue U v → T ≡ U }
 {}
 
 /// A table has one trie value at most.
@@ -55,8 +56,8 @@ pub fn one_value_a_store()
     ensures { (c : Contents) (v : Data) (w : Data) → IsStoreValue c v → IsStoreValue c w → v ≡ w }
 {}
 
-/// An answer that keeps the contract of `DocumentStore::from_value` on the value of contents is those
-/// contents, or want of memory.
+/// An answer that keeps the contract of `DocumentStore::from_value` on the value of contents is
+/// those contents, or want of memory.
 pub fn store_values_are_read_back()
     ensures { (c : Contents) (v : Data) (answer : Result Contents IndexError)
         → IsConsistent c → IsStoreValue c v
@@ -85,8 +86,8 @@ pub fn one_options_a_value()
     ensures { (a : Options) (b : Options) (v : Data) → ReadsOptions v a → ReadsOptions v b → a ≡ b }
 {}
 
-/// An answer that keeps the contract of `SearchOptions::from_value` on what is written for options is
-/// those options, or want of memory.
+/// An answer that keeps the contract of `SearchOptions::from_value` on what is written for options
+/// is those options, or want of memory.
 pub fn written_options_are_read_back()
     ensures { (options : Options) (answer : Result Options IndexError)
         → IfOk answer (ReadsOptions (options_value options))

@@ -7,13 +7,14 @@ ghost use Rattle.serde_json.specs.View.{view, members_view};
 use serde_json::{Map, Value};
 use std::alloc::AllocError;
 
-// Sets a member of an object.
+/// Sets the member of an object under a key.
 pub fn put_member(
     members: &mut Map<String, Value>,
     key: String,
     value: Value,
 ) -> Result<(), AllocError>
-    ensures put { OnOk result (members_view members.new.entries ≡ put (string_bytes key) (view value) (members_view members.old.entries)) }
+    ensures put { OnOk result (members_view members.new.entries
+        ≡ put (string_bytes key) (view value) (members_view members.old.entries)) }
     ensures ordered { IsOrdered string_cmp members.new }
 {
     members.insert(key, value)?;

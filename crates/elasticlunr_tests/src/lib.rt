@@ -9,10 +9,6 @@ mod own;
 #[cfg(test)]
 mod own_language;
 #[cfg(test)]
-mod own_parts;
-#[cfg(test)]
 mod pipelines;
-#[cfg(test)]
-mod shortest;
 #[cfg(test)]
 mod texts;

@@ -1,16 +1,15 @@
 //! Functions, stages and tokenizers of the user's own.
-ghost use Rattle.std.specs.Prelude.{◌≡◌, ◌++◌, ◌∷◌, [], ℕ, List, IfOk, Ok, None, Some, Vec, String, codes, option_map, string_bytes, if◌then◌else◌};
-ghost use Rattle.std.specs.Borrow.{Bor};
+ghost use Rattle.std.specs.Prelude.{◌≡◌, ◌++◌, ◌∷◌, [], IfOk, None, Some, codes, option_map, string_bytes, if◌then◌else◌};
 ghost use Rattle.std.specs.Str.{bytes_eq, chars, encode_utf8_all};
-ghost use Rattle.std.specs.declared.alloc.Global.{Global};
 ghost use Rattle.elasticlunr_text.specs.Text.{bytes_of, text_of};
+ghost use Rattle.elasticlunr.specs.OneAnswer.{HasOneAnswer};
 
-use crate::own_parts::{Tokenize, index_of_words, index_with_tokenizer, whole};
-use crate::shortest::search_index;
 use crate::texts::repeated;
 use elasticlunr::lang::English;
 use elasticlunr::pipeline::{FnWrapper, Pipeline, PipelineFn, Stage};
 use elasticlunr::{ELASTICLUNR_VERSION, IndexBuilder, IndexError};
+use elasticlunr_own::{Tokenize, index_of_words, index_with_tokenizer, whole};
+use elasticlunr_site::search_index;
 use std::alloc::{AllocError, Global};
 use std::process::Abort;
 use std::test::Fail;
@@ -30,7 +29,8 @@ fn marked(_alloc: Global, mut token: String) -> Result<Option<String>, AllocErro
 /// The same, by its characters.
 fn without_x(alloc: Global, token: String) -> Result<Option<String>, AllocError>
     ensures { IfOk result (λ left. option_map text_of left ≡ option_map chars
-        (if bytes_eq (encode_utf8_all (text_of token)) (codes "x") then None else Some (encode_utf8_all (text_of token) ++ codes "!"))) }
+        (if bytes_eq (encode_utf8_all (text_of token)) (codes "x") then None
+        else Some (encode_utf8_all (text_of token) ++ codes "!"))) }
 {
     marked(alloc, token)
 }
@@ -127,8 +127,7 @@ fn printed_bare(
     longer: &str,
 ) -> Result<(String, bool, bool), IndexError>
     requires callable { Tokenize.IsAlwaysCallable tokenizer }
-    requires one_answer { (a b : Global) (s t : Bor (List ℕ)) (v w : Vec (String Global) Global) → s.now ≡ t.now
-        → Tokenize.post tokenizer a s (Ok v) → Tokenize.post tokenizer b t (Ok w) → bytes_of v.items ≡ bytes_of w.items }
+    requires one_answer { HasOneAnswer (Tokenize.post tokenizer) }
 {
     let mut index = builder
         .with_pipeline(Pipeline { queue })

@@ -17,6 +17,7 @@ pub mod ShortLemmas
 pub mod EndingLemmas
 pub mod CutLemmas
 pub mod StepLemmas
+pub mod TableLemmas
 pub mod KeepLemmas
 pub mod StemLemmas
 pub mod OneStem

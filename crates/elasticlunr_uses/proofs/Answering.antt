@@ -1,5 +1,5 @@
 -- What the uses answer.
-use Rattle.std.proofs.Common.{◌≡◌, ◌≢◌, ℕ, zero, suc, Bool, true, cond, List, [], ◌∷◌, map, Option, None, Some, IfSome, codes, bytes_eq, refl, sym, ap, subst, ◌∙◌}
+use Rattle.std.proofs.Common.{◌≡◌, ℕ, zero, suc, cond, List, [], ◌∷◌, map, Option, None, Some, IfSome, codes, refl, sym, ap, subst}
 use Rattle.std.specs.Prelude.{IsSomeAnd, Contains}
 use Rattle.std.specs.List.{slice_get}
 use Rattle.std.proofs.lemmas.Slice.Eq.{bytes_eq-Decides}

@@ -3,15 +3,24 @@
 #![tactic(auto)]
 
 mod error;
+mod first;
 mod found;
+mod order;
 mod own;
+mod page;
+mod update;
 
 use crate::error::UseError;
+use crate::first::first_index;
 use crate::found::built_printed_found;
-use crate::own::{index_with_tokenizer, text_of_words, whole};
+use crate::order::in_either_order;
+use crate::own::text_of_words;
+use crate::page::Page;
+use crate::update::updated_and_new;
 use elasticlunr::IndexBuilder;
 use elasticlunr::lang::English;
-use std::alloc::Global;
+use elasticlunr_own::{index_with_tokenizer, whole};
+use std::alloc::{AllocError, Global};
 use std::io;
 use std::process::ExitCode;
 
@@ -27,17 +36,35 @@ fn main(rt: HostRuntime) -> io::Result<ExitCode> {
 
 /// What the uses give, a line each.
 fn lines(alloc: Global) -> Result<String, UseError> {
+    let guide = Page::new("guide", "Copy the folder into your site.");
+    let search = Page::new("search", "Readers find pages by their words.");
+    let draft = Page::new("draft", "Nothing yet.");
     let mut text = String::new(alloc);
-    let guide = ("guide", "Copy the folder into your site.");
-    let search = ("search", "Readers find pages by their words.");
-    for reference in &built_printed_found(alloc, guide.0, guide.1, search.0, search.1, "a word")? {
-        text.push_str(reference.as_str())?;
-        text.push('\n')?;
+    add_line(&mut text, first_index(alloc)?.as_str())?;
+    for reference in &built_printed_found(
+        alloc,
+        guide.reference,
+        guide.text,
+        search.reference,
+        search.text,
+        "a word",
+    )? {
+        add_line(&mut text, reference.as_str())?;
     }
-    text.push_str(text_of_words(alloc)?.as_str())?;
-    text.push('\n')?;
+    let orders = in_either_order(alloc, guide, search)?;
+    add_line(&mut text, orders.0.as_str())?;
+    add_line(&mut text, orders.1.as_str())?;
+    let update = updated_and_new(alloc, guide, search, draft, "Words find pages.")?;
+    add_line(&mut text, update.0.as_str())?;
+    add_line(&mut text, update.1.as_str())?;
+    add_line(&mut text, text_of_words(alloc)?.as_str())?;
     let builder = IndexBuilder::<English>::new(alloc)?;
-    text.push_str(index_with_tokenizer(builder, Box::new(alloc, whole)?)?.as_str())?;
-    text.push('\n')?;
+    let whole_titles = index_with_tokenizer(builder, Box::new(alloc, whole)?)?;
+    add_line(&mut text, whole_titles.as_str())?;
     Ok(text)
+}
+
+fn add_line(text: &mut String, line: &str) -> Result<(), AllocError> {
+    text.push_str(line)?;
+    text.push('\n')
 }

@@ -22,7 +22,8 @@ pub fn count_tokens(alloc: Global, tokens: Vec<String>) -> Result<BTreeMap<Strin
     Ok(counts)
 }
 
-/// Gives the reference a posting at each counted token: the root of its count. The empty text gets none.
+/// Gives the reference a posting at each counted token: the root of its count. The empty text gets
+/// none.
 pub fn add_postings(
     trie: &mut InvertedIndex,
     doc_ref: &str,

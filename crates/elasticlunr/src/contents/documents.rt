@@ -1,8 +1,9 @@
 //! The texts of a document that are stored.
-ghost use Rattle.std.specs.Prelude.{◌≡◌, ◌≤◌, length, map, IfOk, IsOkUnless};
+ghost use Rattle.std.specs.Prelude.{◌≡◌, ◌≤◌, length, IfOk, IsOkUnless};
 ghost use Rattle.elasticlunr_text.specs.Text.{bytes_of};
 ghost use Rattle.elasticlunr_text.specs.declared.error.IndexError.TheVariants.{Memory};
 ghost use Rattle.elasticlunr_store.specs.Contents.{text_map};
+ghost use Rattle.elasticlunr.specs.Fields.{borrowed};
 ghost use Rattle.elasticlunr.specs.Texts.{reference_alone, with_texts};
 
 use elasticlunr_text::IndexError;
@@ -21,7 +22,7 @@ pub fn document_of(
     requires { length values.now ≤ length fields.now }
     ensures memory { IsOkUnless result Memory }
     ensures texts { IfOk result (λ document. text_map document.entries
-        ≡ with_texts (reference_alone ref_field.now doc_ref.now) (bytes_of fields.now) (map (λ value. value.now) values.now)) }
+        ≡ with_texts (reference_alone ref_field.now doc_ref.now) (bytes_of fields.now) (borrowed values.now)) }
 {
     let mut document = BTreeMap::new(alloc);
     document.insert(

@@ -39,19 +39,27 @@ pub fn a_kept_language_makes_one_document()
 /// An index that reads only what a language reads makes only documents, and so commands, that are
 /// made by the language.
 pub fn an_index_makes_what_its_language_makes<L: Language>(index: &Index<L>)
-    ensures documents { (lang : L) → ReadsOnly (reads_of L.tokens_of leaves index.now) (LanguageReads (L.tokens_of lang) (L.leaves_of lang))
-        → (reference : Bytes) (values : List Bytes) (document : Document) → IsDocument L.tokens_of leaves index.now reference values document
-        → IsDocumentOf (choices_of index.now).fields (choices_of index.now).reference_field (LanguageReads (L.tokens_of lang) (L.leaves_of lang)) reference values document }
-    ensures commands { (lang : L) → ReadsOnly (reads_of L.tokens_of leaves index.now) (LanguageReads (L.tokens_of lang) (L.leaves_of lang))
-        → (calls : List Call) (commands : Commands) → AreCommandsOf (IsDocument L.tokens_of leaves index.now) calls commands
-        → AreCommandsOf (IsDocumentOf (choices_of index.now).fields (choices_of index.now).reference_field (LanguageReads (L.tokens_of lang) (L.leaves_of lang))) calls commands }
+    ensures documents { (lang : L)
+        → ReadsOnly (reads_of L.tokens_of leaves index.now) (LanguageReads (L.tokens_of lang) (L.leaves_of lang))
+        → (reference : Bytes) (values : List Bytes) (document : Document)
+        → IsDocument L.tokens_of leaves index.now reference values document
+        → IsDocumentOf (choices_of index.now).fields (choices_of index.now).reference_field
+        (LanguageReads (L.tokens_of lang) (L.leaves_of lang)) reference values document }
+    ensures commands { (lang : L)
+        → ReadsOnly (reads_of L.tokens_of leaves index.now) (LanguageReads (L.tokens_of lang) (L.leaves_of lang))
+        → (calls : List Call) (commands : Commands)
+        → AreCommandsOf (IsDocument L.tokens_of leaves index.now) calls commands
+        → AreCommandsOf (IsDocumentOf (choices_of index.now).fields (choices_of index.now).reference_field
+        (LanguageReads (L.tokens_of lang) (L.leaves_of lang))) calls commands }
 {}
 
 /// Two indexes with equal settings make equal documents. Equal calls of both are equal commands,
 /// and the texts that both print after them are equal.
 pub fn equal_settings_print_equal_texts<L: Language>(index: &Index<L>, other: &Index<L>)
-    ensures documents { SameSettings index.now other.now → (reference : Bytes) (values : List Bytes) (document : Document)
-        → IsDocument L.tokens_of leaves other.now reference values document → IsDocument L.tokens_of leaves index.now reference values document }
+    ensures documents { SameSettings index.now other.now
+        → (reference : Bytes) (values : List Bytes) (document : Document)
+        → IsDocument L.tokens_of leaves other.now reference values document
+        → IsDocument L.tokens_of leaves index.now reference values document }
     ensures commands { SameSettings index.now other.now → (calls : List Call) (left : Commands) (right : Commands)
         → AreCommandsOf (IsDocument L.tokens_of leaves index.now) calls left
         → AreCommandsOf (IsDocument L.tokens_of leaves other.now) calls right → left ≡ right }
@@ -69,13 +77,18 @@ pub fn equal_settings_print_equal_texts<L: Language>(index: &Index<L>, other: &I
 /// Equal calls whose documents a kept language makes are equal commands, and the texts that indexes
 /// of one plan print after them are equal.
 pub fn kept_languages_print_equal_texts()
-    ensures commands { (language : AnyLanguage) (fields : List Bytes) (reference_field : Bytes) (calls : List Call) (left : Commands) (right : Commands)
-        → AreCommandsOf (IsDocumentOf fields reference_field (LanguageReads words (language_leaves language))) calls left
-        → AreCommandsOf (IsDocumentOf fields reference_field (LanguageReads words (language_leaves language))) calls right → left ≡ right }
+    ensures commands { (language : AnyLanguage) (fields : List Bytes) (reference_field : Bytes)
+        (calls : List Call) (left : Commands) (right : Commands)
+        → AreCommandsOf (IsDocumentOf fields reference_field (LanguageReads words (language_leaves language)))
+        calls left
+        → AreCommandsOf (IsDocumentOf fields reference_field (LanguageReads words (language_leaves language)))
+        calls right → left ≡ right }
     ensures texts { (language : AnyLanguage) (plan : Plan) (calls : List Call) (left : Commands) (right : Commands)
         (text_of : Data → List ℕ) (text : List ℕ) (another : List ℕ)
-        → AreCommandsOf (IsDocumentOf plan.fields plan.reference_field (LanguageReads words (language_leaves language))) calls left
-        → AreCommandsOf (IsDocumentOf plan.fields plan.reference_field (LanguageReads words (language_leaves language))) calls right
+        → AreCommandsOf (IsDocumentOf plan.fields plan.reference_field
+        (LanguageReads words (language_leaves language))) calls left
+        → AreCommandsOf (IsDocumentOf plan.fields plan.reference_field
+        (LanguageReads words (language_leaves language))) calls right
         → IsTextAfter text_of plan left text → IsTextAfter text_of plan right another → text ≡ another }
 {
     a_kept_language_makes_one_document();

@@ -5,6 +5,7 @@ ghost use Rattle.elasticlunr.specs.History.{Commands, Document, ◌▸◌, add, 
 /// Where nothing was compacted, two documents of different references may be added in either
 /// order.
 pub fn documents_in_either_order_agree()
-    ensures { (commands : Commands) (d : Document) (e : Document) → HasNoCompaction commands → d.reference ≢ e.reference
+    ensures { (commands : Commands) (d : Document) (e : Document)
+        → HasNoCompaction commands → d.reference ≢ e.reference
         → Agree (commands ▸ add d ▸ add e) (commands ▸ add e ▸ add d) }
 {}

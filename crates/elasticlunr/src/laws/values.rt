@@ -17,21 +17,24 @@ use elasticlunr_store::laws::{one_contents_a_value, one_table_a_value, one_value
 
 /// The value of settings and commands is one.
 pub fn settings_and_commands_have_one_value()
-    ensures { (plan : Plan) (commands : Commands) (v : Data) (w : Data) → IsValue plan commands v → IsValue plan commands w → v ≡ w }
+    ensures { (plan : Plan) (commands : Commands) (v : Data) (w : Data)
+        → IsValue plan commands v → IsValue plan commands w → v ≡ w }
 {
     one_value_a_table();
 }
 
 /// Commands that agree have equal values.
 pub fn agreeing_commands_have_equal_values()
-    ensures { (plan : Plan) (left : Commands) (right : Commands) (v : Data) (w : Data) → Agree left right → IsValue plan left v → IsValue plan right w → v ≡ w }
+    ensures { (plan : Plan) (left : Commands) (right : Commands) (v : Data) (w : Data)
+        → Agree left right → IsValue plan left v → IsValue plan right w → v ≡ w }
 {
     settings_and_commands_have_one_value();
 }
 
 /// A value has no float, so that its text is that of the whole value.
 pub fn values_have_no_float()
-    ensures { (plan : Plan) (tables : List Table) (contents : Contents) (v : Data) → IsValueOf plan tables contents v → has_float v ≡ false }
+    ensures { (plan : Plan) (tables : List Table) (contents : Contents) (v : Data)
+        → IsValueOf plan tables contents v → has_float v ≡ false }
 {}
 
 /// A value comes from one list of tables and one contents, and from plans that print alike.
@@ -65,11 +68,12 @@ pub fn equal_texts_have_equal_parts()
 /// A value has its parts under their keys: the names of the fields, the store, and under each
 /// field's name the trie value of its table.
 pub fn values_hold_their_parts()
-    ensures fields { (plan : Plan) (tables : List Table) (contents : Contents) (v : Data) → IsValueOf plan tables contents v
-        → get (codes "fields") v ≡ Some (array (texts plan.fields)) }
-    ensures store { (plan : Plan) (tables : List Table) (contents : Contents) (v : Data) → IsValueOf plan tables contents v
-        → get (codes "documentStore") v ≡ Some (store_value contents) }
+    ensures fields { (plan : Plan) (tables : List Table) (contents : Contents) (v : Data)
+        → IsValueOf plan tables contents v → get (codes "fields") v ≡ Some (array (texts plan.fields)) }
+    ensures store { (plan : Plan) (tables : List Table) (contents : Contents) (v : Data)
+        → IsValueOf plan tables contents v → get (codes "documentStore") v ≡ Some (store_value contents) }
     ensures tries { (plan : Plan) (tables : List Table) (contents : Contents) (v : Data)
         → IsTrue (all_differ plan.fields) → length tables ≡ length plan.fields → IsValueOf plan tables contents v
-        → IsSomeAnd (get (codes "index") v) (λ index. AllZip (λ name table. IsSomeAnd (get name index) (IsTrieValue table)) plan.fields tables) }
+        → IsSomeAnd (get (codes "index") v)
+        (λ index. AllZip (λ name table. IsSomeAnd (get name index) (IsTrieValue table)) plan.fields tables) }
 {}

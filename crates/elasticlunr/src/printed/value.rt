@@ -5,12 +5,12 @@ ghost use Rattle.elasticlunr_store.specs.Table.{IsTable};
 ghost use Rattle.elasticlunr_text.specs.declared.error.IndexError.TheVariants.{Memory};
 ghost use Rattle.elasticlunr.specs.Printed.{texts, object_of, AreTrieValues};
 ghost use Rattle.elasticlunr.specs.Parts.{IsPrinted};
-ghost use Rattle.serde_json.specs.Data.{Data, array, put};
-ghost use Rattle.serde_json.specs.View.{view, members_view};
+ghost use Rattle.serde_json.specs.Data.{Data, array};
+ghost use Rattle.serde_json.specs.View.{view};
 ghost use Rattle.serde_json.specs.Written.{has_float};
 
 use super::{ELASTICLUNR_VERSION, Parts};
-use elasticlunr_store::InvertedIndex;
+use elasticlunr_store::{InvertedIndex, put_member};
 use elasticlunr_text::IndexError;
 use serde_json::{Map, Value};
 use std::alloc::{AllocError, Global};
@@ -23,24 +23,28 @@ pub fn index_value(alloc: Global, parts: Parts<'_>) -> Result<Value, IndexError>
 {
     let mut members = Map::new(alloc);
     let documents = parts.store.to_value()?;
-    put_member(alloc, &mut members, "documentStore", documents)?;
-    let fields = names_value(alloc, parts.fields)?;
-    put_member(alloc, &mut members, "fields", fields)?;
-    let tries = tries_value(alloc, parts.fields, parts.tries)?;
-    put_member(alloc, &mut members, "index", tries)?;
+    put_member(
+        &mut members,
+        String::from_str(alloc, "documentStore")?,
+        documents,
+    )?;
+    let fields = array_of_names(alloc, parts.fields)?;
+    put_member(&mut members, String::from_str(alloc, "fields")?, fields)?;
+    let tries = object_of_tries(alloc, parts.fields, parts.tries)?;
+    put_member(&mut members, String::from_str(alloc, "index")?, tries)?;
     let language = Value::try_from_str(alloc, parts.language)?;
-    put_member(alloc, &mut members, "lang", language)?;
-    let stages = names_value(alloc, parts.stages)?;
-    put_member(alloc, &mut members, "pipeline", stages)?;
+    put_member(&mut members, String::from_str(alloc, "lang")?, language)?;
+    let stages = array_of_names(alloc, parts.stages)?;
+    put_member(&mut members, String::from_str(alloc, "pipeline")?, stages)?;
     let reference = Value::try_from_str(alloc, parts.ref_field)?;
-    put_member(alloc, &mut members, "ref", reference)?;
+    put_member(&mut members, String::from_str(alloc, "ref")?, reference)?;
     let version = Value::try_from_str(alloc, ELASTICLUNR_VERSION)?;
-    put_member(alloc, &mut members, "version", version)?;
+    put_member(&mut members, String::from_str(alloc, "version")?, version)?;
     Ok(Value::Object(members))
 }
 
 // The array of some names.
-fn names_value(alloc: Global, names: &[String]) -> Result<Value, AllocError>
+fn array_of_names(alloc: Global, names: &[String]) -> Result<Value, AllocError>
     ensures { IfOk result (λ v. view v ≡ array (texts (map string_bytes names.now))) }
 {
     let mut values = Vec::with_capacity(alloc, names.len())?;
@@ -51,32 +55,20 @@ fn names_value(alloc: Global, names: &[String]) -> Result<Value, AllocError>
 }
 
 // The object of the fields' tries.
-fn tries_value(
+fn object_of_tries(
     alloc: Global,
     fields: &[String],
     tries: &[InvertedIndex],
 ) -> Result<Value, IndexError>
     requires { length tries.now ≡ length fields.now }
-    ensures value { IfOk result (λ v. (values : List Data) × AreTrieValues tries.now values × (view v ≡ object_of (zip (map string_bytes fields.now) values))) }
+    ensures value { IfOk result (λ v. (values : List Data) × AreTrieValues tries.now values
+        × (view v ≡ object_of (zip (map string_bytes fields.now) values))) }
     ensures tables { OnOk result (All IsTable tries.now) }
     ensures memory { IsOkUnless result Memory }
 {
     let mut members = Map::new(alloc);
     for (name, trie) in fields.iter().zip(tries) {
-        put_member(alloc, &mut members, name.as_str(), trie.to_value()?)?;
+        put_member(&mut members, name.clone()?, trie.to_value()?)?;
     }
     Ok(Value::Object(members))
-}
-
-// Puts a value under a key.
-fn put_member(
-    alloc: Global,
-    members: &mut Map<String, Value>,
-    key: &str,
-    value: Value,
-) -> Result<(), AllocError>
-    ensures { OnOk result (members_view members.new.entries ≡ put key.now (view value) (members_view members.old.entries)) }
-{
-    members.insert(String::from_str(alloc, key)?, value)?;
-    Ok(())
 }

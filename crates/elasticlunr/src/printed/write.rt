@@ -1,8 +1,9 @@
 //! The JSON tokens of an index, with no JSON value built.
-ghost use Rattle.std.specs.Prelude.{◌≡◌, ℕ, List, [], ◌∷◌, ◌++◌, map, length, string_bytes, OnOk, IfOk};
-ghost use Rattle.json.specs.Tree.{json_tokens, members_tokens};
-ghost use Rattle.serde_json.specs.Data.{Data, array, object};
-ghost use Rattle.serde_json.specs.Written.{members_outline, outline};
+ghost use Rattle.std.specs.Prelude.{◌≡◌, ◌++◌, map, length, string_bytes, OnOk, IfOk};
+ghost use Rattle.json.specs.Tree.{members_tokens};
+ghost use Rattle.serde_json.specs.Data.{Data, array};
+ghost use Rattle.serde_json.specs.Written.{members_outline};
+ghost use Rattle.elasticlunr_store.specs.Tokens.{WritesValue};
 ghost use Rattle.elasticlunr.specs.Printed.{texts};
 ghost use Rattle.elasticlunr.specs.Parts.{IsPrinted, plan_of_parts, settings_members};
 ghost use Rattle.elasticlunr.specs.Sorted.{IsByName, WritesTries};
@@ -18,7 +19,8 @@ pub fn write_index<W: Tokens>(
     parts: Parts<'_>,
     out: &mut W,
 ) -> Result<(), AllocError>
-    ensures { OnOk result ((v : Data) × IsPrinted parts.entry v × (W.Tokens.written out.new ≡ W.Tokens.written out.old ++ json_tokens (outline v))) }
+    ensures { OnOk result ((v : Data) × IsPrinted parts.entry v
+        × WritesValue (W.Tokens.written out.old) (W.Tokens.written out.new) v) }
 {
     let tries = by_name(alloc, parts.fields, parts.tries)?;
     out.token(Token::BeginObject)?;
@@ -80,7 +82,8 @@ fn write_tries<W: Tokens>(
 
 // Writes the array of some names.
 fn write_names<W: Tokens>(names: &[String], out: &mut W) -> Result<(), AllocError>
-    ensures { OnOk result (W.Tokens.written out.new ≡ W.Tokens.written out.old ++ json_tokens (outline (array (texts (map string_bytes names.now))))) }
+    ensures { OnOk result (WritesValue (W.Tokens.written out.old) (W.Tokens.written out.new)
+        (array (texts (map string_bytes names.now)))) }
 {
     out.token(Token::BeginArray)?;
     for name in names {

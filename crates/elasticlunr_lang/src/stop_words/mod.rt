@@ -13,6 +13,4 @@ pub mod pt;
 pub mod ro;
 pub mod ru;
 pub mod sv;
-#[cfg(test)]
-mod tests;
 pub mod tr;

@@ -31,7 +31,8 @@ fn bool_of(value: &Value) -> Option<SearchBool>
 // What stands under `bool`.
 pub(super) fn read_bool(value: &Value) -> Option<SearchBool>
     ensures found { IfSome result (λ bool. get (codes "bool") (view value.now) ≡ Some (bool_value bool)) }
-    ensures none { result ≡ None → (bool : SearchBool) → get (codes "bool") (view value.now) ≢ Some (bool_value bool) }
+    ensures none { result ≡ None → (bool : SearchBool)
+        → get (codes "bool") (view value.now) ≢ Some (bool_value bool) }
 {
     let value = value.get("bool")?;
     bool_of(value)
@@ -40,7 +41,8 @@ pub(super) fn read_bool(value: &Value) -> Option<SearchBool>
 // What stands under `expand`.
 pub(super) fn read_expand(value: &Value) -> Option<bool>
     ensures found { IfSome result (λ expand. get (codes "expand") (view value.now) ≡ Some (boolean expand)) }
-    ensures none { result ≡ None → (expand : Bool) → get (codes "expand") (view value.now) ≢ Some (boolean expand) }
+    ensures none { result ≡ None → (expand : Bool)
+        → get (codes "expand") (view value.now) ≢ Some (boolean expand) }
 {
     let value = value.get("expand")?;
     value.as_bool()
@@ -49,7 +51,8 @@ pub(super) fn read_expand(value: &Value) -> Option<bool>
 // What stands under a key, where that is something else than null.
 fn part<'a>(value: &'a Value, key: &str) -> Option<&'a Value>
     ensures some { IfSome result (λ v. (get key.now (view value.now) ≡ Some (view v.now)) × (view v.now ≢ null)) }
-    ensures none { result ≡ None → (get key.now (view value.now) ≡ None) ⊎ (get key.now (view value.now) ≡ Some null) }
+    ensures none { result ≡ None
+        → (get key.now (view value.now) ≡ None) ⊎ (get key.now (view value.now) ≡ Some null) }
 {
     let part = value.get(key)?;
     if part.is_null() {

@@ -29,7 +29,8 @@ pub(super) fn put_part(
     key: &str,
     value: Option<Value>,
 ) -> Result<(), AllocError>
-    ensures { OnOk result (members_view members.new.entries ≡ put_part key.now (option_map view value) (members_view members.old.entries)) }
+    ensures { OnOk result (members_view members.new.entries
+        ≡ put_part key.now (option_map view value) (members_view members.old.entries)) }
 {
     match value {
         Some(value) => { put_member(members, String::from_str(alloc, key)?, value) }

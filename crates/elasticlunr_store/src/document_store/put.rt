@@ -43,7 +43,8 @@ fn put_length(
     field: &str,
     length: usize,
 ) -> Result<(), AllocError>
-    ensures ok { OnOk result (length_map lengths.new.entries ≡ insert (length_map lengths.old.entries) field.now length) }
+    ensures ok { OnOk result (length_map lengths.new.entries
+        ≡ insert (length_map lengths.old.entries) field.now length) }
     ensures err { OnErr result (length_map lengths.new.entries ≡ length_map lengths.old.entries) }
 {
     lengths.insert(String::from_str(alloc, field)?, length)?;

@@ -41,7 +41,8 @@ pub(super) fn read_document_texts(
     value: &Value,
 ) -> Result<BTreeMap<String, BTreeMap<String, String>>, IndexError>
     ensures ok { IfOk result (λ docs. view value.now ≡ keyed (keyed string) (document_texts docs.entries)) }
-    ensures err { IfErr result (IsRefused ((m : FinMap text_cmp TextMap) → view value.now ≢ keyed (keyed string) m)) }
+    ensures err { IfErr result (IsRefused ((m : FinMap text_cmp TextMap)
+        → view value.now ≢ keyed (keyed string) m)) }
 {
     let Some(members) = value.as_object() else {
         return Err(IndexError::ForeignValue);
@@ -78,9 +79,11 @@ pub(super) fn read_document_lengths(
     alloc: Global,
     value: &Value,
 ) -> Result<BTreeMap<String, BTreeMap<String, usize>>, IndexError>
-    ensures ok { IfOk result (λ doc_info. view value.now ≡ keyed (keyed count) (document_lengths doc_info.entries)) }
+    ensures ok { IfOk result (λ doc_info. view value.now
+        ≡ keyed (keyed count) (document_lengths doc_info.entries)) }
     ensures small { IfOk result (λ doc_info. HasSmallLengths (document_lengths doc_info.entries)) }
-    ensures err { IfErr result (IsRefused ((m : FinMap text_cmp LengthMap) → view value.now ≢ keyed (keyed count) m)) }
+    ensures err { IfErr result (IsRefused ((m : FinMap text_cmp LengthMap)
+        → view value.now ≢ keyed (keyed count) m)) }
 {
     let Some(members) = value.as_object() else {
         return Err(IndexError::ForeignValue);
@@ -143,8 +146,10 @@ pub(super) fn has_empty(doc_info: &BTreeMap<String, BTreeMap<String, usize>>) ->
 
 // Whether some reference has a text.
 pub(super) fn has_text(docs: &BTreeMap<String, BTreeMap<String, String>>) -> bool
-    ensures yes { OnTrue result ((r : Bytes) × IsSomeAnd (get (document_texts docs.now.entries) r) (λ texts. texts ≢ empty)) }
-    ensures no { OnFalse result ((r : Bytes) → IfSome (get (document_texts docs.now.entries) r) (λ texts. texts ≡ empty)) }
+    ensures yes { OnTrue result ((r : Bytes)
+        × IsSomeAnd (get (document_texts docs.now.entries) r) (λ texts. texts ≢ empty)) }
+    ensures no { OnFalse result ((r : Bytes)
+        → IfSome (get (document_texts docs.now.entries) r) (λ texts. texts ≡ empty)) }
 {
     for (_doc_ref, texts) in docs.iter() {
         if !texts.is_empty() {

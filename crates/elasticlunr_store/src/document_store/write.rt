@@ -14,7 +14,8 @@ use std::collections::BTreeMap;
 impl DocumentStore {
     /// Writes the JSON value of the store, without making it.
     pub fn write<W: Tokens>(&self, out: &mut W) -> Result<(), AllocError>
-        ensures written { OnOk result (WritesValue (W.Tokens.written out.old) (W.Tokens.written out.new) (store_value self.now)) }
+        ensures written { OnOk result (WritesValue (W.Tokens.written out.old) (W.Tokens.written out.new)
+            (store_value self.now)) }
         ensures contents { IsContents self.now }
     {
         let length = self.docs.len() as u64;
@@ -41,7 +42,8 @@ fn write_last_members<W: Tokens>(length: u64, save: bool, out: &mut W) -> Result
 
 // Writes an object of texts.
 fn write_texts<W: Tokens>(texts: &BTreeMap<String, String>, out: &mut W) -> Result<(), AllocError>
-    ensures { OnOk result (WritesValue (W.Tokens.written out.old) (W.Tokens.written out.new) (keyed string (text_map texts.now.entries))) }
+    ensures { OnOk result (WritesValue (W.Tokens.written out.old) (W.Tokens.written out.new)
+        (keyed string (text_map texts.now.entries))) }
 {
     out.token(Token::BeginObject)?;
     for (field, text) in texts.iter() {
@@ -56,7 +58,8 @@ fn write_lengths<W: Tokens>(
     lengths: &BTreeMap<String, usize>,
     out: &mut W,
 ) -> Result<(), AllocError>
-    ensures { OnOk result (WritesValue (W.Tokens.written out.old) (W.Tokens.written out.new) (keyed count (length_map lengths.now.entries))) }
+    ensures { OnOk result (WritesValue (W.Tokens.written out.old) (W.Tokens.written out.new)
+        (keyed count (length_map lengths.now.entries))) }
 {
     out.token(Token::BeginObject)?;
     for (field, length) in lengths.iter() {
@@ -71,7 +74,8 @@ fn write_document_texts<W: Tokens>(
     docs: &BTreeMap<String, BTreeMap<String, String>>,
     out: &mut W,
 ) -> Result<(), AllocError>
-    ensures { OnOk result (WritesValue (W.Tokens.written out.old) (W.Tokens.written out.new) (keyed (keyed string) (document_texts docs.now.entries))) }
+    ensures { OnOk result (WritesValue (W.Tokens.written out.old) (W.Tokens.written out.new)
+        (keyed (keyed string) (document_texts docs.now.entries))) }
 {
     out.token(Token::BeginObject)?;
     for (doc_ref, texts) in docs.iter() {
@@ -86,7 +90,8 @@ fn write_document_lengths<W: Tokens>(
     doc_info: &BTreeMap<String, BTreeMap<String, usize>>,
     out: &mut W,
 ) -> Result<(), AllocError>
-    ensures { OnOk result (WritesValue (W.Tokens.written out.old) (W.Tokens.written out.new) (keyed (keyed count) (document_lengths doc_info.now.entries))) }
+    ensures { OnOk result (WritesValue (W.Tokens.written out.old) (W.Tokens.written out.new)
+        (keyed (keyed count) (document_lengths doc_info.now.entries))) }
 {
     out.token(Token::BeginObject)?;
     for (doc_ref, lengths) in doc_info.iter() {

@@ -42,7 +42,7 @@ pub(super) fn new_branch(
     requires { number < 2 ^ 63 + 1 }
     ensures { IfOk result (λ b. IsBranch number (chars text.now) reference term_freq b.items) }
 {
-    let mut branch = Vec::new(alloc);
+    let mut branch = Vec::with_capacity(alloc, text.len() + 1)?;
     for c in text.chars() {
         let mut children = Vec::with_capacity(alloc, 1)?;
         children.push((c, number + branch.len()))?;

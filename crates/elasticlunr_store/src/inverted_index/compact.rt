@@ -8,7 +8,7 @@ ghost use Rattle.elasticlunr_store.specs.Pairs.{IsStrictlySorted};
 ghost use Rattle.elasticlunr_store.specs.Names.{AreNames};
 ghost use Rattle.elasticlunr_store.specs.Children.{child};
 ghost use Rattle.elasticlunr_store.specs.Nodes.{AreAllNumbered, AreListed};
-ghost use Rattle.elasticlunr_store.specs.Trie.{IsTrie, IsIndex, table_of};
+ghost use Rattle.elasticlunr_store.specs.Trie.{IsTrie, IsIndex, HaveOneParent, step_of, table_of};
 ghost use Rattle.elasticlunr_store.specs.Compact.{Bears, is_marked, AreNumbers, kept_children, KeepsBelow};
 
 use super::InvertedIndex;
@@ -53,6 +53,7 @@ fn compact(
     names: &Names,
 ) -> Result<(Vec<(char, usize)>, Vec<Node>, Names, Vec<Reference>), AllocError>
     requires trie { IsTrie root.now nodes.now }
+    requires parents { HaveOneParent (step_of root.now nodes.now) (length nodes.now) }
     requires names { AreNames names.now }
     requires numbered { AreAllNumbered names.now nodes.now }
     ensures index { IfOk result (λ t. IsIndex t.0.items t.1.items t.2 t.3.items) }

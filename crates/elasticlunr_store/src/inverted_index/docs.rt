@@ -41,7 +41,8 @@ pub(super) fn copy_docs(
     requires trie { IsTrie root.now nodes.now }
     requires names { AreNames names.now }
     requires numbered { AreAllNumbered names.now nodes.now }
-    ensures { IfOk result (λ o. option_map (λ m. postings_of m.entries) o ≡ look root.now nodes.now names.now (chars token.now)) }
+    ensures { IfOk result (λ o. option_map (λ m. postings_of m.entries) o
+        ≡ look root.now nodes.now names.now (chars token.now)) }
 {
     match find(root, nodes, token) {
         None => Ok(None),
@@ -79,7 +80,8 @@ pub(super) fn in_order(
     requires names { AreNames names.now }
     requires ranks { AreRanks names.now ranks.now }
     requires postings { ArePostings names.now pairs.now }
-    ensures shown { IfOk result (λ r. entries (named_pairs names.now pairs.now) ≡ under_names names.now (map (λ e. (e.1, e.2)) r.items)) }
+    ensures shown { IfOk result (λ r. entries (named_pairs names.now pairs.now)
+        ≡ under_names names.now (map (λ e. (e.1, e.2)) r.items)) }
     ensures there { IfOk result (λ r. AreThere names.now r.items) }
 {
     let mut ranked = with_ranks(alloc, ranks, pairs)?;

@@ -1,5 +1,5 @@
 //! The names of a trie's references, each with its number.
-ghost use Rattle.std.specs.Prelude.{◌≡◌, ◌++◌, ◌∷◌, [], length, slice_get, Some, None, OnOk, OnErr, IfOk, bytes_eq, ◌<◌};
+ghost use Rattle.std.specs.Prelude.{◌≡◌, ◌++◌, ◌∷◌, [], length, slice_get, Some, None, OnOk, OnErr, IfOk, IfSome, bytes_eq, ◌<◌};
 ghost use Rattle.std.specs.Map.{update};
 ghost use Rattle.std.specs.BTreeMap.{get_by_text};
 ghost use Rattle.elasticlunr_text.specs.Text.{Bytes};
@@ -30,7 +30,8 @@ impl Model for Names {
 
     ghost view = { λ a. names.names_of a.in_order.items };
 
-    ghost invariant = { λ a. (r : Bytes) → get_by_text a.numbers r ≡ names.number_of (names.names_of a.in_order.items) r };
+    ghost invariant = { λ a. ((r : Bytes) → get_by_text a.numbers r ≡ names.number_of (names.names_of a.in_order.items) r)
+        × names.AreDistinct (names.names_of a.in_order.items) };
 }
 
 impl Names {
@@ -72,12 +73,27 @@ impl Names {
         Ok(ranks)
     }
 
-    /// The number of a name, which is added if it is new.
+    /// The number of the newest name, if it is this one.
+    fn newest(&self, name: &str) -> Option<usize>
+        ensures { IfSome result (λ n. number_of self.now name.now ≡ Some n) }
+    {
+        let count = self.in_order.len();
+        if count == 0 || self.name(count - 1) != name {
+            return None;
+        }
+        Some(count - 1)
+    }
+
+    /// The number of a name, which is added if it is new. The newest name, which comes most often, is
+    /// not looked up.
     pub fn enter(&mut self, name: &str) -> Result<usize, AllocError>
         ensures names { OnOk result (self.new ≡ entered self.old name.now) }
         ensures number { IfOk result (λ n. number_of self.new name.now ≡ Some n) }
         ensures err { OnErr result (self.new ≡ self.old) }
     {
+        if let Some(number) = self.newest(name) {
+            return Ok(number);
+        }
         if let Some(number) = self.numbers.get(name) {
             return Ok(*number);
         }

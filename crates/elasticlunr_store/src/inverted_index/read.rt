@@ -8,12 +8,12 @@ ghost use Rattle.serde_json.specs.Find.{get};
 ghost use Rattle.serde_json.specs.View.{view, members_view};
 ghost use Rattle.elasticlunr_store.specs.Refused.{IsRefused};
 ghost use Rattle.elasticlunr_store.specs.Tree.{frequency, frequencies, HasKeysInOrder, IsTree};
-ghost use Rattle.elasticlunr_store.specs.Reading.{seen, ReadsChildren, ReadsNode, HasForeignKey};
+ghost use Rattle.elasticlunr_store.specs.Reading.{borrowed_values, ReadsChildren, ReadsNode, HasForeignKey};
 ghost use Rattle.std.specs.Str.{all_scalars};
 ghost use Rattle.elasticlunr_store.specs.Trie.{IsIndex, table_of};
 
 use super::names::Names;
-use super::nodes::{Node, Reference, gap};
+use super::nodes::{Node, Reference};
 use super::numbered::number_docs;
 use elasticlunr_text::IndexError;
 use serde_json::{Map, Value};
@@ -80,12 +80,14 @@ fn is_own_key(key: &str) -> bool
 }
 
 // The children that the members tell, numbered on from the values that wait. Their values wait behind these.
+// Keys come in the order of their bytes, which is that of the characters, so each child goes last.
 fn read_children<'a>(
     alloc: Global,
     members: &'a Map<String, Value>,
     waiting: &mut Vec<&'a Value>,
 ) -> Result<Vec<(char, usize)>, IndexError>
-    ensures ok { IfOk result (λ kids. ReadsChildren kids.items (seen waiting.old.items) (seen waiting.new.items) (members_view members.now.entries)) }
+    ensures ok { IfOk result (λ kids. ReadsChildren kids.items
+        (borrowed_values waiting.old.items) (borrowed_values waiting.new.items) (members_view members.now.entries)) }
     ensures order { IfOk result (λ _. HasKeysInOrder (members_view members.now.entries)) }
     ensures foreign { IfErr result (IsRefused (HasForeignKey (members_view members.now.entries))) }
 {
@@ -97,8 +99,7 @@ fn read_children<'a>(
         let Some(c) = only_char(key.as_str()) else {
             return Err(IndexError::ForeignValue);
         };
-        let at = gap(&children, c);
-        children.insert(at, (c, waiting.len()))?;
+        children.push((c, waiting.len()))?;
         waiting.push(value)?;
     }
     Ok(children)
@@ -120,7 +121,8 @@ fn read_node<'a>(
     value: &'a Value,
     waiting: &mut Vec<&'a Value>,
 ) -> Result<(Vec<(char, usize)>, BTreeMap<String, u64>), IndexError>
-    ensures ok { IfOk result (λ n. ReadsNode n.0.items n.1.entries (seen waiting.old.items) (seen waiting.new.items) (view value.now)) }
+    ensures ok { IfOk result (λ n. ReadsNode n.0.items n.1.entries
+        (borrowed_values waiting.old.items) (borrowed_values waiting.new.items) (view value.now)) }
     ensures foreign { IfErr result (IsRefused ((T : Table) (p : Text) → IsTable T → ¬ (IsTree T p (view value.now)))) }
 {
     let Some(members) = value.as_object() else {

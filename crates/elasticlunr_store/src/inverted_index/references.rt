@@ -17,7 +17,8 @@ impl InvertedIndex {
     /// work is in proportion to the token and its postings.
     pub fn references(&self, token: &str) -> Result<Vec<String>, IndexError>
         ensures order { IfOk result (λ v. IsStrictlySortedBy text_cmp (bytes_of v.items)) }
-        ensures listed { IfOk result (λ v. (r : Bytes) → IsTrue (is_listed r (bytes_of v.items)) ↔ IsSome (posting self.now (chars token.now) r)) }
+        ensures listed { IfOk result (λ v. (r : Bytes) → IsTrue (is_listed r (bytes_of v.items))
+            ↔ IsSome (posting self.now (chars token.now) r)) }
         ensures memory { IsOkUnless result Memory }
     {
         let alloc = *self.nodes.allocator();

@@ -20,7 +20,8 @@ fn same_posting(
     postings2: &Postings,
 ) -> bool
     requires { number < length names.now }
-    ensures { IsTrue result ↔ ((r : Bytes) → slice_get names.now number ≡ Some r → at names2.now r postings2.now ≡ Some frequency) }
+    ensures { IsTrue result ↔ ((r : Bytes) → slice_get names.now number ≡ Some r
+        → at names2.now r postings2.now ≡ Some frequency) }
 {
     frequency_of(names2, postings2, names.name(number)) == Some(frequency)
 }
@@ -29,7 +30,8 @@ fn same_posting(
 fn includes(names: &Names, pairs: &[(usize, u64)], names2: &Names, postings2: &Postings) -> bool
     requires names { AreNames names.now }
     requires postings { ArePostings names.now pairs.now }
-    ensures { IsTrue result ↔ ((r : Bytes) → (f : ℕ) → get (named_pairs names.now pairs.now) r ≡ Some f → at names2.now r postings2.now ≡ Some f) }
+    ensures { IsTrue result ↔ ((r : Bytes) → (f : ℕ) → get (named_pairs names.now pairs.now) r ≡ Some f
+        → at names2.now r postings2.now ≡ Some f) }
 {
     for &(number, frequency) in pairs {
         if !same_posting(names, number, frequency, names2, postings2) {
@@ -66,7 +68,8 @@ fn same_child(
     requires numbered2 { AreAllNumbered names2.now nodes2.now }
     requires in_range { child.1 < length nodes.now }
     requires in_range2 { child2.1 < length nodes2.now }
-    ensures { IsTrue result ↔ ((child.0 ≡ child2.0) × (named names.now (postings_at nodes.now child.1) ≡ named names2.now (postings_at nodes2.now child2.1))) }
+    ensures { IsTrue result ↔ ((child.0 ≡ child2.0)
+        × (named names.now (postings_at nodes.now child.1) ≡ named names2.now (postings_at nodes2.now child2.1))) }
 {
     if child.0 != child2.0 {
         return false;
@@ -79,7 +82,8 @@ fn same_child(
     )
 }
 
-// Are the texts below two places the same, with the same postings? Goes on with the last of the children, and comes back to the others, so a path without branches needs no stack.
+// Are the texts below two places the same, with the same postings? Goes on with the last of the
+// children, and comes back to the others, so a path without branches needs no stack.
 pub(super) fn same_below(
     names: &Names,
     root: &[(char, usize)],

@@ -27,7 +27,8 @@ fn docs_value(
 ) -> Result<Value, AllocError>
     requires there { AreThere names.now ranked.now }
     requires shown { (P : Postings) × (entries P ≡ under_names names.now (map (λ e. (e.1, e.2)) ranked.now)) }
-    ensures { IfOk result (λ v. view v ≡ object (frequencies (under_names names.now (map (λ e. (e.1, e.2)) ranked.now)))) }
+    ensures { IfOk result (λ v. view v ≡ object
+        (frequencies (under_names names.now (map (λ e. (e.1, e.2)) ranked.now)))) }
 {
     let mut docs = Map::new(alloc);
     for &(_, number, term_freq) in ranked {
@@ -79,7 +80,8 @@ fn node_value(
     requires sorted { IsStrictlySorted children.now }
     requires in_range { (c : ℕ) (k : ℕ) → child children.now c ≡ Some k → k < length finished.old }
     requires apart { (c : ℕ) (d : ℕ) (k : ℕ) → child children.now c ≡ Some k → child children.now d ≡ Some k → c ≡ d }
-    ensures node { IfOk result (λ v. (ms : Members) × (view v ≡ object ms) × IsNode children.now finished.old (view docs) df ms) }
+    ensures node { IfOk result (λ v. (ms : Members) × (view v ≡ object ms)
+        × IsNode children.now finished.old (view docs) df ms) }
     ensures kept { OnOk result (KeepsOtherValues children.now finished.old finished.new) }
 {
     let mut members = Map::new(alloc);

@@ -10,7 +10,7 @@ ghost use Rattle.elasticlunr_store.specs.Names.{Names, AreNumbered, AreThere, un
 ghost use Rattle.elasticlunr_store.specs.Nodes.{AreAllNumbered, postings_at};
 ghost use Rattle.elasticlunr_store.specs.Trie.{IsTrie, named, table_of, entries_at};
 ghost use Rattle.elasticlunr_store.specs.Tree.{IsTrieValue, frequencies};
-ghost use Rattle.elasticlunr_store.specs.Printed.{IsOrder, place_members, part, tokens_of, postings_tokens, left_members, node_members, stack_tokens, Advances, HasTrees};
+ghost use Rattle.elasticlunr_store.specs.Printed.{IsOrder, place_members, node_tree, tokens_of, postings_tokens, left_members, node_members, stack_tokens, Advances, HasTrees};
 
 use super::InvertedIndex;
 use super::docs::in_order;
@@ -20,7 +20,8 @@ use super::postings::Postings;
 use crate::tokens::{Token, Tokens};
 use std::alloc::{AllocError, Global};
 
-// What is left to write of an object: children, and before them or among them `df` and `docs` of a place.
+// What is left to write of an object: children, and before them or among them `df` and `docs` of a
+// place.
 #[derive(Clone, Copy)]
 enum Left<'a> {
     WithPostings(Place, &'a [(char, usize)]),
@@ -40,7 +41,8 @@ impl InvertedIndex {
     /// and a few a level, beside what is written, and 24 for each posting of the node that is
     /// written. The names are put in order once, and each node's postings by them.
     pub fn write<W: Tokens>(&self, out: &mut W) -> Result<(), AllocError>
-        ensures written { OnOk result ((v : Data) × IsTrieValue self.now v × (W.Tokens.written out.new ≡ W.Tokens.written out.old ++ json_tokens (outline v))) }
+        ensures written { OnOk result ((v : Data) × IsTrieValue self.now v
+            × (W.Tokens.written out.new ≡ W.Tokens.written out.old ++ json_tokens (outline v))) }
         ensures table { IsTable self.now }
     {
         let alloc = *self.nodes.allocator();
@@ -64,7 +66,8 @@ fn write_trie<W: Tokens>(
     requires trie { IsTrie root.now nodes.now }
     requires order { IsOrder order }
     requires numbered { AreAllNumbered order.names.now nodes.now }
-    ensures { OnOk result ((v : Data) × IsTrieValue (table_of root.now nodes.now order.entry.names.now) v × (W.Tokens.written out.new ≡ W.Tokens.written out.old ++ json_tokens (outline v))) }
+    ensures { OnOk result ((v : Data) × IsTrieValue (table_of root.now nodes.now order.entry.names.now) v
+        × (W.Tokens.written out.new ≡ W.Tokens.written out.old ++ json_tokens (outline v))) }
 {
     out.token(Token::BeginObject)?;
     out.token(Token::Key("root"))?;
@@ -84,7 +87,9 @@ fn write_members<W: Tokens>(
     requires trees { HasTrees order.names.now nodes.now }
     requires order { IsOrder order }
     requires numbered { AreAllNumbered order.names.now nodes.now }
-    ensures { OnOk result (W.Tokens.written out.new ≡ W.Tokens.written out.old ++ tokens_of (place_members (part order.entry.names.now nodes.now) (named order.entry.names.now empty) root.now)) }
+    ensures { OnOk result (W.Tokens.written out.new ≡ W.Tokens.written out.old
+        ++ tokens_of (place_members (node_tree order.entry.names.now nodes.now)
+        (named order.entry.names.now empty) root.now)) }
 {
     let mut stack = Vec::new(order.alloc);
     stack.push(Left::WithPostings(Place::Root, root))?;
@@ -105,7 +110,10 @@ fn write_next<'a, W: Tokens>(
     requires trees { HasTrees order.names.now nodes.now }
     requires order { IsOrder order }
     requires numbered { AreAllNumbered order.names.now nodes.now }
-    ensures { OnOk result (Advances (W.Tokens.written out.old) (tokens_of (left_members order.entry.names.now nodes.now left.entry) ++ stack_tokens order.entry.names.now nodes.now stack.old.items) (W.Tokens.written out.new) (stack_tokens order.entry.names.now nodes.now stack.new.items)) }
+    ensures { OnOk result (Advances (W.Tokens.written out.old)
+        (tokens_of (left_members order.entry.names.now nodes.now left.entry)
+        ++ stack_tokens order.entry.names.now nodes.now stack.old.items) (W.Tokens.written out.new)
+        (stack_tokens order.entry.names.now nodes.now stack.new.items)) }
 {
     match left {
         Left::WithPostings(place, children) => match children.split_first() {
@@ -142,8 +150,10 @@ fn open_child<'a, W: Tokens>(
     stack: &mut Vec<Left<'a>>,
     out: &mut W,
 ) -> Result<(), AllocError>
-    ensures written { OnOk result (W.Tokens.written out.new ≡ W.Tokens.written out.old ++ key (encode_utf8 c) ∷ begin_object ∷ []) }
-    ensures left { OnOk result ((names : Names) → stack_tokens names nodes.now stack.new.items ≡ tokens_of (node_members names nodes.now k) ++ stack_tokens names nodes.now stack.old.items) }
+    ensures written { OnOk result (W.Tokens.written out.new ≡ W.Tokens.written out.old
+        ++ key (encode_utf8 c) ∷ begin_object ∷ []) }
+    ensures left { OnOk result ((names : Names) → stack_tokens names nodes.now stack.new.items
+        ≡ tokens_of (node_members names nodes.now k) ++ stack_tokens names nodes.now stack.old.items) }
 {
     write_child_key(c, out)?;
     stack.push(Left::WithPostings(Place::At(k), children_of(nodes, k)))?;
@@ -152,7 +162,8 @@ fn open_child<'a, W: Tokens>(
 
 // Writes the key of a child, and the beginning of its object.
 fn write_child_key<W: Tokens>(c: char, out: &mut W) -> Result<(), AllocError>
-    ensures { OnOk result (W.Tokens.written out.new ≡ W.Tokens.written out.old ++ key (encode_utf8 c) ∷ begin_object ∷ []) }
+    ensures { OnOk result (W.Tokens.written out.new ≡ W.Tokens.written out.old
+        ++ key (encode_utf8 c) ∷ begin_object ∷ []) }
 {
     let mut buffer = [0; 4];
     out.token(Token::Key(c.encode_utf8(&mut buffer)))?;
@@ -169,7 +180,8 @@ fn write_postings<W: Tokens>(
 ) -> Result<(), AllocError>
     requires order { IsOrder order }
     requires numbered { AreAllNumbered order.names.now nodes.now }
-    ensures { OnOk result (W.Tokens.written out.new ≡ W.Tokens.written out.old ++ postings_tokens (named order.entry.names.now (entries_at [] nodes.now place))) }
+    ensures { OnOk result (W.Tokens.written out.new ≡ W.Tokens.written out.old
+        ++ postings_tokens (named order.entry.names.now (entries_at [] nodes.now place))) }
 {
     match place {
         Place::Root => write_no_postings(out),
@@ -186,7 +198,8 @@ fn write_at<W: Tokens>(
 ) -> Result<(), AllocError>
     requires order { IsOrder order }
     requires numbered { AreAllNumbered order.names.now nodes.now }
-    ensures { OnOk result (W.Tokens.written out.new ≡ W.Tokens.written out.old ++ postings_tokens (named order.entry.names.now (postings_at nodes.now k))) }
+    ensures { OnOk result (W.Tokens.written out.new ≡ W.Tokens.written out.old
+        ++ postings_tokens (named order.entry.names.now (postings_at nodes.now k))) }
 {
     if k >= nodes.len() {
         return write_no_postings(out);
@@ -195,7 +208,8 @@ fn write_at<W: Tokens>(
 }
 
 fn write_no_postings<W: Tokens>(out: &mut W) -> Result<(), AllocError>
-    ensures { OnOk result ((names : Names) → W.Tokens.written out.new ≡ W.Tokens.written out.old ++ postings_tokens (named names empty)) }
+    ensures { OnOk result ((names : Names) → W.Tokens.written out.new ≡ W.Tokens.written out.old
+        ++ postings_tokens (named names empty)) }
 {
     out.token(Token::Key("df"))?;
     out.number(0)?;
@@ -208,7 +222,8 @@ fn write_no_postings<W: Tokens>(out: &mut W) -> Result<(), AllocError>
 fn write_docs<W: Tokens>(order: Order, postings: &Postings, out: &mut W) -> Result<(), AllocError>
     requires order { IsOrder order }
     requires numbered { AreNumbered order.names.now postings.now }
-    ensures { OnOk result (W.Tokens.written out.new ≡ W.Tokens.written out.old ++ postings_tokens (named order.entry.names.now postings.now)) }
+    ensures { OnOk result (W.Tokens.written out.new ≡ W.Tokens.written out.old
+        ++ postings_tokens (named order.entry.names.now postings.now)) }
 {
     let ranked = in_order(order.alloc, order.names, order.ranks, postings.pairs())?;
     out.token(Token::Key("df"))?;
@@ -227,7 +242,8 @@ fn write_ranked<W: Tokens>(
     out: &mut W,
 ) -> Result<(), AllocError>
     requires { AreThere names.now ranked.now }
-    ensures { OnOk result (W.Tokens.written out.new ++ end_object ∷ [] ≡ W.Tokens.written out.old ++ tokens_of (frequencies (under_names names.now (map (λ e. (e.1, e.2)) ranked.now)))) }
+    ensures { OnOk result (W.Tokens.written out.new ++ end_object ∷ [] ≡ W.Tokens.written out.old
+        ++ tokens_of (frequencies (under_names names.now (map (λ e. (e.1, e.2)) ranked.now)))) }
 {
     for &(_, number, term_freq) in ranked {
         write_posting(names.name(number), term_freq, out)?;
@@ -237,7 +253,8 @@ fn write_ranked<W: Tokens>(
 
 // Writes a reference and its frequency.
 fn write_posting<W: Tokens>(doc_ref: &str, term_freq: u64, out: &mut W) -> Result<(), AllocError>
-    ensures { OnOk result (W.Tokens.written out.new ≡ W.Tokens.written out.old ++ key doc_ref.now ∷ begin_object ∷ key (codes "tf") ∷ number (decimal term_freq) ∷ end_object ∷ []) }
+    ensures { OnOk result (W.Tokens.written out.new ≡ W.Tokens.written out.old
+        ++ key doc_ref.now ∷ begin_object ∷ key (codes "tf") ∷ number (decimal term_freq) ∷ end_object ∷ []) }
 {
     out.token(Token::Key(doc_ref))?;
     out.token(Token::BeginObject)?;

@@ -45,7 +45,7 @@ impl Pipeline {
     pub fn run(&self, alloc: Global, tokens: Vec<String>) -> Result<Vec<String>, AllocError>
         ensures { IfOk result (λ left. IsRun leaves self.now (texts_of tokens.items) (texts_of left.items)) }
     {
-        let mut kept = Vec::new(alloc);
+        let mut kept = Vec::with_capacity(alloc, tokens.len())?;
         for token in tokens {
             if let Some(left) = self.filter(alloc, token)? {
                 kept.push(left)?;

@@ -1,6 +1,6 @@
 use Rattle.std.proofs.Common.{inr, refl, arith}
 use Rattle.elasticlunr_text.specs.Text.{bytes_of}
-use Rattle.elasticlunr_search.proofs.Arrays.{all_names, not_all_names, not_array, not_string, next_name}
+use Rattle.elasticlunr_search.proofs.Arrays.{all_names, not_all_names, not_string, next_name}
 use Rattle.elasticlunr_search.proofs.parts.names_of.Goals as goal
 
 pub returns-in_default-as_str-clause-err : goal.returns-in_default-as_str-clause-err

@@ -1,9 +1,8 @@
-use Rattle.std.proofs.Common.{◌≡◌, arith, codes, ap, sym, subst}
+use Rattle.std.proofs.Common.{arith, sym, subst}
 use Rattle.std.specs.Prelude.{IsSomeAnd}
 use Rattle.std.specs.List.{AllZip}
 use Rattle.serde_json.specs.View.{view}
 use Rattle.elasticlunr_text.specs.Text.{bytes_of}
-use Rattle.elasticlunr_store.specs.Table.{Table}
 use Rattle.elasticlunr_search.specs.Shape.{HasTrie}
 use Rattle.elasticlunr_search.specs.declared.error.SearchError.TheVariants.{BadTries}
 use Rattle.elasticlunr_search.proofs.Stops.{at_exit}

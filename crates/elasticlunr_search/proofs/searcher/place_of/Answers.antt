@@ -4,7 +4,7 @@ use Rattle.std.proofs.lemmas.List.{length-map}
 use borrow.Author.Count.{below_more}
 use Rattle.elasticlunr_text.specs.Text.{bytes_of}
 use Rattle.elasticlunr.specs.Fields.{has_name}
-use Rattle.elasticlunr_search.proofs.Names.{name_at, named, name_there, name_absent}
+use Rattle.elasticlunr.proofs.Finding.{name_at, named, name_there, name_absent}
 use Rattle.elasticlunr_search.proofs.searcher.place_of.Goals as goal
 
 pub returns-then-eq-clause-found : goal.returns-then-eq-clause-found

@@ -1,4 +1,4 @@
-use Rattle.std.proofs.Common.{◌≡◌, ◌&&◌, ◌∷◌, [], sym, ap, subst, ◌∙◌, arith, rules, refl, is_some, string_bytes}
+use Rattle.std.proofs.Common.{[], sym, ap, subst, ◌∙◌, arith, rules, refl, is_some, string_bytes}
 use Rattle.std.proofs.lemmas.Fn.{filter_same}
 use Rattle.std.proofs.lemmas.List.Kept.{IsStrictlySortedBy-filter}
 use Rattle.std.specs.List.Sorted.{IsStrictlySortedBy}

@@ -54,7 +54,9 @@ impl Class {
     {
         let kept = self.from_first(token.as_str()).len();
         let cut = token.len() - kept;
-        token.replace_range(..cut, "").unwrap();
+        if cut > 0 {
+            token.replace_range(..cut, "").unwrap();
+        }
     }
 
     /// The token loses what stands after its last character in the class.

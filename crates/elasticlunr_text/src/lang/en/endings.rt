@@ -1,7 +1,7 @@
 //! How words end: stems before suffixes, and the suffixes that the steps replace.
 ghost use Rattle.std.specs.Prelude.{◌≡◌, ◌≢◌, ◌≤◌, ◌<◌, ◌++◌, ◌∷◌, ◌↔◌, [], List, ℕ, IsTrue, length, chars, map, IfSome, IfNone, not, ◌==◌, string_bytes, string_len, string_capacity, codes, ◌+◌};
 ghost use Rattle.std.specs.List.{list_all};
-ghost use Rattle.elasticlunr_text.specs.Stems.{IsStem, EndsWith, EndsAfterStem, IsCut, HasNoCut, listed};
+ghost use Rattle.elasticlunr_text.specs.Stems.{IsStem, EndsWith, EndsAfterStem, IsCut, HasNoCut, LastIs, listed};
 ghost use Rattle.elasticlunr_text.specs.Ascii.{all_ascii};
 
 /// Whether the text is a stem: not empty, and without a line feed.
@@ -37,6 +37,16 @@ pub fn split_last(text: &str) -> Option<(&str, char)>
     let mut letters = text.chars();
     let c = letters.next_back()?;
     Some((letters.as_str(), c))
+}
+
+/// The last letter, U+0000 of an empty text.
+pub fn last_of(text: &str) -> char
+    ensures { LastIs result (chars text.now) }
+{
+    match split_last(text) {
+        Some((_, c)) => c,
+        None => '\0',
+    }
 }
 
 /// The stem and the letter that stand before the suffix.

@@ -8,64 +8,10 @@ ghost use Rattle.std.specs.Bool.{OnFalse};
 
 use super::blocks::{has_vowel, is_short, is_vowel, m_above_0, m_above_1, m_is_1};
 use super::endings::{
-    Cut, before, drop_last, drop_suffix, ends_after_stem, ends_with, push_e, replace_suffix,
-    shortest_cut, split_last, stem_and_letter_before, stem_before,
+    Cut, before, drop_last, drop_suffix, ends_after_stem, ends_with, last_of, push_e,
+    replace_suffix, shortest_cut, split_last, stem_and_letter_before, stem_before,
 };
-
-const STEP_2: [(&str, &str); 21] = [
-    ("ational", "ate"),
-    ("tional", "tion"),
-    ("enci", "ence"),
-    ("anci", "ance"),
-    ("izer", "ize"),
-    ("bli", "ble"),
-    ("alli", "al"),
-    ("entli", "ent"),
-    ("eli", "e"),
-    ("ousli", "ous"),
-    ("ization", "ize"),
-    ("ation", "ate"),
-    ("ator", "ate"),
-    ("alism", "al"),
-    ("iveness", "ive"),
-    ("fulness", "ful"),
-    ("ousness", "ous"),
-    ("aliti", "al"),
-    ("iviti", "ive"),
-    ("biliti", "ble"),
-    ("logi", "log"),
-];
-
-const STEP_3: [(&str, &str); 7] = [
-    ("icate", "ic"),
-    ("ative", ""),
-    ("alize", "al"),
-    ("iciti", "ic"),
-    ("ical", "ic"),
-    ("ful", ""),
-    ("ness", ""),
-];
-
-const STEP_4: [(&str, &str); 18] = [
-    ("al", ""),
-    ("ance", ""),
-    ("ence", ""),
-    ("er", ""),
-    ("ic", ""),
-    ("able", ""),
-    ("ible", ""),
-    ("ant", ""),
-    ("ement", ""),
-    ("ment", ""),
-    ("ent", ""),
-    ("ou", ""),
-    ("ism", ""),
-    ("ate", ""),
-    ("iti", ""),
-    ("ous", ""),
-    ("ive", ""),
-    ("ize", ""),
-];
+use super::tables::{Ending, step_2_endings, step_3_endings, step_4_endings};
 
 /// Writes the letter over the first one, which is ASCII too.
 pub fn set_first(word: &mut String, letter: char)
@@ -240,16 +186,16 @@ fn turn_y_into_i(word: &mut String) -> bool
 fn step_2(word: &mut String)
     ensures { Step2 (chars (string_bytes word.old)) (chars (string_bytes word.new)) }
 {
-    let _ = replace_ending(word, &STEP_2);
+    let _ = replace_ending(word, step_2_endings(last_of(word)));
 }
 
 fn step_3(word: &mut String)
     ensures { Step3 (chars (string_bytes word.old)) (chars (string_bytes word.new)) }
 {
-    let _ = replace_ending(word, &STEP_3);
+    let _ = replace_ending(word, step_3_endings(last_of(word)));
 }
 
-fn replace_ending(word: &mut String, endings: &[(&'static str, &'static str)]) -> bool
+fn replace_ending(word: &mut String, endings: &[Ending]) -> bool
     requires ascii_suffixes { IsTrue (list_all (λ e. all_ascii e.0) (listed endings.now)) }
     requires ascii_endings { IsTrue (list_all (λ e. all_ascii e.1) (listed endings.now)) }
     requires shorter { IsTrue (list_all (λ e. nat_le (length e.1) (length e.0)) (listed endings.now)) }
@@ -275,10 +221,10 @@ fn replace_ending(word: &mut String, endings: &[(&'static str, &'static str)]) -
 fn step_4(word: &mut String)
     ensures { Step4 (chars (string_bytes word.old)) (chars (string_bytes word.new)) }
 {
-    let _ = drop_ending(word, &STEP_4) || drop_ion(word);
+    let _ = drop_ending(word, step_4_endings(last_of(word))) || drop_ion(word);
 }
 
-fn drop_ending(word: &mut String, endings: &[(&'static str, &'static str)]) -> bool
+fn drop_ending(word: &mut String, endings: &[Ending]) -> bool
     requires ascii_suffixes { IsTrue (list_all (λ e. all_ascii e.0) (listed endings.now)) }
     ensures { Tries result (DropsEnding (listed endings.now)) (chars (string_bytes word.old)) (chars (string_bytes word.new)) }
 {

@@ -1,4 +1,4 @@
-use Rattle.std.proofs.Common.{◌≡◌, ◌∷◌, [], codes, refl, sym, ap, subst, ◌∙◌}
+use Rattle.std.proofs.Common.{◌∷◌, [], codes, refl, sym, ap, subst, ◌∙◌}
 use Rattle.elasticlunr_text.specs.Text.{bytes_of}
 use Rattle.elasticlunr_lang.specs.Known.{language_leaves}
 use Rattle.elasticlunr_lang.specs.declared.any.AnyLanguage.TheVariants.{English as english}

@@ -1,5 +1,6 @@
-use Rattle.std.proofs.Common.{string_bytes, sym, ap, ◌∙◌}
+use Rattle.std.proofs.Common.{◌≡◌, ℕ, List, string_bytes, sym, ap, ◌∙◌}
 use Rattle.std.proofs.lemmas.List.{length-map}
+use Rattle.serde_json.specs.Data.{Data, Members, put}
 use Rattle.serde_json.specs.View.{view, members_view}
 use Rattle.serde_json.specs.declared.value.Value.{Object}
 use Rattle.serde_json.proofs.Views.{view-Object}
@@ -8,6 +9,10 @@ use Rattle.elasticlunr.proofs.Values.{seven_members}
 use Rattle.elasticlunr.proofs.Plain.{no_float}
 use Rattle.elasticlunr.proofs.PlainValues.{value_plain}
 use Rattle.elasticlunr.proofs.printed.value.index_value.Goals as goal
+
+-- what is put under a key is put under its name
+put_under : (key name : List ℕ) (value : Data) (members after : Members) → after ≡ put key value members → key ≡ name → after ≡ put name value members
+put_under key name value members after is named = is ∙ ap (λ k. put k value members) named
 
 pub returns-clause-value : goal.returns-clause-value
 returns-clause-value c =
@@ -24,7 +29,14 @@ returns-clause-value c =
         whole = view-Object c.put_member-7.new.members
             ∙ seven_members (plan_of_parts c.args.parts) tries.0 (view c.in_ok-documents.documents) _ _ _ _ _ _ _ _ _ _ _ _ _ _
             c.in_ok-fields.ensures tries.2 c.in_ok-language.ensures c.in_ok-stages.ensures c.in_ok-reference.ensures c.in_ok-version.ensures
-            (ap (λ es. members_view es) c.new-members.ensures.empty) c.in_ok-put_member.ensures c.in_ok-put_member-2.ensures c.in_ok-put_member-3.ensures c.in_ok-put_member-4.ensures c.in_ok-put_member-5.ensures c.in_ok-put_member-6.ensures c.in_ok-put_member-7.ensures;
+            (ap (λ es. members_view es) c.new-members.ensures.empty)
+            (put_under _ _ _ _ _ c.in_ok-put_member.ensures.put c.in_ok-from_str.ensures.ok)
+            (put_under _ _ _ _ _ c.in_ok-put_member-2.ensures.put c.in_ok-from_str-2.ensures.ok)
+            (put_under _ _ _ _ _ c.in_ok-put_member-3.ensures.put c.in_ok-from_str-3.ensures.ok)
+            (put_under _ _ _ _ _ c.in_ok-put_member-4.ensures.put c.in_ok-from_str-4.ensures.ok)
+            (put_under _ _ _ _ _ c.in_ok-put_member-5.ensures.put c.in_ok-from_str-5.ensures.ok)
+            (put_under _ _ _ _ _ c.in_ok-put_member-6.ensures.put c.in_ok-from_str-6.ensures.ok)
+            (put_under _ _ _ _ _ c.in_ok-put_member-7.ensures.put c.in_ok-from_str-7.ensures.ok);
       };
     }
 

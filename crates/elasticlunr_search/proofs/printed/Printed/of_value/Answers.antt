@@ -1,5 +1,4 @@
-use Rattle.std.proofs.Common.{◌≡◌, length, sym, subst, ap, ◌∙◌}
-use Rattle.std.specs.Prelude.{IsSomeAnd}
+use Rattle.std.proofs.Common.{sym, subst, ap, ◌∙◌}
 use Rattle.serde_json.specs.View.{view}
 use Rattle.elasticlunr_text.specs.Text.{bytes_of}
 use Rattle.elasticlunr_search.specs.Refusal.{Lacks}

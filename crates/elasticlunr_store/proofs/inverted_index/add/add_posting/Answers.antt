@@ -8,7 +8,7 @@ use Rattle.elasticlunr_store.specs.Trie.{step_of, table_of}
 use Rattle.elasticlunr_store.specs.declared.inverted_index.nodes.Place.TheVariants.{Root, At}
 use Rattle.elasticlunr_store.proofs.Forest.{within, rises}
 use Rattle.elasticlunr_store.proofs.Letters.{first_read, nothing_read}
-use Rattle.elasticlunr_store.proofs.Settled.{settled_trie, unseen, posting_added}
+use Rattle.elasticlunr_store.proofs.Settled.{settled_trie, settled_parents, unseen, posting_added}
 use Rattle.elasticlunr_store.proofs.inverted_index.add.add_posting.Goals as goal
 
 on_err : {T E : Type 0} (r : Result T E) (P : Type 0) → P → OnErr r P
@@ -54,6 +54,7 @@ returns-in-Root-clause-ok c =
 pub returns-in_err-set_posting-in-At-clause-index : goal.returns-in_err-set_posting-in-At-clause-index
 returns-in_err-set_posting-in-At-clause-index c = record {
   trie = settled_trie c.args.root.now.items c.args.nodes.now.items c.requires.index.trie _ c.in_err-set_posting-in-At.ensures.err.shape;
+  parents = settled_parents c.args.root.now.items c.args.nodes.now.items c.requires.index.trie _ c.in_err-set_posting-in-At.ensures.err.shape c.requires.index.parents;
   names_are = c.set_posting.ensures.names c.requires.index.names_are;
   listed = c.set_posting.ensures.listed;
 }
@@ -65,6 +66,7 @@ returns-in_err-set_posting-in-At-clause-err c =
 pub returns-in_ok-set_posting-in-At-clause-index : goal.returns-in_ok-set_posting-in-At-clause-index
 returns-in_ok-set_posting-in-At-clause-index c = record {
   trie = settled_trie c.args.root.now.items c.args.nodes.now.items c.requires.index.trie _ c.in_ok-set_posting-in-At.ensures.ok.shape;
+  parents = settled_parents c.args.root.now.items c.args.nodes.now.items c.requires.index.trie _ c.in_ok-set_posting-in-At.ensures.ok.shape c.requires.index.parents;
   names_are = c.set_posting.ensures.names c.requires.index.names_are;
   listed = c.set_posting.ensures.listed;
 }

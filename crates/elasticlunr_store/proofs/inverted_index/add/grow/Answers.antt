@@ -7,7 +7,7 @@ use Rattle.elasticlunr_store.specs.Branch.{IsBranch}
 use Rattle.elasticlunr_store.specs.declared.inverted_index.nodes.Place.TheVariants.{Root}
 use Rattle.elasticlunr_store.proofs.Forest.{within}
 use Rattle.elasticlunr_store.proofs.Added.{names_entered, length-entered, number-below}
-use Rattle.elasticlunr_store.proofs.Growth.{branch_trie, branch_listed, branch_added}
+use Rattle.elasticlunr_store.proofs.Growth.{branch_trie, branch_parents, branch_listed, branch_added}
 use Rattle.elasticlunr_store.proofs.Unseen.{kept_index, kept_table, keeps_same, same_trie, kept_at, branch_length}
 use Rattle.elasticlunr_store.proofs.inverted_index.add.grow.Goals as goal
 
@@ -49,6 +49,7 @@ returns-clause-index c =
     record {
       names_are = subst AreNames (sym c.in_ok-number.ensures.names) (names_entered c.args.names.now c.requires.index.names_are c.args.doc_ref.now c.utf8.doc_ref);
       trie = branch_trie c.args.root.now.items c.args.nodes.now.items c.requires.index.trie _ _ c.args.place c.requires.leads.0 c.args.c (chars c.args.rest.now) c.in_ok-number.number c.args.term_freq c.in_ok-branch.branch.items c.requires.leads.1 c.requires.free c.in_ok-attach.ensures.ok made c.requires.letters;
+      parents = branch_parents c.args.root.now.items c.args.nodes.now.items c.requires.index.trie _ _ c.args.place c.requires.leads.0 c.args.c (chars c.args.rest.now) c.in_ok-number.number c.args.term_freq c.in_ok-branch.branch.items c.requires.leads.1 c.requires.free c.in_ok-attach.ensures.ok made c.requires.letters c.requires.index.parents;
       listed = branch_listed c.args.root.now.items c.args.nodes.now.items c.requires.index.trie _ _ c.args.place c.requires.leads.0 c.args.c (chars c.args.rest.now) c.in_ok-number.number c.args.term_freq c.in_ok-branch.branch.items c.requires.leads.1 c.requires.free c.in_ok-attach.ensures.ok made c.requires.letters
           c.args.names.now c.enter.new.self c.args.references.now.items c.list_new.new.references.items c.requires.index.listed more c.list_new.ensures.keeps (number-below c.enter.new.self c.args.doc_ref.now _ c.in_ok-number.ensures.number) c.ranges.term_freq.fits listed;
     }

@@ -14,7 +14,7 @@ loop-c-init c =
     record {
       utf8 = subst IsUtf8 (sym same) c.utf8.text;
       split = ap chars (sym same);
-      inner = rw c.new-branch.ensures.items (no_nodes c.args.number);
+      inner = rw c.in_ok-branch.ensures.items (no_nodes c.args.number);
     }
 
 pub loop-c-preserved : goal.loop-c-preserved

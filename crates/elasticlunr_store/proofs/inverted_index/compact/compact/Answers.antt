@@ -1,7 +1,7 @@
 use Rattle.std.proofs.Common.{ap, ◌∙◌, arith, subst, length}
 use Rattle.elasticlunr_store.specs.Compact.{KeepsBelow, kept_children}
 use Rattle.elasticlunr_store.specs.declared.inverted_index.nodes.Place.TheVariants.{Root}
-use Rattle.elasticlunr_store.proofs.Compact.{below_trie, compact_trie, compact_known, compact_postings}
+use Rattle.elasticlunr_store.proofs.Compact.{below_trie, compact_trie, compact_parents, compact_known, compact_postings}
 use Rattle.elasticlunr_store.proofs.inverted_index.compact.compact.Goals as goal
 
 pub bearing-requires : goal.bearing-requires
@@ -23,6 +23,7 @@ returns-clause-index c =
     let keeps = subst (λ m. KeepsBelow m c.args.names.now nodes c.keep_nodes.new.kept_names c.in_ok-kept.kept.items (length nodes)) c.deref-4.ensures.value c.in_ok-kept.ensures.kept in
     record {
       trie = compact_trie c.args.root.now c.args.nodes.now c.requires.trie c.args.names.now c.in_ok-marks.marks.items c.in_ok-marks.ensures.each c.keep_nodes.new.kept_names c.in_ok-kept_root.kept_root.items c.in_ok-kept.kept.items is keeps c.requires.names c.requires.numbered;
+      parents = compact_parents c.args.root.now c.args.nodes.now c.requires.trie c.args.names.now c.in_ok-marks.marks.items c.in_ok-marks.ensures.each c.keep_nodes.new.kept_names c.in_ok-kept_root.kept_root.items c.in_ok-kept.kept.items is keeps c.requires.names c.requires.numbered c.requires.parents;
       names_are = c.in_ok-kept.ensures.names;
       listed = c.in_ok-kept.ensures.listed;
     }

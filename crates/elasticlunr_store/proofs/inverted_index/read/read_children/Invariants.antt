@@ -3,7 +3,7 @@ use Rattle.std.specs.List.Sorted.{IsStrictlySortedBy}
 use Rattle.std.specs.Map.{keys_of}
 use Rattle.serde_json.specs.View.{members_view}
 use Rattle.serde_json.proofs.Views.{Entry}
-use Rattle.elasticlunr_store.specs.Reading.{seen, ReadsChildren}
+use Rattle.elasticlunr_store.specs.Reading.{borrowed_values, ReadsChildren}
 use Rattle.elasticlunr_store.proofs.inverted_index.read.read_children.Given as goal
 
 -- the children of the members that were read
@@ -13,5 +13,5 @@ invariant-loop-key l =
       done : List Entry;
       split : done ++ l.key-iterator ≡ l.members.entries;
       sorted : IsStrictlySortedBy string_cmp (keys_of (done ++ l.key-iterator));
-      reads : ReadsChildren l.children.items (seen l.fn.waiting.items) (seen l.waiting.items) (members_view done);
+      reads : ReadsChildren l.children.items (borrowed_values l.fn.waiting.items) (borrowed_values l.waiting.items) (members_view done);
     }

@@ -2,7 +2,7 @@ use Rattle.std.proofs.Common.{◌-◌, ◌^◌, length}
 use Rattle.serde_json.specs.View.{view}
 use Rattle.elasticlunr_store.specs.Names.{AreNames}
 use Rattle.elasticlunr_store.specs.Nodes.{AreListed}
-use Rattle.elasticlunr_store.specs.Reading.{seen}
+use Rattle.elasticlunr_store.specs.Reading.{borrowed_values}
 use Rattle.elasticlunr_store.proofs.Waiting.{IsRead}
 use Rattle.elasticlunr_store.proofs.inverted_index.read.read_nodes.Given as goal
 
@@ -12,7 +12,7 @@ invariant-loop-alloc l =
     record {
       names_are : AreNames l.names;
       listed : AreListed l.names l.references.items l.nodes.items;
-      read : IsRead l.names l.root.items l.nodes.items (view l.value) (seen l.waiting.items);
+      read : IsRead l.names l.root.items l.nodes.items (view l.value) (borrowed_values l.waiting.items);
     }
 
 -- each round makes a node, and a vector has no more than this

@@ -1,6 +1,6 @@
 use Rattle.std.proofs.Common.{◌≡◌, ap, sym, ◌∙◌, ◌++◌, [], arith, ℕ, length}
 use Rattle.elasticlunr_store.specs.Trie.{entries_at, named}
-use Rattle.elasticlunr_store.specs.Printed.{place_members, children_members, part, tokens_of, left_members, stack_tokens, postings_before}
+use Rattle.elasticlunr_store.specs.Printed.{place_members, children_members, node_tree, tokens_of, left_members, stack_tokens, postings_before}
 use Rattle.elasticlunr_store.specs.declared.inverted_index.write.Left.TheVariants.{WithPostings, WithoutPostings}
 use Rattle.elasticlunr_store.proofs.Finishing.{some_of}
 use Rattle.elasticlunr_store.proofs.Printing.{above_d, up_to_d, opened, postings_first_more}
@@ -20,7 +20,7 @@ returns-in_ok-open_child-in-Some g c =
       omega arith,
       c.in_ok-open_child-in-Some.ensures.written,
       ap (λ l. tokens_of (left_members names nodes l) ++ stack_tokens names nodes stack) c.in-WithPostings.is
-          ∙ ap (λ es. tokens_of (place_members (part names nodes) P es) ++ stack_tokens names nodes stack) c.in-Some.ensures.cases.0
+          ∙ ap (λ es. tokens_of (place_members (node_tree names nodes) P es) ++ stack_tokens names nodes stack) c.in-Some.ensures.cases.0
           ∙ ap (λ ms. tokens_of ms ++ stack_tokens names nodes stack) (up_to_d names nodes P first.0 first.1 rest.now c.if-c-le100.true)
           ∙ opened names nodes c.requires.trees stack (WithPostings c.in-WithPostings.place rest) first.0 first.1 c.push.new.self.items c.open_child.new.stack.items c.in_ok-push-in-Some.ensures.items (c.in_ok-open_child-in-Some.ensures.left names),
     )
@@ -33,7 +33,7 @@ returns-in_ok-push-in_default g c =
     let stack = c.args.stack.now.items in
     let P = named names (entries_at [] nodes c.in-WithPostings.place) in
     let es = c.in-WithPostings.children in
-    let now : place_members (part names nodes) P es.now ≡ postings_before P (children_members (part names nodes) es.now) =
+    let now : place_members (node_tree names nodes) P es.now ≡ postings_before P (children_members (node_tree names nodes) es.now) =
     above_d names nodes P es.now (λ d k rest is. elim c.in_default.branch [
       | in_default-via-in-Some+else-c-le100 w ↦
           let both = sym w.in-Some.ensures.cases.0 ∙ is in
@@ -64,6 +64,6 @@ returns-in_ok-open_child-in-Some-split_first g c =
       omega arith,
       c.in_ok-open_child-in-Some-split_first.ensures.written,
       ap (λ l. tokens_of (left_members names nodes l) ++ stack_tokens names nodes stack) c.in-WithoutPostings.is
-          ∙ ap (λ es. tokens_of (children_members (part names nodes) es) ++ stack_tokens names nodes stack) c.in-Some-split_first.ensures.cases.0
+          ∙ ap (λ es. tokens_of (children_members (node_tree names nodes) es) ++ stack_tokens names nodes stack) c.in-Some-split_first.ensures.cases.0
           ∙ opened names nodes c.requires.trees stack (WithoutPostings rest) first.0 first.1 c.push-in-Some-split_first.new.self.items c.open_child-in-Some-split_first.new.stack.items c.in_ok-push-in-Some-split_first.ensures.items (c.in_ok-open_child-in-Some-split_first.ensures.left names),
     )

@@ -1,8 +1,8 @@
 use Rattle.elasticlunr_text.proofs.StageLemmas.{MayRun-kept, MayRun-dropped}
 use Rattle.elasticlunr_text.proofs.pipeline.run.Pipeline.run.Goals as goal
 
-pub loop-token-preserved-in-Continue-branch-3 : goal.loop-token-preserved-in-Continue-branch-3
-loop-token-preserved-in-Continue-branch-3 g c =
+pub loop-token-preserved-in-Continue-branch-4 : goal.loop-token-preserved-in-Continue-branch-4
+loop-token-preserved-in-Continue-branch-4 g c =
     MayRun-kept _ c.args.self.now.queue.items c.loop-token.yielded c.loop-token.kept.items _ c.in-Some.token c.in-Some-2.left c.loop-token.invariant
     (rw c.in-Some-2.is at c.in_ok-left.ensures) c.in_ok-push.ensures.items
 

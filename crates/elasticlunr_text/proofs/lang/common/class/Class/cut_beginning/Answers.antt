@@ -1,4 +1,4 @@
-use Rattle.std.proofs.Common.{◌-◌, length, string_bytes, ap, ◌∙◌, arith, chars}
+use Rattle.std.proofs.Common.{◌≡◌, ◌-◌, length, string_bytes, ap, ◌∙◌, arith, chars}
 use Rattle.std.proofs.lemmas.Str.{IsUtf8-string_bytes}
 use Rattle.elasticlunr_text.specs.Classes.{in_class}
 use Rattle.elasticlunr_text.specs.Trimmed.{from_first}
@@ -21,8 +21,8 @@ replace_range-requires-clause-end_boundary c =
     (cut-place test t u (IsUtf8-string_bytes c.args.token.now) c.from_first-kept.utf8 _ (c.from_first-kept.ensures ∙ ap (λ bs. from_first test (chars bs)) c.as_str.ensures.value)
     (ap (λ n. n - length u) (c.len.ensures ∙ c.args.token.now.bytes.ok.0))).0
 
-pub returns : goal.returns
-returns c =
+pub returns-then-cut-gt0 : goal.returns-then-cut-gt0
+returns-then-cut-gt0 c =
     let test = in_class c.args.self.now in
     let t = string_bytes c.args.token.now in
     let u = c.from_first-kept.result.now in
@@ -30,3 +30,13 @@ returns c =
     let place = cut-place test t u (IsUtf8-string_bytes c.args.token.now) c.from_first-kept.utf8 _ same (ap (λ n. n - length u) (c.len.ensures ∙ c.args.token.now.bytes.ok.0)) in
     let cut = rw c.unwrap.ensures at c.replace_range.ensures.bytes in
     ap chars (cut ∙ place.1) ∙ same
+
+pub returns-else-cut-gt0 : goal.returns-else-cut-gt0
+returns-else-cut-gt0 c =
+    let test = in_class c.args.self.now in
+    let t = string_bytes c.args.token.now in
+    let u = c.from_first-kept.result.now in
+    let same = c.from_first-kept.ensures ∙ ap (λ bs. from_first test (chars bs)) c.as_str.ensures.value in
+    let none : 0 ≡ length t - length u = omega (arith, c.if-cut-gt0.false, c.len.ensures, c.args.token.now.bytes.ok.0) in
+    let place = cut-place test t u (IsUtf8-string_bytes c.args.token.now) c.from_first-kept.utf8 0 same none in
+    ap chars place.1 ∙ same

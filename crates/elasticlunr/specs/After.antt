@@ -1,0 +1,21 @@
+-- An index after calls, where its language reads the values.
+use Rattle.std.specs.Prelude.{◌≡◌, List, Option}
+use Rattle.elasticlunr_text.specs.Text.{Text, Bytes}
+use Rattle.elasticlunr.specs.Calls.{Call, AreCommandsOf}
+use Rattle.elasticlunr.specs.Documents as documents
+use Rattle.elasticlunr.specs.History.{Commands}
+use Rattle.elasticlunr.specs.Index.{plan_of, reads_of, StandsFor}
+use Rattle.elasticlunr.specs.Reading.{LanguageReads, ReadsOnly}
+use Rattle.elasticlunr.specs.Standing.{Plan}
+use Rattle.elasticlunr.specs.declared.index.Index.{Index}
+
+-- `name_of` is what a language is called, `tokens_of` what it makes of a text and `leaves_of` what it leaves of a token; `name_text` is what a boxed stage is called and `leaves` what it leaves of a token.
+module _ {L P X Y : Type 0} {O : X → Type 0} {F : Y → Type 0} {p : _} {g : _} where
+  -- the index is of this plan, reads what this language reads, and holds what these calls of a new index leave
+  pub record IsAfter (name_of : L → Bytes) (name_text : (v : X) × O v → Bytes) (tokens_of : L → Text → List Text) (leaves : (v : X) × O v → Text → Option Text) (leaves_of : L → Text → Option Text → Type 0)
+      (language : L) (plan : Plan) (calls : List Call) (index : Index L P X Y O F p g) : Type 0 where
+    pub prints : plan_of name_of name_text index ≡ plan
+    pub reads : ReadsOnly (reads_of tokens_of leaves index) (LanguageReads (tokens_of language) (leaves_of language))
+    pub commands : Commands
+    pub were : AreCommandsOf (documents.IsDocument plan.fields plan.reference_field (LanguageReads (tokens_of language) (leaves_of language))) calls commands
+    pub stands : StandsFor name_of name_text index commands

@@ -1,0 +1,10 @@
+use Rattle.elasticlunr_lang.specs.declared.kept.english.English.{English}
+use Rattle.elasticlunr.proofs.Holding.{if_ok}
+use Rattle.elasticlunr_uses.proofs.order.in_order.Goals as goal
+
+pub returns : goal.returns
+returns c =
+    let language : English = record {} in
+    let first = c.in_ok-add_doc.ensures.after language _ _ (c.in_ok-index.ensures.after language) in
+    let second = c.in_ok-add_doc-2.ensures.after language _ _ first in
+    if_ok c.to_json.result _ _ (λ text printed. printed language _ _ second) c.to_json.ensures.after

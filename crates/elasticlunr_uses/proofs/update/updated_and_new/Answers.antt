@@ -1,0 +1,21 @@
+use Rattle.std.proofs.Common.{inl, inr, [], ◌∷◌, Some, bytes_eq, refl}
+use Rattle.elasticlunr_lang.specs.declared.any.AnyLanguage.TheVariants.{English as english}
+use Rattle.serde_json.specs.Written.{compact_text}
+use Rattle.elasticlunr.specs.Calls.{adding, removing}
+use Rattle.elasticlunr_uses.proofs.Orders.{after_update, not_both, two_differ}
+use Rattle.elasticlunr_uses.proofs.update.updated_and_new.Goals as goal
+
+pub returns : goal.returns
+returns c stays_changes stays_goes changes_goes =
+    let stays = c.args.stays.reference.now in
+    let changes = c.args.changes.reference.now in
+    let goes = c.args.goes.reference.now in
+    let kept = c.args.stays.text.now ∷ [] in
+    let old = c.args.changes.text.now ∷ [] in
+    let gone = c.args.goes.text.now ∷ [] in
+    let new = c.args.new_text.now ∷ [] in
+    c.current_documents_decide_the_text.ensures english _ compact_text _ _ _ _
+    (inl (record { earlier = adding stays kept ∷ adding changes old ∷ adding goes gone ∷ adding changes new ∷ removing goes ∷ []; are = refl }))
+    (inr (record { documents = (stays, kept) ∷ (changes, new) ∷ []; differ = two_differ stays changes stays_changes; are = refl }))
+    (λ q. after_update (bytes_eq q stays) (bytes_eq q changes) (bytes_eq q goes) (Some kept) (Some old) (Some gone) (Some new) (not_both q stays goes stays_goes) (not_both q changes goes changes_goes))
+    c.in_ok-updated.ensures c.in_ok-new.ensures

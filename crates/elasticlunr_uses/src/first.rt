@@ -1,0 +1,23 @@
+//! The first index.
+//!
+//! One document of one word goes into an English index. Proved: the printed text, letter by letter.
+//! A caller has to know nothing more: the law that it calls says what one word becomes.
+ghost use Rattle.std.specs.Prelude.{◌≡◌, ◌++◌, IfOk, codes, string_bytes};
+
+use elasticlunr::laws::word::one_word_is_a_path;
+use elasticlunr::{Index, IndexError};
+use std::alloc::Global;
+
+/// The text of an index of one document.
+pub fn first_index(alloc: Global) -> Result<String, IndexError>
+    ensures { IfOk result (λ text. string_bytes text ≡
+        codes "{\"documentStore\":{\"docInfo\":{\"1\":{\"body\":1}},\"docs\":{\"1\":{\"body\":\"go\",\"id\":\"1\"}},"
+        ++ codes "\"length\":1,\"save\":true},\"fields\":[\"body\"],\"index\":{\"body\":{\"root\":{\"df\":0,\"docs\":{},"
+        ++ codes "\"g\":{\"df\":0,\"docs\":{},\"o\":{\"df\":1,\"docs\":{\"1\":{\"tf\":1000000}}}}}}},\"lang\":\"English\","
+        ++ codes "\"pipeline\":[\"trimmer\",\"stopWordFilter\",\"stemmer\"],\"ref\":\"id\",\"version\":\"0.9.5\"}") }
+{
+    one_word_is_a_path();
+    let mut index = Index::new(alloc, &["body"])?;
+    index.add_doc("1", &["go"])?;
+    index.to_json()
+}

@@ -1,0 +1,41 @@
+//! The order of documents doesn't matter.
+//!
+//! Two pages go into an index, and in the other order into another one. Proved: both print equal
+//! texts. A caller has to know that a reference has one document: of two pages with one reference
+//! the later one stays, so there the order does matter.
+ghost use Rattle.std.specs.Prelude.{◌≡◌, ◌≢◌, ◌∷◌, [], IfOk, codes, string_bytes};
+ghost use Rattle.elasticlunr_lang.specs.declared.any.AnyLanguage.TheVariants.{English as english};
+ghost use Rattle.elasticlunr.specs.Calls.{adding};
+ghost use Rattle.elasticlunr.specs.Kept.{IsTextOfCalls};
+
+use crate::page::Page;
+use elasticlunr::laws::current::current_documents_decide_the_text;
+use elasticlunr::{Index, IndexError};
+use std::alloc::Global;
+
+/// The texts of the indexes of two pages, in the one order and in the other.
+pub fn in_either_order(
+    alloc: Global,
+    one: Page<'_>,
+    other: Page<'_>,
+) -> Result<(String, String), IndexError>
+    ensures { IfOk result (λ texts. one.entry.reference.now ≢ other.entry.reference.now
+        → string_bytes texts.0 ≡ string_bytes texts.1) }
+{
+    current_documents_decide_the_text();
+    let forwards = in_order(alloc, one, other)?;
+    let backwards = in_order(alloc, other, one)?;
+    Ok((forwards, backwards))
+}
+
+/// The text of the index of two pages, in this order.
+pub fn in_order(alloc: Global, first: Page<'_>, second: Page<'_>) -> Result<String, IndexError>
+    ensures { IfOk result (λ text. IsTextOfCalls english (codes "body" ∷ [])
+        (adding first.entry.reference.now (first.entry.text.now ∷ [])
+        ∷ adding second.entry.reference.now (second.entry.text.now ∷ []) ∷ []) (string_bytes text)) }
+{
+    let mut index = Index::new(alloc, &["body"])?;
+    index.add_doc(first.reference, &[first.text])?;
+    index.add_doc(second.reference, &[second.text])?;
+    index.to_json()
+}

@@ -1,0 +1,62 @@
+//! An update.
+//!
+//! Three pages go into an index; then one has another text, one is removed, and the index is
+//! compacted. Proved: its text is that of a new index of the pages that remain. A caller has to
+//! know that only a compaction forgets the words of the old text and of the removed page.
+ghost use Rattle.std.specs.Prelude.{◌≡◌, ◌≢◌, ◌∷◌, [], IfOk, codes, string_bytes};
+ghost use Rattle.elasticlunr_lang.specs.declared.any.AnyLanguage.TheVariants.{English as english};
+ghost use Rattle.elasticlunr.specs.Calls.{adding, removing, compacting};
+ghost use Rattle.elasticlunr.specs.Kept.{IsTextOfCalls};
+
+use crate::order::in_order;
+use crate::page::Page;
+use elasticlunr::laws::current::current_documents_decide_the_text;
+use elasticlunr::{Index, IndexError};
+use std::alloc::Global;
+
+/// The text of an index that was brought up to date, and that of a new index of what remains.
+pub fn updated_and_new(
+    alloc: Global,
+    stays: Page<'_>,
+    changes: Page<'_>,
+    goes: Page<'_>,
+    new_text: &str,
+) -> Result<(String, String), IndexError>
+    ensures { IfOk result (λ texts. stays.entry.reference.now ≢ changes.entry.reference.now
+        → stays.entry.reference.now ≢ goes.entry.reference.now
+        → changes.entry.reference.now ≢ goes.entry.reference.now → string_bytes texts.0 ≡ string_bytes texts.1) }
+{
+    current_documents_decide_the_text();
+    let changed = Page {
+        reference: changes.reference,
+        text: new_text,
+    };
+    let updated = updated(alloc, stays, changes, goes, changed)?;
+    let new = in_order(alloc, stays, changed)?;
+    Ok((updated, new))
+}
+
+/// The text of an index of three pages, of which one was changed and one removed.
+fn updated(
+    alloc: Global,
+    stays: Page<'_>,
+    changes: Page<'_>,
+    goes: Page<'_>,
+    changed: Page<'_>,
+) -> Result<String, IndexError>
+    ensures { IfOk result (λ text. IsTextOfCalls english (codes "body" ∷ [])
+        (adding stays.entry.reference.now (stays.entry.text.now ∷ [])
+        ∷ adding changes.entry.reference.now (changes.entry.text.now ∷ [])
+        ∷ adding goes.entry.reference.now (goes.entry.text.now ∷ [])
+        ∷ adding changed.entry.reference.now (changed.entry.text.now ∷ [])
+        ∷ removing goes.entry.reference.now ∷ compacting ∷ []) (string_bytes text)) }
+{
+    let mut index = Index::new(alloc, &["body"])?;
+    index.add_doc(stays.reference, &[stays.text])?;
+    index.add_doc(changes.reference, &[changes.text])?;
+    index.add_doc(goes.reference, &[goes.text])?;
+    index.add_doc(changed.reference, &[changed.text])?;
+    index.remove_doc(goes.reference)?;
+    index.compact()?;
+    index.to_json()
+}

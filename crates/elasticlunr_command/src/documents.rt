@@ -1,56 +1,96 @@
 //! The index of documents that are objects: an array of them, or a line for each.
+ghost use Rattle.std.specs.Prelude.{map, string_bytes, IfOk, IfErr};
+ghost use Rattle.elasticlunr_job.specs.Objects.{IsLineOfObjects};
+ghost use Rattle.elasticlunr_job.specs.ObjectsTold.{options_told};
+ghost use Rattle.elasticlunr_command.specs.Refused.{IsRefusedObjects};
+ghost use Rattle.serde_json.specs.View.{view};
 
-use crate::form::is_blank;
-use crate::jobs::{duplicate_field, has_twice};
-use crate::message::{Message, Trouble, kind_words, message_at, not_json, unplaced};
+use crate::form::{Form, is_blank};
+use crate::jobs::{duplicate_field, unknown_language};
+use crate::message::{Message, Trouble, kind_words, not_json, unplaced};
 use crate::notes::Notes;
-use crate::objects::{
-    AddError, ObjectsError, Options, Problem, index_line, object_of, objects_line,
-};
-use crate::place::Step;
-use elasticlunr::{Index, IndexBuilder};
-use elasticlunr_lang::AnyLanguage;
+use crate::place::{Place, Step, place_of};
+use elasticlunr_job::objects::{ObjectsError, Options, Problem, object_of, objects_line};
+use elasticlunr_job::outcome::Refusal;
 use serde_json::Value;
 use std::alloc::{AllocError, Global};
 
-/// The text of the index of an array of objects.
+/// The text that objects were read of: an array, or a line for each.
+#[derive(Clone, Copy, Debug, PartialEq, Eq)]
+pub(crate) struct Source<'a> {
+    pub text: &'a [u8],
+    pub form: Form,
+}
+
+/// The text of the index of objects, and a line feed.
 pub(crate) fn objects_text(
     alloc: Global,
-    text: &[u8],
-    value: &Value,
-    language: AnyLanguage,
+    source: Source<'_>,
+    items: &[Value],
     options: &Options<'_>,
-) -> Result<String, Trouble> {
-    match objects_line(alloc, language, options, value) {
+) -> Result<String, Trouble>
+    ensures ok { IfOk result (λ line.
+        IsLineOfObjects (options_told options.now) (map view items.now) (string_bytes line)) }
+    ensures err { IfErr result (IsRefusedObjects (options_told options.now) (map view items.now)) }
+{
+    match objects_line(alloc, options, items) {
         Ok(line) => Ok(line),
         Err(ObjectsError::Memory) => Err(Trouble::Memory),
-        Err(error) => Err(Trouble::Refused(array_refused(alloc, text, value, options, error)?)),
+        Err(ObjectsError::Refused(refusal)) => {
+            Err(Trouble::Refused(unplaced(settings_fault(alloc, options, refusal)?)))
+        }
+        Err(ObjectsError::Document(number, problem)) => {
+            let item = items.get(number.saturating_sub(1));
+            let text = problem_text(alloc, options, number, item, problem)?;
+            let place = Some(problem_place(source, options, number, problem));
+            Err(Trouble::Refused(Message { place, text }))
+        }
     }
 }
 
-/// The message of a refusal of an array.
-fn array_refused(
+/// What is wrong with the settings of an index of objects.
+fn settings_fault(
     alloc: Global,
-    text: &[u8],
-    value: &Value,
     options: &Options<'_>,
-    error: ObjectsError,
-) -> Result<Message, AllocError> {
-    match error {
-        ObjectsError::DuplicateField => Ok(unplaced(duplicate_field(alloc, &options.fields)?)),
-        ObjectsError::NotAnArray(kind) => {
-            let found = kind_words(kind);
-            let said = format!(in alloc; "the input: {found}, where a list of objects is wanted")?;
-            Ok(message_at(text, &[], said))
-        }
-        ObjectsError::Document(number, problem) => {
-            let item = number.saturating_sub(1);
-            let said = problem_text(alloc, options, number, value.get(item), problem)?;
-            let path = [Step::Item(item), Step::Key(problem_key(options, problem))];
-            Ok(message_at(text, path_of(&path, problem), said))
-        }
-        ObjectsError::Memory => Err(AllocError),
+    refusal: Refusal,
+) -> Result<String, AllocError> {
+    match refusal {
+        Refusal::DuplicateField => duplicate_field(alloc, &options.fields),
+        Refusal::UnknownLanguage => unknown_language(alloc, options.language),
+        _ => String::from_str(alloc, "not objects"),
     }
+}
+
+/// The place of what is wrong with the document of this number.
+fn problem_place(
+    source: Source<'_>,
+    options: &Options<'_>,
+    number: usize,
+    problem: Problem,
+) -> Place {
+    let item = number.saturating_sub(1);
+    let key = Step::Key(problem_key(options, problem));
+    if source.form == Form::Lines {
+        let (before, line) = line_of(source.text, item);
+        place_of(line, path_of(&[key], problem)).below(before)
+    } else {
+        place_of(source.text, path_of(&[Step::Item(item), key], problem))
+    }
+}
+
+/// The line of the object with this number, from 0, and how many lines stand before it.
+fn line_of(text: &[u8], item: usize) -> (usize, &[u8]) {
+    let mut left = item;
+    for (before, line) in text.split(|byte| *byte == b'\n').enumerate() {
+        if is_blank(line) {
+            continue;
+        }
+        if left == 0 {
+            return (before, line);
+        }
+        left -= 1;
+    }
+    (0, text)
 }
 
 /// The steps to what a problem is about: the document, or a member of it.
@@ -82,6 +122,7 @@ fn problem_text(
 ) -> Result<String, AllocError> {
     let key = problem_key(options, problem);
     match problem {
+        Problem::NotJson => format!(in alloc; "document {number}: not JSON"),
         Problem::NotAnObject(kind) => {
             let found = kind_words(kind);
             format!(in alloc; "document {number}: {found}, where an object is wanted")
@@ -121,49 +162,15 @@ fn document_label(
     }
 }
 
-/// The text of the index of a line for each object. Empty lines are passed over.
-pub(crate) fn lines_text(
-    alloc: Global,
-    text: &[u8],
-    language: AnyLanguage,
-    options: &Options<'_>,
-    notes: &mut Notes,
-) -> Result<String, Trouble> {
-    if has_twice(&options.fields) {
-        return Err(Trouble::Refused(unplaced(duplicate_field(alloc, &options.fields)?)));
-    }
-    let index = IndexBuilder::with_language(alloc, language)?
-        .save_docs(options.save)
-        .set_ref(options.reference_key)?
-        .add_fields(&options.fields)?
-        .build()?;
-    fill_lines(alloc, index, text, options, notes)
-}
-
-/// Adds the documents of the lines to a new index: its text then, and a line feed.
-fn fill_lines(
-    alloc: Global,
-    mut index: Index<AnyLanguage>,
-    text: &[u8],
-    options: &Options<'_>,
-    notes: &mut Notes,
-) -> Result<String, Trouble> {
-    let mut number = 0usize;
+/// The values of the lines. Lines of white space are passed over.
+pub(crate) fn line_values(alloc: Global, text: &[u8]) -> Result<Vec<Value>, Trouble> {
+    let mut values = Vec::new(alloc);
     for (before, line) in text.split(|byte| *byte == b'\n').enumerate() {
-        if is_blank(line) {
-            continue;
+        if !is_blank(line) {
+            values.push(line_value(alloc, line, before)?)?;
         }
-        number = number.saturating_add(1);
-        let value = line_value(alloc, line, before)?;
-        match object_of(alloc, options, &value) {
-            Ok(object) => index.add_doc(object.reference.as_str(), &object.values)?,
-            Err(error) => return Err(line_refused(
-                alloc, options, line, &value, before, number, error,
-            )?),
-        }
-        note_object(alloc, options, &value, notes)?;
     }
-    Ok(index_line(&index, options.pretty)?)
+    Ok(values)
 }
 
 /// The value of a line, before which there are so many.
@@ -172,27 +179,6 @@ fn line_value(alloc: Global, line: &[u8], before: usize) -> Result<Value, Troubl
         Ok(value) => Ok(value),
         Err(e) if e.is_memory() => Err(Trouble::Memory),
         Err(e) => Err(Trouble::Refused(below(not_json(alloc, line, &e)?, before))),
-    }
-}
-
-/// Why a line has no document, before which there are so many.
-fn line_refused(
-    alloc: Global,
-    options: &Options<'_>,
-    line: &[u8],
-    value: &Value,
-    before: usize,
-    number: usize,
-    error: AddError,
-) -> Result<Trouble, AllocError> {
-    match error {
-        AddError::Memory => Ok(Trouble::Memory),
-        AddError::Problem(problem) => {
-            let said = problem_text(alloc, options, number, Some(value), problem)?;
-            let path = [Step::Key(problem_key(options, problem))];
-            let message = message_at(line, path_of(&path, problem), said);
-            Ok(Trouble::Refused(below(message, before)))
-        }
     }
 }
 
@@ -223,25 +209,18 @@ pub(crate) fn first_fields<'v>(
     Ok(fields)
 }
 
-/// Notes what is unwise in an object that was added.
-pub(crate) fn note_object(
+/// Notes what is unwise in objects that are documents.
+pub(crate) fn note_objects(
     alloc: Global,
     options: &Options<'_>,
-    value: &Value,
+    items: &[Value],
     notes: &mut Notes,
 ) -> Result<(), AllocError> {
-    let mut values = Vec::new(alloc);
-    for field in &options.fields {
-        values.push(value.get(*field).and_then(Value::as_str).unwrap_or(""))?;
+    for item in items {
+        let Ok(object) = object_of(alloc, options, item) else {
+            return Err(AllocError);
+        };
+        notes.document(object.reference.as_str(), &object.values)?;
     }
-    let Some(member) = value.get(options.reference_key) else {
-        return Ok(());
-    };
-    match member.as_str() {
-        Some(reference) => notes.document(reference, &values),
-        None => {
-            let number = member.to_string(alloc)?;
-            notes.document(number.as_str(), &values)
-        }
-    }
+    notes.end(&options.fields)
 }

@@ -1,14 +1,13 @@
 //! The index of an input, of each form.
 
-use crate::documents::{first_fields, lines_text, note_object, objects_text};
-use crate::form::{Form, Input, is_blank, read_input};
+use crate::documents::{Source, first_fields, line_values, note_objects, objects_text};
+use crate::form::{Form, Input, read_input};
 use crate::jobs::{job_refused, job_text, note_job};
-use crate::message::Trouble;
+use crate::message::{Trouble, wants};
 use crate::notes::Notes;
-use crate::objects::Options;
 use crate::settings::{Settings, texts_of};
+use elasticlunr_job::objects::Options;
 use elasticlunr_job::outcome::Stop;
-use elasticlunr_lang::{AnyLanguage, from_name};
 use serde_json::Value;
 use std::alloc::{AllocError, Global};
 
@@ -22,7 +21,7 @@ pub(crate) fn index_text(
 ) -> Result<String, Trouble> {
     match read_input(alloc, text, form)? {
         Input::Job(value) => text_of_job(alloc, text, &value, settings, notes),
-        Input::Objects(value) => text_of_objects(alloc, text, &value, settings, notes),
+        Input::Objects(value) => text_of_array(alloc, text, &value, settings, notes),
         Input::Lines => text_of_lines(alloc, text, settings, notes),
     }
 }
@@ -48,22 +47,22 @@ fn text_of_job(
 }
 
 /// The text of the index of an array of objects.
-fn text_of_objects(
+fn text_of_array(
     alloc: Global,
     text: &[u8],
     value: &Value,
     settings: &Settings,
     notes: &mut Notes,
 ) -> Result<String, Trouble> {
-    let options = options_of(alloc, settings, value.get(0usize))?;
-    let line = objects_text(alloc, text, value, language_of(settings), &options)?;
-    if let Some(items) = value.as_array() {
-        for item in items {
-            note_object(alloc, &options, item, notes)?;
-        }
-    }
-    notes.end(&options.fields)?;
-    Ok(line)
+    let Some(items) = value.as_array() else {
+        let message = wants(alloc, text, &[], "the input", value, "a list of objects")?;
+        return Err(Trouble::Refused(message));
+    };
+    let source = Source {
+        text,
+        form: Form::Objects,
+    };
+    text_of_objects(alloc, source, items, settings, notes)
 }
 
 /// The text of the index of a line for each object.
@@ -73,26 +72,26 @@ fn text_of_lines(
     settings: &Settings,
     notes: &mut Notes,
 ) -> Result<String, Trouble> {
-    let first = first_object(alloc, text)?;
-    let options = options_of(alloc, settings, first.as_ref())?;
-    let line = lines_text(alloc, text, language_of(settings), &options, notes)?;
-    notes.end(&options.fields)?;
-    Ok(line)
+    let items = line_values(alloc, text)?;
+    let source = Source {
+        text,
+        form: Form::Lines,
+    };
+    text_of_objects(alloc, source, &items, settings, notes)
 }
 
-/// The value of the first line that has one.
-fn first_object(alloc: Global, text: &[u8]) -> Result<Option<Value>, AllocError> {
-    let Some(line) = text
-        .split(|byte| *byte == b'\n')
-        .find(|line| !is_blank(line))
-    else {
-        return Ok(None);
-    };
-    match Value::from_slice(alloc, line) {
-        Ok(value) => Ok(Some(value)),
-        Err(e) if e.is_memory() => Err(AllocError),
-        Err(_) => Ok(None),
-    }
+/// The text of the index of objects.
+fn text_of_objects(
+    alloc: Global,
+    source: Source<'_>,
+    items: &[Value],
+    settings: &Settings,
+    notes: &mut Notes,
+) -> Result<String, Trouble> {
+    let options = options_of(alloc, settings, items.first())?;
+    let line = objects_text(alloc, source, items, &options)?;
+    note_objects(alloc, &options, items, notes)?;
+    Ok(line)
 }
 
 /// How objects are read: the fields of the first one, where the settings name none.
@@ -112,6 +111,7 @@ fn options_of<'a>(
     Ok(Options {
         reference_key,
         fields,
+        language: language_of(settings),
         save: !settings.drops_texts,
         pretty: settings.pretty,
     })
@@ -129,10 +129,10 @@ fn fields_of_first<'a>(
     }
 }
 
-/// The language of the settings, English where they name none.
-fn language_of(settings: &Settings) -> AnyLanguage {
+/// The name of the language of the settings, English where they name none.
+fn language_of(settings: &Settings) -> &str {
     match &settings.language {
-        Some(name) => from_name(name.as_str()).unwrap_or(AnyLanguage::English),
-        None => AnyLanguage::English,
+        Some(name) => name.as_str(),
+        None => "English",
     }
 }

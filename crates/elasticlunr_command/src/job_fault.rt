@@ -2,7 +2,6 @@
 
 use crate::message::{Message, message_at, wants};
 use crate::nearest::nearest;
-use crate::objects::kind_of;
 use crate::place::Step;
 use serde_json::Value;
 use std::alloc::{AllocError, Global};

@@ -96,11 +96,6 @@ fn second_of(fields: &[&str]) -> usize {
     0
 }
 
-/// Whether a field comes twice.
-pub(crate) fn has_twice(fields: &[&str]) -> bool {
-    second_of(fields) > 0
-}
-
 /// That a field comes twice.
 pub(crate) fn duplicate_field(alloc: Global, fields: &[&str]) -> Result<String, AllocError> {
     let name = match fields.get(second_of(fields)) {

@@ -15,7 +15,6 @@ mod languages;
 mod message;
 mod nearest;
 mod notes;
-mod objects;
 mod place;
 mod search;
 mod settings;

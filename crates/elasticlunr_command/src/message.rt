@@ -1,9 +1,8 @@
 //! What is wrong in an input: where, what, and what to do.
 
 use crate::form::is_blank;
-use crate::objects::{Kind, kind_of};
 use crate::place::{Place, Step, place_at, place_of};
-use elasticlunr::IndexError;
+use elasticlunr_job::kind::{Kind, kind_of};
 use serde_json::{Error, Value};
 use std::alloc::{AllocError, AllocFailed, Global};
 
@@ -22,19 +21,23 @@ pub(crate) enum Trouble {
 }
 
 impl From<AllocError> for Trouble {
+    ghost use Rattle.elasticlunr_command.specs.declared.message.Trouble.TheVariants.{Memory};
+    ghost use Rattle.std.specs.Prelude.{◌≡◌};
+
+    ghost from_gives = { λ _ e. e ≡ Memory };
+
     fn from(_refused: AllocError) -> Trouble {
         Trouble::Memory
     }
 }
 
 impl<T: Drop> From<AllocFailed<T>> for Trouble {
-    fn from(_refused: AllocFailed<T>) -> Trouble {
-        Trouble::Memory
-    }
-}
+    ghost use Rattle.elasticlunr_command.specs.declared.message.Trouble.TheVariants.{Memory};
+    ghost use Rattle.std.specs.Prelude.{◌≡◌};
 
-impl From<IndexError> for Trouble {
-    fn from(_refused: IndexError) -> Trouble {
+    ghost from_gives = { λ _ e. e ≡ Memory };
+
+    fn from(_refused: AllocFailed<T>) -> Trouble {
         Trouble::Memory
     }
 }

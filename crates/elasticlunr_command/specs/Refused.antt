@@ -1,0 +1,13 @@
+-- Why no index of the documents is printed.
+use Rattle.std.specs.Prelude.{◌≡◌, ⊤, List}
+use Rattle.serde_json.specs.Data.{Data}
+use Rattle.elasticlunr_job.specs.Objects.{Options, FailsObjects}
+use Rattle.elasticlunr_job.specs.declared.objects.ObjectsError.{ObjectsError}
+use Rattle.elasticlunr_job.specs.declared.objects.ObjectsError.TheVariants as error
+use Rattle.elasticlunr_command.specs.declared.message.Trouble.{Trouble}
+use Rattle.elasticlunr_command.specs.declared.message.Trouble.TheVariants.{Refused, Memory}
+
+-- memory is wanting, or the values fail a check
+abbrev pub IsRefusedObjects : Options → List Data → Trouble → Type 0
+IsRefusedObjects options items Memory = ⊤
+IsRefusedObjects options items (Refused _) = (e : ObjectsError) × (¬ (e ≡ error.Memory)) × FailsObjects options items e

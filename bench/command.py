@@ -14,6 +14,7 @@ import json
 import os
 import re
 import resource
+import shutil
 import subprocess
 import sys
 import tempfile
@@ -174,9 +175,25 @@ def check_files(counts):
         counts.note("no such file", ended.status == 1 and b"none.json" in ended.err, ended)
         ended = ran(folder, ["build", "."])
         counts.note("a folder to be read", ended.status == 1 and ended.err != b"", ended)
+        check_rights(folder, job, counts)
         ended = ran(folder, ["build", "-o", "/dev/full"], job)
         counts.note("a full device", ended.status == 1 and b"/dev/full" in ended.err, ended)
         check_streams(folder, job, counts)
+
+
+def check_rights(folder, job, counts):
+    """A file in a folder that the user may not write to; root may write to each, so nobody stands in for it."""
+    locked = os.path.join(folder, "locked")
+    os.mkdir(locked, 0o555)
+    options = {}
+    command = COMMAND
+    if os.geteuid() == 0:
+        os.chmod(folder, 0o755)
+        command = shutil.copy(COMMAND, folder)  # nobody may have no way to the repository
+        options = {"user": 65534, "group": 65534, "extra_groups": []}
+    ended = run([command, "build", "-o", "locked/index.json"], job, cwd=folder, **options)
+    good = ended.status == 1 and b"locked/index.json" in ended.err and os.listdir(locked) == []
+    counts.note("no right to write", good, ended)
 
 
 def check_streams(folder, job, counts):

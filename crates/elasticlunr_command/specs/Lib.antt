@@ -1,3 +1,5 @@
 pub mod Status
 pub mod Settled
 pub mod Refused
+pub mod Asked
+pub mod Lines

@@ -2,7 +2,7 @@
 use Rattle.std.specs.Prelude.{List, Bool, true, false, Option, option_map, unwrap_or, string_bytes, if◌then◌else◌}
 use Rattle.serde_json.specs.Data.{Data}
 use Rattle.elasticlunr_text.specs.Text.{Bytes, bytes_of}
-use Rattle.elasticlunr_job.specs.Answer.{IsNoJob, FailsAt}
+use Rattle.elasticlunr_job.specs.Answer.{IsLineOf, IsNoJob, FailsAt}
 use Rattle.elasticlunr_job.specs.Job.{Job, IsJob}
 use Rattle.elasticlunr_job.specs.declared.outcome.Refusal.{Refusal}
 use Rattle.elasticlunr_job.specs.declared.outcome.Refusal.TheVariants.{NotJson, NotAJob}
@@ -35,6 +35,10 @@ settled settings job = record job {
   save = if settings.drops_texts then false else job.save;
   pretty = if settings.pretty then true else job.pretty;
 }
+
+-- the text of the index of the job that a value is, with these settings, and a line feed
+abbrev pub IsLineWith : Settings → Data → Bytes → Type 0
+IsLineWith settings d text = (job : Job) × IsJob d job × IsLineOf (settled settings job) text
 
 -- the check that a value fails first: that it is a job, or one of the job with these settings
 abbrev pub IsRefusedWith : Settings → Data → Refusal → Type 0

@@ -1,7 +1,9 @@
 //! The index of documents that are objects: an array of them, or a line for each.
-ghost use Rattle.std.specs.Prelude.{map, string_bytes, IfOk, IfErr};
+ghost use Rattle.std.specs.Prelude.{◌≡◌, map, string_bytes, IfOk, IfErr, Some};
+ghost use Rattle.elasticlunr_job.specs.Answer.{reading};
 ghost use Rattle.elasticlunr_job.specs.Objects.{IsLineOfObjects};
 ghost use Rattle.elasticlunr_job.specs.ObjectsTold.{options_told};
+ghost use Rattle.elasticlunr_command.specs.Lines.{AreLineValues, lines_of};
 ghost use Rattle.elasticlunr_command.specs.Refused.{IsRefusedObjects};
 ghost use Rattle.serde_json.specs.View.{view};
 
@@ -10,6 +12,7 @@ use crate::jobs::{duplicate_field, unknown_language};
 use crate::message::{Message, Trouble, kind_words, not_json, unplaced};
 use crate::notes::Notes;
 use crate::place::{Place, Step, place_of};
+use crate::tokens::Tokens;
 use elasticlunr_job::objects::{ObjectsError, Options, Problem, object_of, objects_line};
 use elasticlunr_job::outcome::Refusal;
 use serde_json::Value;
@@ -163,18 +166,30 @@ fn document_label(
 }
 
 /// The values of the lines. Lines of white space are passed over.
-pub(crate) fn line_values(alloc: Global, text: &[u8]) -> Result<Vec<Value>, Trouble> {
+pub(crate) fn line_values(alloc: Global, text: &[u8]) -> Result<Vec<Value>, Trouble>
+    ensures { IfOk result (λ values. AreLineValues text.now (map view values.items)) }
+{
+    let lines = lines_of(alloc, text)?;
     let mut values = Vec::new(alloc);
-    for (before, line) in text.split(|byte| *byte == b'\n').enumerate() {
-        if !is_blank(line) {
-            values.push(line_value(alloc, line, before)?)?;
+    for (before, line) in lines.iter().enumerate() {
+        if !is_blank(*line) {
+            values.push(line_value(alloc, *line, before)?)?;
         }
     }
     Ok(values)
 }
 
+/// The parts of a text between line feeds.
+fn lines_of(alloc: Global, text: &[u8]) -> Result<Vec<&[u8]>, AllocError>
+    ensures { IfOk result (λ lines. map (λ line. line.now) lines.items ≡ lines_of text.now) }
+{
+    text.split(|byte| *byte == b'\n').collect(alloc)
+}
+
 /// The value of a line, before which there are so many.
-fn line_value(alloc: Global, line: &[u8], before: usize) -> Result<Value, Trouble> {
+fn line_value(alloc: Global, line: &[u8], before: usize) -> Result<Value, Trouble>
+    ensures { IfOk result (λ value. reading line.now ≡ Some (view value)) }
+{
     match Value::from_slice(alloc, line) {
         Ok(value) => Ok(value),
         Err(e) if e.is_memory() => Err(Trouble::Memory),
@@ -216,11 +231,12 @@ pub(crate) fn note_objects(
     items: &[Value],
     notes: &mut Notes,
 ) -> Result<(), AllocError> {
+    let tokens = Tokens::of_language(alloc, options.language)?;
     for item in items {
         let Ok(object) = object_of(alloc, options, item) else {
             return Err(AllocError);
         };
-        notes.document(object.reference.as_str(), &object.values)?;
+        notes.document(&tokens, object.reference.as_str(), &object.values)?;
     }
     notes.end(&options.fields)
 }

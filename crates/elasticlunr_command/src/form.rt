@@ -1,4 +1,6 @@
 //! In which form the documents come.
+ghost use Rattle.std.specs.Prelude.{◌≡◌};
+ghost use Rattle.elasticlunr_command.specs.Lines.{is_blank};
 
 use crate::message::{Trouble, not_json};
 use serde_json::Value;
@@ -81,7 +83,8 @@ fn begins_with_an_object(alloc: Global, bytes: &[u8]) -> Result<bool, AllocError
 }
 
 /// Whether a line has no character but white space.
-pub(crate) fn is_blank(line: &[u8]) -> bool {
-    line.iter()
-        .all(|byte| matches!(*byte, b' ' | b'\t' | b'\r' | b'\n'))
+pub(crate) fn is_blank(line: &[u8]) -> bool
+    ensures { result ≡ is_blank line.now }
+{
+    line.iter().all(|byte| *byte == b' ' || *byte == b'\t' || *byte == b'\r' || *byte == b'\n')
 }

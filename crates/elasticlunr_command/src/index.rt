@@ -1,11 +1,18 @@
 //! The index of an input, of each form.
+ghost use Rattle.std.specs.Prelude.{◌≡◌, map, string_bytes, unwrap_or, IfOk, IfErr};
+ghost use Rattle.elasticlunr_job.specs.ObjectsTold.{options_told, texts_told};
+ghost use Rattle.elasticlunr_command.specs.Asked.{IsArrayLineWith, IsObjectsLineWith, options_with};
+ghost use Rattle.elasticlunr_command.specs.Lines.{IsLinesLineWith};
+ghost use Rattle.elasticlunr_command.specs.Refused.{IsRefusedJob};
+ghost use Rattle.elasticlunr_command.specs.Settled.{IsLineWith, settings_told};
+ghost use Rattle.serde_json.specs.View.{view};
 
 use crate::documents::{Source, first_fields, line_values, note_objects, objects_text};
 use crate::form::{Form, Input, read_input};
 use crate::jobs::{job_refused, job_text, note_job};
 use crate::message::{Trouble, wants};
 use crate::notes::Notes;
-use crate::settings::{Settings, texts_of};
+use crate::settings::{Settings, text_or, texts_of};
 use elasticlunr_job::objects::Options;
 use elasticlunr_job::outcome::Stop;
 use serde_json::Value;
@@ -33,10 +40,14 @@ fn text_of_job(
     value: &Value,
     settings: &Settings,
     notes: &mut Notes,
-) -> Result<String, Trouble> {
+) -> Result<String, Trouble>
+    ensures ok { IfOk result (λ line.
+        IsLineWith (settings_told settings.now) (view value.now) (string_bytes line)) }
+    ensures err { IfErr result (IsRefusedJob (settings_told settings.now) (view value.now)) }
+{
     match job_text(alloc, value, settings) {
         Ok(line) => {
-            note_job(alloc, value, notes)?;
+            note_job(alloc, value, settings, notes)?;
             Ok(line)
         }
         Err(Stop::Memory) => Err(Trouble::Memory),
@@ -53,7 +64,10 @@ fn text_of_array(
     value: &Value,
     settings: &Settings,
     notes: &mut Notes,
-) -> Result<String, Trouble> {
+) -> Result<String, Trouble>
+    ensures { IfOk result (λ line.
+        IsArrayLineWith (settings_told settings.now) (view value.now) (string_bytes line)) }
+{
     let Some(items) = value.as_array() else {
         let message = wants(alloc, text, &[], "the input", value, "a list of objects")?;
         return Err(Trouble::Refused(message));
@@ -71,7 +85,10 @@ fn text_of_lines(
     text: &[u8],
     settings: &Settings,
     notes: &mut Notes,
-) -> Result<String, Trouble> {
+) -> Result<String, Trouble>
+    ensures { IfOk result (λ line.
+        IsLinesLineWith (settings_told settings.now) text.now (string_bytes line)) }
+{
     let items = line_values(alloc, text)?;
     let source = Source {
         text,
@@ -87,7 +104,10 @@ fn text_of_objects(
     items: &[Value],
     settings: &Settings,
     notes: &mut Notes,
-) -> Result<String, Trouble> {
+) -> Result<String, Trouble>
+    ensures { IfOk result (λ line.
+        IsObjectsLineWith (settings_told settings.now) (map view items.now) (string_bytes line)) }
+{
     let options = options_of(alloc, settings, items.first())?;
     let line = objects_text(alloc, source, items, &options)?;
     note_objects(alloc, &options, items, notes)?;
@@ -99,22 +119,35 @@ fn options_of<'a>(
     alloc: Global,
     settings: &'a Settings,
     first: Option<&'a Value>,
-) -> Result<Options<'a>, AllocError> {
-    let reference_key = match &settings.reference {
-        Some(key) => key.as_str(),
-        None => "id",
-    };
-    let fields = match &settings.fields {
-        Some(fields) => texts_of(alloc, fields)?,
-        None => fields_of_first(alloc, first, reference_key)?,
-    };
+) -> Result<Options<'a>, AllocError>
+    ensures { IfOk result (λ options. options_told options ≡ options_with (settings_told settings.now)
+        (unwrap_or (settings_told settings.now).fields (options_told options).fields)) }
+{
+    let reference_key = text_or(&settings.reference, "id");
+    let fields = fields_or_first(alloc, settings, first, reference_key)?;
     Ok(Options {
         reference_key,
         fields,
-        language: language_of(settings),
+        language: text_or(&settings.language, "English"),
         save: !settings.drops_texts,
         pretty: settings.pretty,
     })
+}
+
+/// The fields of the settings, or else those of the first object.
+fn fields_or_first<'a>(
+    alloc: Global,
+    settings: &'a Settings,
+    first: Option<&'a Value>,
+    reference_key: &str,
+) -> Result<Vec<&'a str>, AllocError>
+    ensures { IfOk result (λ fields. texts_told fields.items
+        ≡ unwrap_or (settings_told settings.now).fields (texts_told fields.items)) }
+{
+    match &settings.fields {
+        Some(fields) => texts_of(alloc, fields),
+        None => fields_of_first(alloc, first, reference_key),
+    }
 }
 
 /// The fields of the first object, where there is one.
@@ -126,13 +159,5 @@ fn fields_of_first<'a>(
     match first {
         Some(object) => first_fields(alloc, object, reference_key),
         None => Ok(Vec::new(alloc)),
-    }
-}
-
-/// The name of the language of the settings, English where they name none.
-fn language_of(settings: &Settings) -> &str {
-    match &settings.language {
-        Some(name) => name.as_str(),
-        None => "English",
     }
 }

@@ -1,10 +1,7 @@
 //! The index of a job.
 ghost use Rattle.std.specs.Prelude.{string_bytes, IfOk, IfErr};
-ghost use Rattle.elasticlunr_job.specs.Answer.{IsLineOf};
-ghost use Rattle.elasticlunr_job.specs.Job as spec;
-ghost use Rattle.elasticlunr_job.specs.Job.{IsJob};
 ghost use Rattle.elasticlunr_job.specs.Stop.{StopsWithReason};
-ghost use Rattle.elasticlunr_command.specs.Settled.{IsRefusedWith, settled, settings_told};
+ghost use Rattle.elasticlunr_command.specs.Settled.{IsLineWith, IsRefusedWith, settings_told};
 ghost use Rattle.serde_json.specs.View.{view};
 
 use crate::job_fault::not_a_job;
@@ -12,7 +9,8 @@ use crate::message::{Message, Trouble, message_at, unplaced};
 use crate::nearest::nearest;
 use crate::notes::Notes;
 use crate::place::Step;
-use crate::settings::{Settings, all_names, settle};
+use crate::settings::{Settings, all_names, settle, text_or};
+use crate::tokens::Tokens;
 use elasticlunr_job::answer::job_line;
 use elasticlunr_job::job::{Job, parse};
 use elasticlunr_job::outcome::{Refusal, Stop};
@@ -25,8 +23,8 @@ pub(crate) fn job_text<'a>(
     value: &'a Value,
     settings: &'a Settings,
 ) -> Result<String, Stop>
-    ensures ok { IfOk result (λ line. (job : spec.Job) × IsJob (view value.now) job
-        × IsLineOf (settled (settings_told settings.now) job) (string_bytes line)) }
+    ensures ok { IfOk result (λ line.
+        IsLineWith (settings_told settings.now) (view value.now) (string_bytes line)) }
     ensures err { IfErr result (StopsWithReason (IsRefusedWith (settings_told settings.now) (view value.now))) }
 {
     let job = settle(alloc, parse(alloc, value)?, settings)?;
@@ -123,14 +121,18 @@ fn too_many_values(alloc: Global, text: &[u8], job: &Job<'_>) -> Result<Message,
 }
 
 /// Notes what is unwise in the documents of a job.
-pub(crate) fn note_job(alloc: Global, value: &Value, notes: &mut Notes) -> Result<(), AllocError> {
-    match parse(alloc, value) {
-        Ok(job) => {
-            for doc in &job.docs {
-                notes.document(doc.reference, &doc.values)?;
-            }
-            notes.end(&job.fields)
-        }
-        Err(_) => Err(AllocError),
+pub(crate) fn note_job(
+    alloc: Global,
+    value: &Value,
+    settings: &Settings,
+    notes: &mut Notes,
+) -> Result<(), AllocError> {
+    let Ok(job) = parse(alloc, value) else {
+        return Err(AllocError);
+    };
+    let tokens = Tokens::of_language(alloc, text_or(&settings.language, job.language))?;
+    for doc in &job.docs {
+        notes.document(&tokens, doc.reference, &doc.values)?;
     }
+    notes.end(&job.fields)
 }

@@ -19,6 +19,7 @@ mod place;
 mod search;
 mod settings;
 mod tell;
+mod tokens;
 mod words;
 
 use crate::build::{Use, build};

@@ -1,5 +1,6 @@
 //! What is unwise in documents that are fine.
 
+use crate::tokens::Tokens;
 use std::alloc::{AllocError, Global};
 use std::collections::BTreeMap;
 
@@ -44,10 +45,15 @@ impl Notes {
     }
 
     /// Takes the next document.
-    pub(crate) fn document(&mut self, reference: &str, values: &[&str]) -> Result<(), AllocError> {
+    pub(crate) fn document(
+        &mut self,
+        tokens: &Tokens,
+        reference: &str,
+        values: &[&str],
+    ) -> Result<(), AllocError> {
         self.documents = self.documents.saturating_add(1);
         self.reference(reference)?;
-        self.values(reference, values)
+        self.values(tokens, reference, values)
     }
 
     /// Takes the reference of a document.
@@ -70,19 +76,26 @@ impl Notes {
     }
 
     /// Takes the values of a document.
-    fn values(&mut self, reference: &str, values: &[&str]) -> Result<(), AllocError> {
+    fn values(
+        &mut self,
+        tokens: &Tokens,
+        reference: &str,
+        values: &[&str],
+    ) -> Result<(), AllocError> {
         let number = self.documents;
-        let mut has_word = false;
+        let mut has_token = false;
         for (field, value) in values.iter().enumerate() {
             let is_filled = !value.is_empty();
             match self.has_text.get_mut(field) {
                 Some(seen) => *seen = *seen || is_filled,
                 None => self.has_text.push(is_filled)?,
             }
-            has_word = has_word || has_a_word(value);
+            has_token = has_token || tokens.are_in(self.alloc, value)?;
         }
-        if !has_word {
-            let said = format!(in self.alloc; "document {number} (\"{reference}\") has no word")?;
+        if !has_token {
+            let said = format!(in self.alloc;
+                "document {number} (\"{reference}\") has no word that can be found"
+            )?;
             self.warnings.push(said)?;
         }
         Ok(())
@@ -107,9 +120,4 @@ impl Notes {
         }
         Ok(())
     }
-}
-
-/// Whether a text has a character that parts no words.
-fn has_a_word(text: &str) -> bool {
-    text.chars().any(|c| !c.is_whitespace() && c != '-')
 }

@@ -84,7 +84,7 @@ fn texts_or<'a>(
 }
 
 /// The text that is given, or else that of the job.
-fn text_or<'a>(given: &'a Option<String>, own: &'a str) -> &'a str
+pub(crate) fn text_or<'a>(given: &'a Option<String>, own: &'a str) -> &'a str
     ensures { result.now ≡ unwrap_or (option_map string_bytes given.now) own.now }
 {
     match given {

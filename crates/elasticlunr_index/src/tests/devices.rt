@@ -2,6 +2,7 @@ use super::{Pieces, Room, ran};
 use crate::device::{Fault, FromRead, ToWrite};
 use crate::outcome::RunError;
 use crate::run::{run, status};
+use elasticlunr_job::outcome::{Outcome, Refusal};
 use std::alloc::Global;
 use std::test::Fail;
 

@@ -13,7 +13,8 @@ pub struct Pipeline {
 }
 
 impl Pipeline {
-    ghost use Rattle.elasticlunr_text.specs.Stages.{MayLeaveAll, IsRun, names_of};
+    ghost use Rattle.elasticlunr_text.specs.Stages.{IsRun, names_of};
+    ghost use Rattle.elasticlunr_text.specs.Filtered.{MayFilterTo};
 
     /// The names of the stages, in order, as a printed index lists them.
     pub fn names(&self, alloc: Global) -> Result<Vec<String>, AllocError>
@@ -28,7 +29,7 @@ impl Pipeline {
 
     /// What the stages leave of one token.
     fn filter(&self, alloc: Global, token: String) -> Result<Option<String>, AllocError>
-        ensures { IfOk result (λ left. MayLeaveAll leaves self.now.queue.items (text_of token) (option_map text_of left)) }
+        ensures { IfOk result (λ left. MayFilterTo leaves self.now (text_of token) (option_map text_of left)) }
     {
         let mut token = token;
         for stage in &self.queue {

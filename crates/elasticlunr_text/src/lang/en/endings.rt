@@ -1,7 +1,9 @@
 //! How words end: stems before suffixes, and the suffixes that the steps replace.
-ghost use Rattle.std.specs.Prelude.{◌≡◌, ◌≢◌, ◌≤◌, ◌<◌, ◌++◌, ◌∷◌, ◌↔◌, [], List, ℕ, IsTrue, length, chars, map, IfSome, IfNone, not, ◌==◌, string_bytes, string_len, string_capacity, codes, ◌+◌};
+ghost use Rattle.std.specs.Prelude.{◌≡◌, ◌≢◌, ◌≤◌, ◌<◌, ◌++◌, ◌∷◌, ◌↔◌, [], List, ℕ, IsTrue, length, chars, map, IfSome, IfNone, not, ◌==◌, string_len, string_capacity, codes, ◌+◌};
 ghost use Rattle.std.specs.List.{list_all};
-ghost use Rattle.elasticlunr_text.specs.Stems.{IsStem, EndsWith, EndsAfterStem, IsCut, HasNoCut, LastIs, listed};
+ghost use Rattle.elasticlunr_text.specs.Stems.{IsStem, EndsWith, EndsAfterStem, HasNoCut, LastIs, listed};
+ghost use Rattle.elasticlunr_text.specs.Endings.{LosesLast, Exchanges, IsCutOf};
+ghost use Rattle.elasticlunr_text.specs.Text.{text_of};
 ghost use Rattle.elasticlunr_text.specs.Ascii.{all_ascii};
 
 /// Whether the text is a stem: not empty, and without a line feed.
@@ -89,8 +91,8 @@ pub fn ends_after_stem(word: &str, suffix: &str) -> bool
 /// The word loses the suffix.
 pub fn drop_suffix(word: &mut String, suffix: &str)
     requires ascii { IsTrue (all_ascii suffix.now) }
-    requires ends { EndsWith suffix.now (chars (string_bytes word.old)) }
-    ensures lost { chars (string_bytes word.old) ≡ chars (string_bytes word.new) ++ suffix.now }
+    requires ends { EndsWith suffix.now (text_of word.old) }
+    ensures lost { text_of word.old ≡ text_of word.new ++ suffix.now }
     ensures length { string_len word.new + length suffix.now ≡ string_len word.old }
     ensures capacity { string_capacity word.new ≡ string_capacity word.old }
 {
@@ -99,8 +101,8 @@ pub fn drop_suffix(word: &mut String, suffix: &str)
 
 /// The word loses its last letter.
 pub fn drop_last(word: &mut String)
-    requires { (front : List ℕ) × (c : ℕ) × (chars (string_bytes word.old) ≡ front ++ c ∷ []) }
-    ensures { (front : List ℕ) (c : ℕ) → chars (string_bytes word.old) ≡ front ++ c ∷ [] → chars (string_bytes word.new) ≡ front }
+    requires { (front : List ℕ) × (c : ℕ) × (text_of word.old ≡ front ++ c ∷ []) }
+    ensures { LosesLast (text_of word.old) (text_of word.new) }
 {
     let _ = word.pop();
 }
@@ -108,7 +110,7 @@ pub fn drop_last(word: &mut String)
 /// An `e` is appended, for which the word has room.
 pub fn push_e(word: &mut String)
     requires { string_len word.old < string_capacity word.old }
-    ensures { chars (string_bytes word.new) ≡ chars (string_bytes word.old) ++ codes "e" }
+    ensures { text_of word.new ≡ text_of word.old ++ codes "e" }
 {
     word.push('e').unwrap();
 }
@@ -118,8 +120,8 @@ pub fn replace_suffix(word: &mut String, suffix: &str, ending: &str)
     requires ascii_suffix { IsTrue (all_ascii suffix.now) }
     requires ascii_ending { IsTrue (all_ascii ending.now) }
     requires shorter { length ending.now ≤ length suffix.now }
-    requires ends { EndsWith suffix.now (chars (string_bytes word.old)) }
-    ensures { (s : List ℕ) → chars (string_bytes word.old) ≡ s ++ suffix.now → chars (string_bytes word.new) ≡ s ++ ending.now }
+    requires ends { EndsWith suffix.now (text_of word.old) }
+    ensures { Exchanges suffix.now ending.now (text_of word.old) (text_of word.new) }
 {
     word.truncate(word.len() - suffix.len());
     word.push_str(ending).unwrap();
@@ -136,7 +138,7 @@ pub struct Cut<'a> {
 /// The cut with the shortest stem.
 pub fn shortest_cut<'a>(word: &'a str, endings: &[(&'static str, &'static str)]) -> Option<Cut<'a>>
     requires { IsTrue (list_all (λ e. all_ascii e.0) (listed endings.now)) }
-    ensures found { IfSome result (λ c. IsCut (listed endings.now) (chars word.now) (chars c.stem.now) c.suffix.now c.ending.now) }
+    ensures found { IfSome result (λ c. IsCutOf (listed endings.now) (chars word.now) c) }
     ensures none { IfNone result (HasNoCut (listed endings.now) (chars word.now)) }
 {
     let mut best: Option<Cut<'a>> = None;

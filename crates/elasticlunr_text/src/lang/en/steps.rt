@@ -1,7 +1,9 @@
 //! The seven steps of the English stemmer, each in the buffer of the word.
-ghost use Rattle.std.specs.Prelude.{◌≡◌, ◌↔◌, ◌≤◌, ◌<◌, ◌∷◌, ℕ, List, IsTrue, length, chars, string_bytes, string_len, string_capacity, codes, nat_le};
+ghost use Rattle.std.specs.Prelude.{◌≡◌, ◌↔◌, ◌≤◌, ◌<◌, ◌∷◌, ℕ, List, IsTrue, length, chars, string_len, string_capacity, codes, nat_le};
 ghost use Rattle.std.specs.List.{list_all};
 ghost use Rattle.elasticlunr_text.specs.Letters.{is_one_of};
+ghost use Rattle.elasticlunr_text.specs.Endings.{SetsFirst, KeepsLengthAndRoom};
+ghost use Rattle.elasticlunr_text.specs.Text.{text_of};
 ghost use Rattle.elasticlunr_text.specs.Ascii.{all_ascii};
 ghost use Rattle.elasticlunr_text.specs.Stems.{Tries, LosesEs, LosesS, EndsInEed, LosesAndMends, GetsE, LosesDouble, ShortGetsE, YBecomesI, DropsEnding, DropsIon, DropsE, StandsWithoutE, DropsL, Step1a, Step1b, Mended, EndsInDouble, Step1c, Replaces, Step2, Step3, Step4, Step5, Steps, listed};
 ghost use Rattle.std.specs.Bool.{OnFalse};
@@ -16,8 +18,8 @@ use super::tables::{Ending, step_2_endings, step_3_endings, step_4_endings};
 /// Writes the letter over the first one, which is ASCII too.
 pub fn set_first(word: &mut String, letter: char)
     requires ascii { letter < 128 }
-    requires first { (c : ℕ) × (rest : List ℕ) × (c < 128) × (chars (string_bytes word.old) ≡ c ∷ rest) }
-    ensures { (c : ℕ) (rest : List ℕ) → chars (string_bytes word.old) ≡ c ∷ rest → chars (string_bytes word.new) ≡ letter ∷ rest }
+    requires first { (c : ℕ) × (rest : List ℕ) × (c < 128) × (text_of word.old ≡ c ∷ rest) }
+    ensures { SetsFirst letter (text_of word.old) (text_of word.new) }
 {
     let _ = word.remove(0);
     word.insert(0, letter).unwrap();
@@ -25,7 +27,7 @@ pub fn set_first(word: &mut String, letter: char)
 
 /// All steps, in order.
 pub fn all(word: &mut String)
-    ensures { Steps (chars (string_bytes word.old)) (chars (string_bytes word.new)) }
+    ensures { Steps (text_of word.old) (text_of word.new) }
 {
     step_1a(word);
     step_1b(word);
@@ -40,14 +42,14 @@ pub fn all(word: &mut String)
 // word to which it doesn't apply stays.
 
 fn step_1a(word: &mut String)
-    ensures { Step1a (chars (string_bytes word.old)) (chars (string_bytes word.new)) }
+    ensures { Step1a (text_of word.old) (text_of word.new) }
 {
     let _ = lose_es(word);
     let _ = lose_s(word);
 }
 
 fn lose_es(word: &mut String) -> bool
-    ensures { Tries result LosesEs (chars (string_bytes word.old)) (chars (string_bytes word.new)) }
+    ensures { Tries result LosesEs (text_of word.old) (text_of word.new) }
 {
     if ends_after_stem(word, "sses") || ends_after_stem(word, "ies") {
         drop_suffix(word, "es");
@@ -57,7 +59,7 @@ fn lose_es(word: &mut String) -> bool
 }
 
 fn lose_s(word: &mut String) -> bool
-    ensures { Tries result LosesS (chars (string_bytes word.old)) (chars (string_bytes word.new)) }
+    ensures { Tries result LosesS (text_of word.old) (text_of word.new) }
 {
     let Some((_, c)) = stem_and_letter_before(word, "s") else {
         return false;
@@ -70,13 +72,13 @@ fn lose_s(word: &mut String) -> bool
 }
 
 fn step_1b(word: &mut String)
-    ensures { Step1b (chars (string_bytes word.old)) (chars (string_bytes word.new)) }
+    ensures { Step1b (text_of word.old) (text_of word.new) }
 {
     let _ = treat_eed(word) || lose_ending(word, "ed") || lose_ending(word, "ing");
 }
 
 fn treat_eed(word: &mut String) -> bool
-    ensures { Tries result EndsInEed (chars (string_bytes word.old)) (chars (string_bytes word.new)) }
+    ensures { Tries result EndsInEed (text_of word.old) (text_of word.new) }
 {
     let Some(stem) = stem_before(word, "eed") else {
         return false;
@@ -91,7 +93,7 @@ fn treat_eed(word: &mut String) -> bool
 fn lose_ending(word: &mut String, suffix: &str) -> bool
     requires ascii { IsTrue (all_ascii suffix.now) }
     requires room { 0 < length suffix.now }
-    ensures { Tries result (LosesAndMends suffix.now) (chars (string_bytes word.old)) (chars (string_bytes word.new)) }
+    ensures { Tries result (LosesAndMends suffix.now) (text_of word.old) (text_of word.new) }
 {
     let Some(stem) = stem_before(word, suffix) else {
         return false;
@@ -106,15 +108,15 @@ fn lose_ending(word: &mut String, suffix: &str) -> bool
 
 fn mend(word: &mut String)
     requires { string_len word.old < string_capacity word.old }
-    ensures { Mended (chars (string_bytes word.old)) (chars (string_bytes word.new)) }
+    ensures { Mended (text_of word.old) (text_of word.new) }
 {
     let _ = get_e(word) || lose_double(word) || get_e_if_short(word);
 }
 
 fn get_e(word: &mut String) -> bool
     requires { string_len word.old < string_capacity word.old }
-    ensures applied { Tries result GetsE (chars (string_bytes word.old)) (chars (string_bytes word.new)) }
-    ensures kept { OnFalse result ((string_len word.new ≡ string_len word.old) × (string_capacity word.new ≡ string_capacity word.old)) }
+    ensures applied { Tries result GetsE (text_of word.old) (text_of word.new) }
+    ensures kept { OnFalse result (KeepsLengthAndRoom word.old word.new) }
 {
     if ends_with(word, "at") || ends_with(word, "bl") || ends_with(word, "iz") {
         push_e(word);
@@ -124,8 +126,8 @@ fn get_e(word: &mut String) -> bool
 }
 
 fn lose_double(word: &mut String) -> bool
-    ensures applied { Tries result LosesDouble (chars (string_bytes word.old)) (chars (string_bytes word.new)) }
-    ensures kept { OnFalse result ((string_len word.new ≡ string_len word.old) × (string_capacity word.new ≡ string_capacity word.old)) }
+    ensures applied { Tries result LosesDouble (text_of word.old) (text_of word.new) }
+    ensures kept { OnFalse result (KeepsLengthAndRoom word.old word.new) }
 {
     if is_double(word) {
         drop_last(word);
@@ -136,7 +138,7 @@ fn lose_double(word: &mut String) -> bool
 
 fn get_e_if_short(word: &mut String) -> bool
     requires { string_len word.old < string_capacity word.old }
-    ensures { Tries result ShortGetsE (chars (string_bytes word.old)) (chars (string_bytes word.new)) }
+    ensures { Tries result ShortGetsE (text_of word.old) (text_of word.new) }
 {
     if is_short(word) {
         push_e(word);
@@ -165,13 +167,13 @@ fn stays_double(c: char) -> bool
 }
 
 fn step_1c(word: &mut String)
-    ensures { Step1c (chars (string_bytes word.old)) (chars (string_bytes word.new)) }
+    ensures { Step1c (text_of word.old) (text_of word.new) }
 {
     let _ = turn_y_into_i(word);
 }
 
 fn turn_y_into_i(word: &mut String) -> bool
-    ensures { Tries result YBecomesI (chars (string_bytes word.old)) (chars (string_bytes word.new)) }
+    ensures { Tries result YBecomesI (text_of word.old) (text_of word.new) }
 {
     let Some((_, c)) = stem_and_letter_before(word, "y") else {
         return false;
@@ -184,13 +186,13 @@ fn turn_y_into_i(word: &mut String) -> bool
 }
 
 fn step_2(word: &mut String)
-    ensures { Step2 (chars (string_bytes word.old)) (chars (string_bytes word.new)) }
+    ensures { Step2 (text_of word.old) (text_of word.new) }
 {
     let _ = replace_ending(word, step_2_endings(last_of(word)));
 }
 
 fn step_3(word: &mut String)
-    ensures { Step3 (chars (string_bytes word.old)) (chars (string_bytes word.new)) }
+    ensures { Step3 (text_of word.old) (text_of word.new) }
 {
     let _ = replace_ending(word, step_3_endings(last_of(word)));
 }
@@ -199,7 +201,7 @@ fn replace_ending(word: &mut String, endings: &[Ending]) -> bool
     requires ascii_suffixes { IsTrue (list_all (λ e. all_ascii e.0) (listed endings.now)) }
     requires ascii_endings { IsTrue (list_all (λ e. all_ascii e.1) (listed endings.now)) }
     requires shorter { IsTrue (list_all (λ e. nat_le (length e.1) (length e.0)) (listed endings.now)) }
-    ensures { Tries result (Replaces (listed endings.now)) (chars (string_bytes word.old)) (chars (string_bytes word.new)) }
+    ensures { Tries result (Replaces (listed endings.now)) (text_of word.old) (text_of word.new) }
 {
     let Some(
         Cut {
@@ -219,14 +221,14 @@ fn replace_ending(word: &mut String, endings: &[Ending]) -> bool
 }
 
 fn step_4(word: &mut String)
-    ensures { Step4 (chars (string_bytes word.old)) (chars (string_bytes word.new)) }
+    ensures { Step4 (text_of word.old) (text_of word.new) }
 {
     let _ = drop_ending(word, step_4_endings(last_of(word))) || drop_ion(word);
 }
 
 fn drop_ending(word: &mut String, endings: &[Ending]) -> bool
     requires ascii_suffixes { IsTrue (list_all (λ e. all_ascii e.0) (listed endings.now)) }
-    ensures { Tries result (DropsEnding (listed endings.now)) (chars (string_bytes word.old)) (chars (string_bytes word.new)) }
+    ensures { Tries result (DropsEnding (listed endings.now)) (text_of word.old) (text_of word.new) }
 {
     let Some(Cut { stem, suffix, .. }) = shortest_cut(word, endings) else {
         return false;
@@ -238,7 +240,7 @@ fn drop_ending(word: &mut String, endings: &[Ending]) -> bool
 }
 
 fn drop_ion(word: &mut String) -> bool
-    ensures { Tries result DropsIon (chars (string_bytes word.old)) (chars (string_bytes word.new)) }
+    ensures { Tries result DropsIon (text_of word.old) (text_of word.new) }
 {
     if !ends_after_stem(word, "sion") && !ends_after_stem(word, "tion") {
         return false;
@@ -254,14 +256,14 @@ fn drop_ion(word: &mut String) -> bool
 }
 
 fn step_5(word: &mut String)
-    ensures { Step5 (chars (string_bytes word.old)) (chars (string_bytes word.new)) }
+    ensures { Step5 (text_of word.old) (text_of word.new) }
 {
     let _ = drop_e(word);
     let _ = drop_l(word);
 }
 
 fn drop_e(word: &mut String) -> bool
-    ensures { Tries result DropsE (chars (string_bytes word.old)) (chars (string_bytes word.new)) }
+    ensures { Tries result DropsE (text_of word.old) (text_of word.new) }
 {
     let Some(stem) = stem_before(word, "e") else {
         return false;
@@ -280,7 +282,7 @@ fn stands_without_e(stem: &str) -> bool
 }
 
 fn drop_l(word: &mut String) -> bool
-    ensures { Tries result DropsL (chars (string_bytes word.old)) (chars (string_bytes word.new)) }
+    ensures { Tries result DropsL (text_of word.old) (text_of word.new) }
 {
     if ends_with(word, "ll") && m_above_1(word) {
         drop_suffix(word, "l");

@@ -35,6 +35,14 @@ pub record HasBranch (old new branch : List Node) : Type 0 where
 abbrev pub GainsChild : Pairs → Pairs → ℕ → ℕ → Type 0
 GainsChild old new c n = (i : ℕ) × IsGapFor old c i × (new ≡ insert old i (c, n))
 
+-- the node k has the next new node as a child under the character c besides those that it had
+abbrev pub GainsNextChild : List Node → List Node → ℕ → ℕ → Type 0
+GainsNextChild old new k c = GainsChild (children_of (slice_get old k)) (children_of (slice_get new k)) c (length old)
+
+-- the old nodes but k have the children that they had
+abbrev pub KeepsOtherChildren : List Node → List Node → ℕ → Type 0
+KeepsOtherChildren old new k = (j : ℕ) → j < length old → j ≢ k → children_of (slice_get new j) ≡ children_of (slice_get old j)
+
 -- where the longest known beginning of a token leads, and what follows it
 pub record IsLocated (step : Step) (token : Text) (place : Place) (rest : Text) : Type 0 where
   pub known : Text

@@ -1,5 +1,7 @@
 pub mod Maps
 pub mod Table
+pub mod Compacted
+pub mod Copied
 pub mod Tree
 pub mod Contents
 pub mod Refused
@@ -7,9 +9,11 @@ pub mod Equal
 pub mod Pairs
 pub mod Frequencies
 pub mod Names
+pub mod NameNumbers
 pub mod Children
 pub mod Nodes
 pub mod Trie
+pub mod NodeTables
 pub mod Branch
 pub mod Finished
 pub mod Reading

@@ -1,9 +1,10 @@
 //! Tries of tokens, each with the frequency of each reference that has it.
 ghost use Rattle.std.specs.FinMap.{get as get_postings, len};
-ghost use Rattle.std.specs.Prelude.{option_map, ◌≡◌, ◌↔◌, [], None, IsTrue, IfOk, IfErr, IsOk, OnOk, OnErr, IsOkUnless, false, unwrap_or, is_some, ◌≢◌};
+ghost use Rattle.std.specs.Prelude.{◌≡◌, ◌↔◌, [], None, IsTrue, IfOk, IfErr, IsOk, OnOk, OnErr, IsOkUnless, false, unwrap_or, is_some, ◌≢◌};
 ghost use Rattle.std.specs.Str.{chars};
 ghost use Rattle.elasticlunr_text.specs.Text.{Text, Bytes};
-ghost use Rattle.elasticlunr_store.specs.Table.{Table, new_table, knows, posting, postings, IsTable, AddsToken, RemovesToken, same_tables, postings_of};
+ghost use Rattle.elasticlunr_store.specs.Table.{Table, new_table, knows, posting, postings, IsTable, AddsToken, RemovesToken, same_tables};
+ghost use Rattle.elasticlunr_store.specs.Copied.{copied_postings};
 ghost use Rattle.serde_json.specs.View.{view};
 ghost use Rattle.elasticlunr_store.specs.Refused.{IsRefused};
 ghost use Rattle.elasticlunr_text.specs.declared.error.IndexError.TheVariants.{Memory};
@@ -104,7 +105,8 @@ impl InvertedIndex {
         token: &str,
         term_freq: u64,
     ) -> Result<(), IndexError>
-        ensures ok { OnOk result (chars token.now ≢ [] → AddsToken self.old self.new (chars token.now) doc_ref.now term_freq) }
+        ensures ok { OnOk result (chars token.now ≢ []
+            → AddsToken self.old self.new (chars token.now) doc_ref.now term_freq) }
         ensures empty_token { chars token.now ≡ [] → IsOk result × (self.new ≡ self.old) }
         ensures memory { IsOkUnless result Memory }
         ensures err { OnErr result (self.new ≡ self.old) }
@@ -162,7 +164,7 @@ impl InvertedIndex {
     /// A copy of the postings of a token, `None` where it is unknown. The work is in proportion to
     /// the token and its postings.
     pub fn get_docs(&self, token: &str) -> Result<Option<BTreeMap<String, u64>>, IndexError>
-        ensures ok { IfOk result (λ o. option_map (λ m. postings_of m.entries) o ≡ get_postings self.now (chars token.now)) }
+        ensures ok { IfOk result (λ docs. copied_postings docs ≡ get_postings self.now (chars token.now)) }
         ensures memory { IsOkUnless result Memory }
     {
         let alloc = *self.nodes.allocator();

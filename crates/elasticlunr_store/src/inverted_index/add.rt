@@ -1,12 +1,13 @@
 //! Adding a posting. Where memory is wanting, what was done before is not seen: a name without postings, and a node in a list that has no posting.
-ghost use Rattle.std.specs.Prelude.{◌≡◌, ◌≢◌, ◌<◌, ◌++◌, ◌∷◌, [], true, None, Some, length, OnOk, OnErr};
+ghost use Rattle.std.specs.Prelude.{◌≡◌, ◌≢◌, ◌<◌, ◌∷◌, [], true, None, Some, length, OnOk, OnErr};
 ghost use Rattle.std.specs.Str.{chars, all_scalars};
 ghost use Rattle.elasticlunr_text.specs.Text.{Text};
 ghost use Rattle.elasticlunr_store.specs.Table.{AddsToken};
 ghost use Rattle.elasticlunr_store.specs.Pairs.{value_of};
 ghost use Rattle.elasticlunr_store.specs.Names.{AreNames};
 ghost use Rattle.elasticlunr_store.specs.Nodes.{AreListed, SetsNumber, SameNodes, SamePostings, SetsPosting};
-ghost use Rattle.elasticlunr_store.specs.Trie.{children_at, step_of, walk, table_of, IsIndex};
+ghost use Rattle.elasticlunr_store.specs.Trie.{children_at, step_of, walk, IsIndex};
+ghost use Rattle.elasticlunr_store.specs.NodeTables.{node_table, AddsBelow};
 
 use super::branch::{attach, locate, new_branch};
 use super::lists::{list_new, list_node};
@@ -69,8 +70,9 @@ fn grow(
     requires free { value_of (children_at root.old.items nodes.old.items place) c ≡ None }
     requires letters { all_scalars (c ∷ chars rest.now) ≡ true }
     ensures index { IsIndex root.new.items nodes.new.items names.new references.new.items }
-    ensures ok { OnOk result ((front : Text) → walk (step_of root.old.items nodes.old.items) Place.Root front ≡ Some place → AddsToken (table_of root.old.items nodes.old.items names.old) (table_of root.new.items nodes.new.items names.new) (front ++ c ∷ chars rest.now) doc_ref.now term_freq) }
-    ensures err { OnErr result (table_of root.new.items nodes.new.items names.new ≡ table_of root.old.items nodes.old.items names.old) }
+    ensures ok { OnOk result (AddsBelow place root.old nodes.old (node_table root.old nodes.old names.old)
+        (node_table root.new nodes.new names.new) (c ∷ chars rest.now) doc_ref.now term_freq) }
+    ensures err { OnErr result (node_table root.new nodes.new names.new ≡ node_table root.old nodes.old names.old) }
 {
     let number = names.enter(doc_ref)?;
     let first = nodes.len();
@@ -94,8 +96,9 @@ pub(super) fn add_posting(
     requires index { IsIndex root.old.items nodes.old.items names.old references.old.items }
     requires not_empty { chars token.now ≢ [] }
     ensures index { IsIndex root.new.items nodes.new.items names.new references.new.items }
-    ensures ok { OnOk result (AddsToken (table_of root.old.items nodes.old.items names.old) (table_of root.new.items nodes.new.items names.new) (chars token.now) doc_ref.now term_freq) }
-    ensures err { OnErr result (table_of root.new.items nodes.new.items names.new ≡ table_of root.old.items nodes.old.items names.old) }
+    ensures ok { OnOk result (AddsToken (node_table root.old nodes.old names.old)
+        (node_table root.new nodes.new names.new) (chars token.now) doc_ref.now term_freq) }
+    ensures err { OnErr result (node_table root.new nodes.new names.new ≡ node_table root.old nodes.old names.old) }
 {
     let (place, rest) = locate(root, nodes, token);
     let mut letters = rest.chars();

@@ -1,13 +1,14 @@
 //! A branch of new nodes below a place.
-ghost use Rattle.std.specs.Prelude.{◌≡◌, ℕ, ◌<◌, ◌+◌, ◌^◌, length, None, IfOk, OnOk, OnErr, ◌≢◌, ◌++◌, slice_get};
+ghost use Rattle.std.specs.Prelude.{◌≡◌, ◌<◌, ◌+◌, ◌^◌, length, None, IfOk, OnOk, OnErr, ◌++◌, slice_get};
 ghost use Rattle.std.specs.Str.{chars, IsUtf8};
 ghost use Rattle.elasticlunr_store.specs.Pairs.{value_of, IsStrictlySorted};
 ghost use Rattle.elasticlunr_store.specs.Nodes.{children_of, SameNodes};
 ghost use Rattle.elasticlunr_store.specs.Trie.{children_at, step_of, IsTrie};
-ghost use Rattle.elasticlunr_store.specs.Branch.{IsBranch, HasBranch, GainsChild, IsLocated, SameTrie, Grows, IsPlace};
+ghost use Rattle.elasticlunr_store.specs.Branch.{IsBranch, HasBranch, GainsChild, GainsNextChild, KeepsOtherChildren, IsLocated, SameTrie, Grows, IsPlace};
 
 use super::nodes::{Node, Place, child, children_at, gap};
 use super::postings::Postings;
+use smallvec::SmallVec;
 use std::alloc::{AllocError, Global};
 
 // Where the longest known beginning of a token leads, and what follows it.
@@ -44,17 +45,15 @@ pub(super) fn new_branch(
 {
     let mut branch = Vec::with_capacity(alloc, text.len() + 1)?;
     for c in text.chars() {
-        let mut children = Vec::with_capacity(alloc, 1)?;
-        children.push((c, number + branch.len()))?;
         branch.push(Node {
-            children,
+            children: SmallVec::from_buf(alloc, [(c, number + branch.len())]),
             postings: Postings::new(alloc),
         })?;
     }
     let mut postings = Postings::new(alloc);
     postings.set(reference, term_freq)?;
     branch.push(Node {
-        children: Vec::new(alloc),
+        children: SmallVec::new(alloc),
         postings,
     })?;
     Ok(branch)
@@ -92,8 +91,8 @@ fn attach_to_node(
     requires sorted { IsStrictlySorted (children_of (slice_get nodes.old.items k)) }
     requires free { value_of (children_of (slice_get nodes.old.items k)) c ≡ None }
     ensures err { OnErr result (SameNodes nodes.old.items nodes.new.items) }
-    ensures gains { OnOk result (GainsChild (children_of (slice_get nodes.old.items k)) (children_of (slice_get nodes.new.items k)) c (length nodes.old.items)) }
-    ensures others { OnOk result ((j : ℕ) → j < length nodes.old.items → j ≢ k → children_of (slice_get nodes.new.items j) ≡ children_of (slice_get nodes.old.items j)) }
+    ensures gains { OnOk result (GainsNextChild nodes.old.items nodes.new.items k c) }
+    ensures others { OnOk result (KeepsOtherChildren nodes.old.items nodes.new.items k) }
     ensures nodes { OnOk result (HasBranch nodes.old.items nodes.new.items branch.old.items) }
 {
     nodes[k].children.reserve(1)?;
@@ -115,7 +114,8 @@ pub(super) fn attach(
     requires in_range { IsPlace nodes.old.items place }
     requires sorted { IsStrictlySorted (children_at root.old.items nodes.old.items place) }
     requires free { value_of (children_at root.old.items nodes.old.items place) c ≡ None }
-    ensures ok { OnOk result (Grows root.old.items nodes.old.items root.new.items nodes.new.items place c branch.old.items) }
+    ensures ok { OnOk result (Grows root.old.items nodes.old.items root.new.items nodes.new.items place c
+        branch.old.items) }
     ensures err { OnErr result (SameTrie root.old.items nodes.old.items root.new.items nodes.new.items) }
 {
     match place {

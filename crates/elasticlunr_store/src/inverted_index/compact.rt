@@ -1,21 +1,22 @@
 //! A trie without the paths that lead to no posting.
-ghost use Rattle.std.specs.Prelude.{◌≡◌, ◌↔◌, ◌⊎◌, ℕ, ◌<◌, [], length, Some, IsTrue, IsSome, IfOk, IsOkUnless};
-ghost use Rattle.std.specs.FinMap.{get};
-ghost use Rattle.elasticlunr_text.specs.Text.{Text, Bytes};
+ghost use Rattle.std.specs.Prelude.{◌≡◌, ◌↔◌, ◌⊎◌, ℕ, ◌<◌, [], length, Some, IsTrue, IfOk, IsOkUnless};
 ghost use Rattle.elasticlunr_text.specs.declared.error.IndexError.TheVariants.{Memory};
-ghost use Rattle.elasticlunr_store.specs.Table.{IsTable, IsPrefix, knows, posting};
+ghost use Rattle.elasticlunr_store.specs.Table.{IsTable};
+ghost use Rattle.elasticlunr_store.specs.Compacted.{KeepsPostings, KnowsWhatLeads};
+ghost use Rattle.elasticlunr_store.specs.NodeTables.{node_table};
 ghost use Rattle.elasticlunr_store.specs.Pairs.{IsStrictlySorted};
 ghost use Rattle.elasticlunr_store.specs.Names.{AreNames};
 ghost use Rattle.elasticlunr_store.specs.Children.{child};
 ghost use Rattle.elasticlunr_store.specs.Nodes.{AreAllNumbered, AreListed};
 ghost use Rattle.elasticlunr_store.specs.Trie.{IsTrie, IsIndex, HaveOneParent, step_of, table_of};
-ghost use Rattle.elasticlunr_store.specs.Compact.{Bears, is_marked, AreNumbers, kept_children, KeepsBelow};
+ghost use Rattle.elasticlunr_store.specs.Compact.{AreNumbers, kept_children, HasFrequency, HasMarked, KeepsMarked, MarksBearing};
 
 use super::InvertedIndex;
 use super::names::Names;
-use super::nodes::{Node, Reference};
+use super::nodes::{Children, Node, Reference};
 use super::numbered::renumber;
 use elasticlunr_text::IndexError;
+use smallvec::SmallVec;
 use std::alloc::{AllocError, Global};
 
 impl InvertedIndex {
@@ -24,9 +25,9 @@ impl InvertedIndex {
     ///
     /// Visits each node twice, with no recursion.
     pub fn compacted(&self) -> Result<Self, IndexError>
-        ensures known { IfOk result (λ T. (s : Text) → IsTrue (knows T s) ↔ ((s ≡ []) ⊎ ((t : Text) × (r : Bytes) × IsPrefix s t × IsSome (posting self.now t r)))) }
-        ensures postings { IfOk result (λ T. (s : Text) (r : Bytes) → posting T s r ≡ posting self.now s r) }
-        ensures table { IfOk result (λ T. IsTable T) }
+        ensures known { IfOk result (λ new. KnowsWhatLeads self.now new) }
+        ensures postings { IfOk result (λ new. KeepsPostings self.now new) }
+        ensures table { IfOk result (λ new. IsTable new) }
         ensures memory { IsOkUnless result Memory }
     {
         let alloc = *self.nodes.allocator();
@@ -57,12 +58,15 @@ fn compact(
     requires names { AreNames names.now }
     requires numbered { AreAllNumbered names.now nodes.now }
     ensures index { IfOk result (λ t. IsIndex t.0.items t.1.items t.2 t.3.items) }
-    ensures known { IfOk result (λ t. (s : Text) → IsTrue (knows (table_of t.0.items t.1.items t.2) s) ↔ ((s ≡ []) ⊎ ((u : Text) × (r : Bytes) × IsPrefix s u × IsSome (posting (table_of root.now nodes.now names.now) u r)))) }
-    ensures postings { IfOk result (λ t. (s : Text) (r : Bytes) → posting (table_of t.0.items t.1.items t.2) s r ≡ posting (table_of root.now nodes.now names.now) s r) }
+    ensures known { IfOk result (λ t. KnowsWhatLeads (table_of root.now nodes.now names.now)
+        (node_table t.0 t.1 t.2)) }
+    ensures postings { IfOk result (λ t. KeepsPostings (table_of root.now nodes.now names.now)
+        (node_table t.0 t.1 t.2)) }
 {
     let marks = bearing(alloc, nodes)?;
     let numbers = new_numbers(alloc, &marks)?;
-    let kept_root = keep_children(alloc, root, &marks, &numbers)?;
+    let children = keep_children(alloc, root, &marks, &numbers)?;
+    let kept_root = children.into_vec()?;
     let mut kept_names = Names::new(alloc);
     let mut references = Vec::new(alloc);
     let kept = keep_nodes(
@@ -81,7 +85,7 @@ fn compact(
 fn bearing(alloc: Global, nodes: &[Node]) -> Result<Vec<bool>, AllocError>
     requires { IsTrie [] nodes.now }
     ensures count { IfOk result (λ marks. length marks.items ≡ length nodes.now) }
-    ensures each { IfOk result (λ marks. (k : ℕ) → k < length nodes.now → IsTrue (is_marked marks.items k) ↔ Bears nodes.now k) }
+    ensures each { IfOk result (λ marks. MarksBearing nodes.now marks.items) }
 {
     let mut marks = Vec::new(alloc);
     for _ in nodes {
@@ -96,7 +100,7 @@ fn mark(nodes: &[Node], marks: &mut [bool])
     requires trie { IsTrie [] nodes.now }
     requires one_each { length marks.old ≡ length nodes.now }
     ensures count { length marks.new ≡ length nodes.now }
-    ensures each { (k : ℕ) → k < length nodes.now → IsTrue (is_marked marks.new k) ↔ Bears nodes.now k }
+    ensures each { MarksBearing nodes.now marks.new }
 {
     let mut i = nodes.len();
     while i > 0 {
@@ -110,7 +114,7 @@ fn mark(nodes: &[Node], marks: &mut [bool])
 fn bears_posting(node: &Node, marks: &[bool]) -> bool
     requires sorted { IsStrictlySorted node.now.children.items }
     requires in_range { (c : ℕ) (k : ℕ) → child node.now.children.items c ≡ Some k → k < length marks.now }
-    ensures { IsTrue result ↔ (((n : ℕ) × (f : ℕ) × (get node.now.postings n ≡ Some f)) ⊎ ((c : ℕ) × (k : ℕ) × (child node.now.children.items c ≡ Some k) × IsTrue (is_marked marks.now k))) }
+    ensures { IsTrue result ↔ (HasFrequency node.now.postings ⊎ HasMarked marks.now node.now.children.items) }
 {
     if !node.postings.pairs().is_empty() {
         return true;
@@ -122,7 +126,7 @@ fn bears_posting(node: &Node, marks: &[bool]) -> bool
 fn has_marked(children: &[(char, usize)], marks: &[bool]) -> bool
     requires sorted { IsStrictlySorted children.now }
     requires in_range { (c : ℕ) (k : ℕ) → child children.now c ≡ Some k → k < length marks.now }
-    ensures { IsTrue result ↔ ((c : ℕ) × (k : ℕ) × (child children.now c ≡ Some k) × IsTrue (is_marked marks.now k)) }
+    ensures { IsTrue result ↔ HasMarked marks.now children.now }
 {
     for &(_, k) in children {
         if marks[k] {
@@ -153,13 +157,13 @@ fn keep_children(
     children: &[(char, usize)],
     marks: &[bool],
     numbers: &[usize],
-) -> Result<Vec<(char, usize)>, AllocError>
+) -> Result<Children, AllocError>
     requires sorted { IsStrictlySorted children.now }
     requires in_range { (c : ℕ) (k : ℕ) → child children.now c ≡ Some k → k < length marks.now }
     requires numbers { AreNumbers marks.now numbers.now }
     ensures { IfOk result (λ kept. kept.items ≡ kept_children marks.now children.now) }
 {
-    let mut kept = Vec::new(alloc);
+    let mut kept = SmallVec::new(alloc);
     for &(c, k) in children {
         if !marks[k] {
             continue;
@@ -187,7 +191,7 @@ fn keep_nodes(
     requires no_names { kept_names.old ≡ [] }
     ensures names { IfOk result (λ _. AreNames kept_names.new) }
     ensures listed { IfOk result (λ kept. AreListed kept_names.new references.new.items kept.items) }
-    ensures kept { IfOk result (λ kept. KeepsBelow marks.now names.now nodes.now kept_names.new kept.items (length nodes.now)) }
+    ensures kept { IfOk result (λ kept. KeepsMarked marks.now names.now nodes.now kept_names.new kept.items) }
 {
     let mut kept = Vec::new(alloc);
     for i in 0..nodes.len() {

@@ -1,11 +1,12 @@
 //! The postings of a token under the names of their references.
-ghost use Rattle.std.specs.Prelude.{◌≡◌, ◌<◌, ℕ, length, slice_index, map, option_map, IfOk};
+ghost use Rattle.std.specs.Prelude.{◌≡◌, ◌<◌, ℕ, length, slice_index, map, IfOk};
 ghost use Rattle.std.specs.Str.{chars};
 ghost use Rattle.std.specs.FinMap.{entries};
 ghost use Rattle.elasticlunr_store.specs.Pairs.{key_at};
 ghost use Rattle.elasticlunr_store.specs.Names.{AreNames, ArePostings, AreRanks, AreThere, named_pairs, under_names};
 ghost use Rattle.elasticlunr_store.specs.Nodes.{AreAllNumbered};
 ghost use Rattle.elasticlunr_store.specs.Trie.{look, IsTrie};
+ghost use Rattle.elasticlunr_store.specs.Copied.{copied_postings};
 ghost use Rattle.elasticlunr_store.specs.Table.{postings_of};
 
 use super::names::Names;
@@ -41,7 +42,7 @@ pub(super) fn copy_docs(
     requires trie { IsTrie root.now nodes.now }
     requires names { AreNames names.now }
     requires numbered { AreAllNumbered names.now nodes.now }
-    ensures { IfOk result (λ o. option_map (λ m. postings_of m.entries) o
+    ensures { IfOk result (λ docs. copied_postings docs
         ≡ look root.now nodes.now names.now (chars token.now)) }
 {
     match find(root, nodes, token) {

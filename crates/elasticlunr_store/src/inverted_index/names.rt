@@ -1,8 +1,6 @@
 //! The names of a trie's references, each with its number.
-ghost use Rattle.std.specs.Prelude.{◌≡◌, ◌++◌, ◌∷◌, [], length, slice_get, Some, None, OnOk, OnErr, IfOk, IfSome, bytes_eq, ◌<◌};
-ghost use Rattle.std.specs.Map.{update};
-ghost use Rattle.std.specs.BTreeMap.{get_by_text};
-ghost use Rattle.elasticlunr_text.specs.Text.{Bytes};
+ghost use Rattle.std.specs.Prelude.{◌≡◌, ◌++◌, ◌∷◌, [], length, slice_get, Some, OnOk, OnErr, IfOk, IfSome, ◌<◌};
+ghost use Rattle.elasticlunr_store.specs.NameNumbers.{GainsNumber};
 ghost use Rattle.elasticlunr_store.specs.Names.{names_of, number_of, entered, AreNames, AreRanks, HasNumbersBelow, HasDistinctNumbers, HasRanks};
 
 use std::alloc::{AllocError, Global};
@@ -18,10 +16,8 @@ pub(super) struct Names {
 }
 
 impl Model for Names {
-    ghost use Rattle.std.specs.Prelude.{◌≡◌};
     ghost use Rattle.std.specs.Coded.{coded_ℕ, coded_list};
-    ghost use Rattle.std.specs.BTreeMap.{get_by_text};
-    ghost use Rattle.elasticlunr_text.specs.Text.{Bytes};
+    ghost use Rattle.elasticlunr_store.specs.NameNumbers.{HasNumbersOf};
     ghost use Rattle.elasticlunr_store.specs.Names as names;
 
     ghost Value = { names.Names };
@@ -30,7 +26,7 @@ impl Model for Names {
 
     ghost view = { λ a. names.names_of a.in_order.items };
 
-    ghost invariant = { λ a. ((r : Bytes) → get_by_text a.numbers r ≡ names.number_of (names.names_of a.in_order.items) r)
+    ghost invariant = { λ a. HasNumbersOf (names.names_of a.in_order.items) a.numbers
         × names.AreDistinct (names.names_of a.in_order.items) };
 }
 
@@ -109,7 +105,8 @@ fn add_name(
 ) -> Result<usize, AllocError>
     ensures number { IfOk result (λ n. n ≡ length (names_of in_order.old.items)) }
     ensures name { OnOk result (names_of in_order.new.items ≡ names_of in_order.old.items ++ name.now ∷ []) }
-    ensures numbers { OnOk result ((r : Bytes) → get_by_text numbers.new r ≡ update bytes_eq (λ q. get_by_text numbers.old q) name.now (Some (length (names_of in_order.old.items))) r) }
+    ensures numbers { OnOk result (GainsNumber numbers.old numbers.new name.now
+        (length (names_of in_order.old.items))) }
     ensures same_names { OnErr result (in_order.new.items ≡ in_order.old.items) }
     ensures same_numbers { OnErr result (numbers.new.entries ≡ numbers.old.entries) }
 {

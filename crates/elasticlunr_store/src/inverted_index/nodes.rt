@@ -4,17 +4,20 @@ ghost use Rattle.std.specs.Str.{chars};
 ghost use Rattle.elasticlunr_store.specs.Pairs.{value_of, IsStrictlySorted, IsAt, IsGapFor};
 ghost use Rattle.elasticlunr_store.specs.Names.{at, Names, AreNumbered};
 ghost use Rattle.elasticlunr_store.specs.Nodes.{children_of, postings_at, AreAllNumbered};
-ghost use Rattle.elasticlunr_store.specs.Trie.{children_at, named, step_of, table_of, walk, IsTrie};
-ghost use Rattle.elasticlunr_store.specs.Table.{posting, postings};
-ghost use Rattle.std.specs.FinMap.{empty};
-ghost use Rattle.std.specs.Option.{option_map_or};
+ghost use Rattle.elasticlunr_store.specs.Trie.{children_at, step_of, table_of, walk, IsTrie};
+ghost use Rattle.elasticlunr_store.specs.Table.{posting};
+ghost use Rattle.elasticlunr_store.specs.NodeTables.{found_frequencies, ArePostingsAt};
 
 use super::names::Names;
 use super::postings::Postings;
+use smallvec::SmallVec;
+
+// Each child under its character. One alone stands in place: most nodes have one.
+pub(super) type Children = SmallVec<(char, usize), 1>;
 
 #[derive(Debug, Drop)]
 pub(super) struct Node {
-    pub children: Vec<(char, usize)>,
+    pub children: Children,
     pub postings: Postings,
 }
 
@@ -139,7 +142,7 @@ pub(super) fn find_postings<'a>(
     token: &str,
 ) -> Option<&'a Postings>
     requires { IsTrie root.now nodes.now }
-    ensures postings { (names : Names) → postings (table_of root.now nodes.now names) (chars token.now) ≡ named names (option_map_or (λ p. p.now) result empty) }
+    ensures postings { ArePostingsAt root.now nodes.now (chars token.now) (found_frequencies result) }
     ensures numbered { (names : Names) → AreAllNumbered names nodes.now → IfSome result (λ p. AreNumbered names p.now) }
 {
     match find(root, nodes, token) {

@@ -1,9 +1,9 @@
 //! Postings under names, put under numbers.
-ghost use Rattle.std.specs.Prelude.{◌≡◌, ◌≢◌, IsTrue, Some, OnOk, IfOk, IfSome, slice_get};
+ghost use Rattle.std.specs.Prelude.{◌≡◌, IsTrue, Some, OnOk, IfOk, IfSome, slice_get};
 ghost use Rattle.std.specs.FinMap.{empty};
-ghost use Rattle.elasticlunr_text.specs.Text.{Bytes};
 ghost use Rattle.elasticlunr_store.specs.Table.{postings_of};
 ghost use Rattle.elasticlunr_store.specs.Names.{AreNames, ArePostings, Extends, at, entered, named_pairs};
+ghost use Rattle.elasticlunr_store.specs.NameNumbers.{KeepsOtherFrequencies};
 ghost use Rattle.elasticlunr_store.specs.Nodes.{KeepsLists, IsListed};
 ghost use Rattle.elasticlunr_store.specs.Trie.{named};
 
@@ -29,7 +29,7 @@ fn put_posting(
     ensures keeps { OnOk result (KeepsLists references.old.items references.new.items) }
     ensures names { OnOk result (names.new ≡ entered names.old doc_ref.now) }
     ensures set { OnOk result (at names.new doc_ref.now postings.new ≡ Some frequency) }
-    ensures others { OnOk result ((q : Bytes) → q ≢ doc_ref.now → at names.new q postings.new ≡ at names.old q postings.old) }
+    ensures others { OnOk result (KeepsOtherFrequencies names.old postings.old names.new postings.new doc_ref.now) }
 {
     let number = names.enter(doc_ref)?;
     list_new(alloc, references, number, k)?;

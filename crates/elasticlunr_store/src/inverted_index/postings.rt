@@ -4,14 +4,18 @@ ghost use Rattle.std.specs.Prelude.{◌≡◌, ◌≤◌, length, insert, OnOk, 
 ghost use Rattle.elasticlunr_store.specs.Pairs.{value_of, IsStrictlySorted, IsAt, IsGapFor};
 ghost use Rattle.elasticlunr_store.specs.Frequencies.{frequencies_of};
 
+use smallvec::SmallVec;
 use std::alloc::{AllocError, Global};
 use std::marker::Model;
+
+// A number and a frequency. One pair alone stands in place: most postings are of one reference.
+type Pairs = SmallVec<(usize, u64), 1>;
 
 /// A finite map from numbers of references to frequencies, as pairs in the order of the numbers. A
 /// new greatest number goes to the end without a search.
 #[derive(Debug, Drop)]
 pub(super) struct Postings {
-    pairs: Vec<(usize, u64)>,
+    pairs: Pairs,
 }
 
 impl Model for Postings {
@@ -35,7 +39,7 @@ impl Postings {
         ensures { result ≡ map.empty }
     {
         Postings {
-            pairs: Vec::new(alloc),
+            pairs: SmallVec::new(alloc),
         }
     }
 
@@ -43,7 +47,7 @@ impl Postings {
     pub fn with_room(alloc: Global, count: usize) -> Result<Self, AllocError>
         ensures { IfOk result (λ p. p ≡ map.empty) }
     {
-        let pairs = Vec::with_capacity(alloc, count)?;
+        let pairs = SmallVec::with_capacity(alloc, count)?;
         Ok(Postings { pairs })
     }
 
@@ -68,7 +72,7 @@ impl Postings {
         value_of(&self.pairs, number)
     }
 
-    /// Sets the posting of a reference. The first one takes room for one.
+    /// Sets the posting of a reference. One alone requests no memory.
     pub fn set(&mut self, number: usize, frequency: u64) -> Result<(), AllocError>
         ensures ok { OnOk result (self.new ≡ map.insert self.old number frequency) }
         ensures err { OnErr result (self.new ≡ self.old) }
@@ -108,28 +112,22 @@ fn value_of(pairs: &[(usize, u64)], number: usize) -> Option<u64>
     }
 }
 
-// Puts a pair in its place. The first one takes room for one.
-fn insert_pair(
-    pairs: &mut Vec<(usize, u64)>,
-    at: usize,
-    pair: (usize, u64),
-) -> Result<(), AllocError>
+// Puts a pair in its place.
+fn insert_pair(pairs: &mut Pairs, at: usize, pair: (usize, u64)) -> Result<(), AllocError>
     requires { at ≤ length pairs.old.items }
     ensures ok { OnOk result (pairs.new.items ≡ insert pairs.old.items at pair) }
     ensures err { OnErr result (pairs.new.items ≡ pairs.old.items) }
 {
-    if pairs.is_empty() {
-        pairs.reserve_exact(1)?;
-    }
     pairs.insert(at, pair)?;
     Ok(())
 }
 
 // Sets the pair of a number.
-fn set_pair(pairs: &mut Vec<(usize, u64)>, number: usize, frequency: u64) -> Result<(), AllocError>
+fn set_pair(pairs: &mut Pairs, number: usize, frequency: u64) -> Result<(), AllocError>
     requires { IsStrictlySorted pairs.old.items }
     ensures sorted { IsStrictlySorted pairs.new.items }
-    ensures ok { OnOk result (frequencies_of pairs.new.items ≡ map.insert (frequencies_of pairs.old.items) number frequency) }
+    ensures ok { OnOk result (frequencies_of pairs.new.items
+        ≡ map.insert (frequencies_of pairs.old.items) number frequency) }
     ensures err { OnErr result (pairs.new.items ≡ pairs.old.items) }
 {
     match place_of(pairs, number) {
@@ -145,7 +143,7 @@ fn set_pair(pairs: &mut Vec<(usize, u64)>, number: usize, frequency: u64) -> Res
 }
 
 // Takes the pair of a number away.
-fn remove_pair(pairs: &mut Vec<(usize, u64)>, number: usize)
+fn remove_pair(pairs: &mut Pairs, number: usize)
     requires { IsStrictlySorted pairs.old.items }
     ensures sorted { IsStrictlySorted pairs.new.items }
     ensures removed { frequencies_of pairs.new.items ≡ map.remove (frequencies_of pairs.old.items) number }

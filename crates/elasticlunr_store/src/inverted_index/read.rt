@@ -13,10 +13,11 @@ ghost use Rattle.std.specs.Str.{all_scalars};
 ghost use Rattle.elasticlunr_store.specs.Trie.{IsIndex, table_of};
 
 use super::names::Names;
-use super::nodes::{Node, Reference};
+use super::nodes::{Children, Node, Reference};
 use super::numbered::number_docs;
 use elasticlunr_text::IndexError;
 use serde_json::{Map, Value};
+use smallvec::SmallVec;
 use std::alloc::Global;
 use std::collections::BTreeMap;
 
@@ -85,13 +86,13 @@ fn read_children<'a>(
     alloc: Global,
     members: &'a Map<String, Value>,
     waiting: &mut Vec<&'a Value>,
-) -> Result<Vec<(char, usize)>, IndexError>
+) -> Result<Children, IndexError>
     ensures ok { IfOk result (λ kids. ReadsChildren kids.items
         (borrowed_values waiting.old.items) (borrowed_values waiting.new.items) (members_view members.now.entries)) }
     ensures order { IfOk result (λ _. HasKeysInOrder (members_view members.now.entries)) }
     ensures foreign { IfErr result (IsRefused (HasForeignKey (members_view members.now.entries))) }
 {
-    let mut children = Vec::new(alloc);
+    let mut children = SmallVec::new(alloc);
     for (key, value) in members.iter() {
         if is_own_key(key.as_str()) {
             continue;
@@ -120,7 +121,7 @@ fn read_node<'a>(
     alloc: Global,
     value: &'a Value,
     waiting: &mut Vec<&'a Value>,
-) -> Result<(Vec<(char, usize)>, BTreeMap<String, u64>), IndexError>
+) -> Result<(Children, BTreeMap<String, u64>), IndexError>
     ensures ok { IfOk result (λ n. ReadsNode n.0.items n.1.entries
         (borrowed_values waiting.old.items) (borrowed_values waiting.new.items) (view value.now)) }
     ensures foreign { IfErr result (IsRefused ((T : Table) (p : Text) → IsTable T → ¬ (IsTree T p (view value.now)))) }
@@ -152,10 +153,11 @@ pub(super) fn read_nodes(
     ensures foreign { IfErr result (IsRefused ((T : Table) → IsTable T → ¬ (IsTree T [] (view value.now)))) }
 {
     let mut waiting = Vec::new(alloc);
-    let (root, docs) = read_node(alloc, value, &mut waiting)?;
+    let (first, docs) = read_node(alloc, value, &mut waiting)?;
     if !docs.is_empty() {
         return Err(IndexError::ForeignValue);
     }
+    let root = first.into_vec()?;
     let mut nodes = Vec::new(alloc);
     while nodes.len() < waiting.len() {
         let (children, docs) = read_node(alloc, waiting[nodes.len()], &mut waiting)?;

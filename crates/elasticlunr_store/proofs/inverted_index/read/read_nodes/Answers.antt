@@ -1,4 +1,4 @@
-use Rattle.std.proofs.Common.{◌≡◌, sym, subst, ◌∙◌, true≢false, length, arith}
+use Rattle.std.proofs.Common.{◌≡◌, [], sym, subst, ◌∙◌, true≢false, length, arith}
 use Rattle.std.proofs.lemmas.List.{nil_from_length}
 use Rattle.serde_json.specs.View.{view}
 use Rattle.elasticlunr_store.specs.Names.{AreNames}
@@ -12,17 +12,18 @@ use Rattle.elasticlunr_store.proofs.inverted_index.read.read_nodes.Goals as goal
 
 pub returns-then-not-is_empty-clause-foreign : goal.returns-then-not-is_empty-clause-foreign
 returns-then-not-is_empty-clause-foreign c T table tree =
-    root_refused _ _ _ _ _ c.in_ok-root.ensures.ok (λ none. true≢false (sym (c.is_empty.ensures.1 none) ∙ c.if-not-is_empty.true)) T table tree
+    root_refused _ _ _ _ _ c.in_ok-first.ensures.ok (λ none. true≢false (sym (c.is_empty.ensures.1 none) ∙ c.if-not-is_empty.true)) T table tree
 
 pub loop-alloc-init : goal.loop-alloc-init
 loop-alloc-init c =
-    let reads = subst (λ rs. ReadsNode c.in_ok-root.root.items c.in_ok-root.docs.entries (borrowed_values rs) (borrowed_values c.read_node.new.waiting.items) (view c.args.value.now)) c.new-waiting.ensures.items c.in_ok-root.ensures.ok in
-    let bare = nil_from_length c.in_ok-root.docs.entries (c.is_empty.ensures.0 c.if-not-is_empty.false) in
+    let reads = subst (λ rs. ReadsNode c.in_ok-first.first.items c.in_ok-first.docs.entries (borrowed_values rs) (borrowed_values c.read_node.new.waiting.items) (view c.args.value.now)) c.new-waiting.ensures.items c.in_ok-first.ensures.ok in
+    let bare = nil_from_length c.in_ok-first.docs.entries (c.is_empty.ensures.0 c.if-not-is_empty.false) in
     record {
       names_are = subst AreNames (sym c.requires) (record { distinct = λ n r e. absurd (cc); texts = λ n r e. absurd (cc) });
       listed = subst (λ ns. AreListed c.args.names.now c.args.references.now.items ns) (sym c.new-nodes.ensures.items) (none_all_listed c.args.names.now c.args.references.now.items);
       read = subst (λ ns. IsRead c.args.names.now c.in_ok-root.root.items ns (view c.args.value.now) (borrowed_values c.read_node.new.waiting.items)) (sym c.new-nodes.ensures.items)
-          (root_read c.args.names.now c.in_ok-root.root.items c.in_ok-root.docs.entries (borrowed_values c.read_node.new.waiting.items) (view c.args.value.now) reads bare);
+          (subst (λ es. IsRead c.args.names.now es [] (view c.args.value.now) (borrowed_values c.read_node.new.waiting.items)) (sym c.in_ok-root.ensures.ok)
+          (root_read c.args.names.now c.in_ok-first.first.items c.in_ok-first.docs.entries (borrowed_values c.read_node.new.waiting.items) (view c.args.value.now) reads bare));
     }
 
 pub returns-in_err-children-clause-foreign : goal.returns-in_err-children-clause-foreign

@@ -1,5 +1,5 @@
 -- What is read by the language alone.
-use Rattle.std.proofs.Common.{◌≡◌, ◌≢◌, ◌<◌, ℕ, List, [], ◌∷◌, length, get_or, Option, None, Some, Result, IfOk, IsTrue, String, Vec, Global, string_bytes, refl, sym, subst, filter_map}
+use Rattle.std.proofs.Common.{◌≡◌, ◌≢◌, ◌<◌, ◌↔◌, ℕ, List, [], ◌∷◌, length, get_or, Option, None, Some, Result, IfOk, IsTrue, String, Vec, Global, string_bytes, refl, sym, subst, filter_map}
 use Rattle.std.proofs.lemmas.Option.{slice_get_read}
 use Rattle.std.specs.List.{slice_get, AllZip, AllByRecursion}
 use Rattle.std.specs.Str.{chars, all_scalars}
@@ -50,3 +50,20 @@ module _ {L P T : Type 0} (tokens_of : L → Text → List Text) (answers : T �
         each = subst (λ these. AllZip leaves_of these ran.0) made (leaves_as M leaves_of as_language read.made ran.0 read.are_texts ran.1);
         are = ran.2;
       }
+
+abbrev Ran : (Text → Option Text → Type 0) → List Text → List Text → Type 0
+Ran M made left = (lefts : List (Option Text)) × AllZip M made lefts × (left ≡ filter_map (λ l. l) lefts)
+
+-- stages that leave what a language's do: what they leave of what the language makes is what it reads, and it reads nothing else
+module _ (M R : Text → Option Text → Type 0) (makes : Text → List Text) (same : (token : Text) (left : Option Text) → IsTrue (all_scalars token) → M token left ↔ R token left) where
+  pub run_by_language : (i : ℕ) (text : Bytes) (made : List (String Global)) (left : List Text) → texts_of made ≡ makes (chars text) → Ran M (texts_of made) left → LanguageReads makes R i text left
+  run_by_language i text made left is ran = record {
+    lefts = ran.0;
+    each = subst (λ ts. AllZip R ts ran.0) is (leaves_as M R (λ token l t. (same token l t).0) (texts_of made) ran.0 (texts_are_texts made) ran.1);
+    are = ran.2;
+  }
+
+  pub only_run_by_language : ((tokens texts others : List Text) → Ran M tokens texts → Ran M tokens others → texts ≡ others)
+      → (i : ℕ) (text : Bytes) (made : List (String Global)) (left others : List Text) → texts_of made ≡ makes (chars text) → Ran M (texts_of made) left → LanguageReads makes R i text others → others ≡ left
+  only_run_by_language one i text made left others is ran reads = one (texts_of made) others left
+      (reads.lefts, leaves_as R M (λ token l t. (same token l t).1) (texts_of made) reads.lefts (texts_are_texts made) (subst (λ ts. AllZip R ts reads.lefts) (sym is) reads.each), reads.are) ran

@@ -1,7 +1,9 @@
 -- An index after calls, where its language reads the values.
-use Rattle.std.specs.Prelude.{◌≡◌, List, Option}
+use Rattle.std.specs.Prelude.{◌≡◌, ℕ, List, [], ◌∷◌, ◌++◌, Option}
+use Rattle.serde_json.specs.Data.{Data}
 use Rattle.elasticlunr_text.specs.Text.{Text, Bytes}
 use Rattle.elasticlunr.specs.Calls.{Call, AreCommandsOf}
+use Rattle.elasticlunr.specs.Current.{IsPrintedAfter}
 use Rattle.elasticlunr.specs.Documents as documents
 use Rattle.elasticlunr.specs.History.{Commands}
 use Rattle.elasticlunr.specs.Index.{plan_of, reads_of, StandsFor}
@@ -19,3 +21,17 @@ module _ {L P X Y : Type 0} {O : X → Type 0} {F : Y → Type 0} {p : _} {g : _
     pub commands : Commands
     pub were : AreCommandsOf (documents.IsDocument plan.fields plan.reference_field (LanguageReads (tokens_of language) (leaves_of language))) calls commands
     pub stands : StandsFor name_of name_text index commands
+
+  -- whatever calls the old index is after, the new one is after these and this one
+  abbrev pub IsAfterOneMore : (name_of : L → Bytes) (name_text : (v : X) × O v → Bytes) (tokens_of : L → Text → List Text) (leaves : (v : X) × O v → Text → Option Text) (leaves_of : L → Text → Option Text → Type 0)
+      → Call → (old new : Index L P X Y O F p g) → Type 0
+  IsAfterOneMore name_of name_text tokens_of leaves leaves_of call old new =
+      (language : L) (plan : Plan) (calls : List Call) → IsAfter name_of name_text tokens_of leaves leaves_of language plan calls old
+      → IsAfter name_of name_text tokens_of leaves leaves_of language plan (calls ++ call ∷ []) new
+
+  -- whatever calls the index is after, the text is printed after these
+  abbrev pub IsPrintOfCalls : (name_of : L → Bytes) (name_text : (v : X) × O v → Bytes) (tokens_of : L → Text → List Text) (leaves : (v : X) × O v → Text → Option Text) (leaves_of : L → Text → Option Text → Type 0)
+      → (text_of : Data → List ℕ) → Index L P X Y O F p g → (text : List ℕ) → Type 0
+  IsPrintOfCalls name_of name_text tokens_of leaves leaves_of text_of index text =
+      (language : L) (plan : Plan) (calls : List Call) → IsAfter name_of name_text tokens_of leaves leaves_of language plan calls index
+      → IsPrintedAfter (LanguageReads (tokens_of language) (leaves_of language)) text_of plan calls text

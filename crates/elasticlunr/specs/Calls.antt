@@ -18,6 +18,10 @@ HasOneReading reads = (i : ℕ) (value : Bytes) (tokens others : List Text) → 
 abbrev pub HasOneDocument : (makes : Bytes → List Bytes → Document → Type 0) → Type 0
 HasOneDocument makes = (reference : Bytes) (values : List Bytes) (document other : Document) → makes reference values document → makes reference values other → document ≡ other
 
+-- what the one makes of a reference and values, the other makes, too
+abbrev pub MakesOnly : (makes other : Bytes → List Bytes → Document → Type 0) → Type 0
+MakesOnly makes other = (reference : Bytes) (values : List Bytes) (document : Document) → makes reference values document → other reference values document
+
 -- the commands, and these after them, in order
 abbrev pub followed_by : Commands → List Command → Commands
 followed_by commands [] = commands
@@ -42,3 +46,7 @@ module _ (makes : Bytes → List Bytes → Document → Type 0) where
     pub list : List Command
     pub each : AllZip IsCommandOf calls list
     pub whole : commands ≡ followed_by none list
+
+-- what calls were where the one makes the documents, they were where the other does, too
+abbrev pub CommandsOnly : (makes other : Bytes → List Bytes → Document → Type 0) → Type 0
+CommandsOnly makes other = (calls : List Call) (commands : Commands) → AreCommandsOf makes calls commands → AreCommandsOf other calls commands

@@ -18,6 +18,10 @@ pub record Choices (L P T : Type 0) : Type 0 where
 abbrev pub fields_plan : (language : Bytes) (stages fields : List Bytes) → Plan
 fields_plan language stages fields = record { fields = fields; reference_field = codes "id"; save = true; language = language; stages = stages }
 
+-- the same of a language; `name_of` is what it is called, `stages_of` what its stages are
+abbrev pub new_plan : {L : Type 0} (name_of : L → Bytes) (stages_of : L → List Bytes) → L → (fields : List Bytes) → Plan
+new_plan name_of stages_of language fields = fields_plan (name_of language) (stages_of language) fields
+
 module _ {L P T : Type 0} where
   -- what a builder of a language begins with: no pipeline of its own, no fields, the reference field `id`, and documents are saved
   abbrev pub beginning : L → Choices L (Option P) T

@@ -1,5 +1,5 @@
 -- What calls leave current, and what is printed after them.
-use Rattle.std.specs.Prelude.{◌≡◌, ◌⊎◌, ℕ, List, [], ◌∷◌, ◌++◌, map, Option, None, Some, IsTrue, if◌then◌else◌}
+use Rattle.std.specs.Prelude.{◌≡◌, ◌↔◌, ◌⊎◌, ℕ, List, [], ◌∷◌, ◌++◌, map, Option, None, Some, IsTrue, Contains, if◌then◌else◌}
 use Rattle.std.specs.Str.{bytes_eq}
 use Rattle.elasticlunr_text.specs.Text.{Text, Bytes}
 use Rattle.serde_json.specs.Data.{Data}
@@ -20,6 +20,14 @@ values_after before (compacting ∷ calls) r = values_after before calls r
 -- the values of the reference's current document after the calls of a new index
 abbrev pub current : List Call → Bytes → Option (List Bytes)
 current calls r = values_after None calls r
+
+-- the current document of each reference has the same values after both
+abbrev pub LeaveSameCurrent : (calls others : List Call) → Type 0
+LeaveSameCurrent calls others = (r : Bytes) → current calls r ≡ current others r
+
+-- the same documents, each a reference and its values, stand in both lists
+abbrev pub HaveSameDocuments : (documents others : List (Bytes × List Bytes)) → Type 0
+HaveSameDocuments documents others = (document : Bytes × List Bytes) → Contains documents document ↔ Contains others document
 
 -- no two of the documents, each a reference and its values, have the same reference
 abbrev pub HaveOwnReferences : List (Bytes × List Bytes) → Type 0

@@ -6,8 +6,9 @@ use Rattle.std.specs.FinMap as map
 use Rattle.elasticlunr_text.specs.Text.{Text, Bytes}
 use Rattle.elasticlunr_store.specs.Table.{Table, knows, posting, IsPrefix}
 use Rattle.elasticlunr_store.specs.Contents.{Contents, IsConsistent, length_at}
-use Rattle.elasticlunr.specs.History.{Document}
-use Rattle.elasticlunr.specs.Standing.{IsPosting}
+use Rattle.elasticlunr.specs.Fields.{all_differ}
+use Rattle.elasticlunr.specs.History.{Document, Commands, ◌▸◌, add}
+use Rattle.elasticlunr.specs.Standing.{IsPosting, Plan, Holds}
 
 -- the document has this reference, these values and these tokens
 pub record IsMadeOf (document : Document) (reference : Bytes) (values : List Bytes) (tokens : List (Option (List Text))) : Type 0 where
@@ -59,3 +60,9 @@ pub record AddsTokens (reference : Bytes) (tokens : List (Option (List Text))) (
   pub with_tokens : (i : ℕ) (before after : Table) (these : Option (List Text)) → slice_get old_tables i ≡ Some before → slice_get new_tables i ≡ Some after → slice_get tokens i ≡ Some these
       → ((token : Text) → posting before token reference ≡ None) → ReplacesPostings before after reference these
   pub without_tokens : (i : ℕ) → length tokens ≤ i → slice_get new_tables i ≡ slice_get old_tables i
+
+-- whatever was held of an index of these fields, now that is held with the document after it that has this reference, these values and these tokens
+abbrev pub HoldsOneMore : (fields : List Bytes) (reference_field reference : Bytes) (values : List Bytes) (tokens : List (Option (List Text))) (old_tables : List Table) (old : Contents) (new_tables : List Table) (new : Contents) → Type 0
+HoldsOneMore fields reference_field reference values tokens old_tables old new_tables new =
+    (plan : Plan) (document : Document) (commands : Commands) → plan.fields ≡ fields → IsTrue (all_differ plan.fields) → plan.reference_field ≡ reference_field
+    → IsMadeOf document reference values tokens → Holds plan commands old_tables old → Holds plan (commands ▸ add document) new_tables new

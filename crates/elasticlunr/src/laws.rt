@@ -3,6 +3,7 @@ pub mod calls;
 pub mod current;
 pub mod found;
 pub mod order;
+pub mod reading;
 pub mod removal;
 pub mod values;
 pub mod word;

@@ -1,14 +1,14 @@
 //! Laws of the calls of an index: equal calls leave equal commands, and print equal texts.
 ghost use Rattle.std.specs.Prelude.{◌≡◌, ℕ, List};
 ghost use Rattle.elasticlunr_text.specs.Text.{Bytes};
-ghost use Rattle.elasticlunr_lang.specs.Known.{language_leaves};
-ghost use Rattle.elasticlunr_lang.specs.Words.{words};
 ghost use Rattle.elasticlunr_lang.specs.declared.any.AnyLanguage.{AnyLanguage};
-ghost use Rattle.elasticlunr.specs.Calls.{AreCommandsOf, Call, HasOneDocument, HasOneReading};
+ghost use Rattle.elasticlunr.specs.Calls.{AreCommandsOf, Call, CommandsOnly, HasOneDocument, HasOneReading, MakesOnly};
 ghost use Rattle.elasticlunr.specs.Documents.{IsDocument as IsDocumentOf};
-ghost use Rattle.elasticlunr.specs.History.{Commands, Document};
+ghost use Rattle.elasticlunr.specs.History.{Commands};
 ghost use Rattle.elasticlunr.specs.Index.{choices_of, IsDocument, plan_of, reads_of, SameSettings};
+ghost use Rattle.elasticlunr.specs.Kept.{IsKeptDocument, KeptReads};
 ghost use Rattle.elasticlunr.specs.Printed.{IsTextAfter};
+ghost use Rattle.elasticlunr.specs.ReadDocuments.{AreRead};
 ghost use Rattle.elasticlunr.specs.Reading.{LanguageReads, ReadsOnly};
 ghost use Rattle.elasticlunr.specs.Standing.{Plan};
 ghost use Rattle.serde_json.specs.Data.{Data};
@@ -29,9 +29,9 @@ pub fn an_index_makes_one_document<L: Language>(index: &Index<L>)
 
 /// So does a kept language.
 pub fn a_kept_language_makes_one_document()
-    ensures reading { (language : AnyLanguage) → HasOneReading (LanguageReads words (language_leaves language)) }
+    ensures reading { (language : AnyLanguage) → HasOneReading (KeptReads language) }
     ensures document { (language : AnyLanguage) (fields : List Bytes) (reference_field : Bytes)
-        → HasOneDocument (IsDocumentOf fields reference_field (LanguageReads words (language_leaves language))) }
+        → HasOneDocument (IsKeptDocument language fields reference_field) }
 {
     each_word_has_one_stem();
 }
@@ -41,30 +41,24 @@ pub fn a_kept_language_makes_one_document()
 pub fn an_index_makes_what_its_language_makes<L: Language>(index: &Index<L>)
     ensures documents { (lang : L)
         → ReadsOnly (reads_of L.tokens_of leaves index.now) (LanguageReads (L.tokens_of lang) (L.leaves_of lang))
-        → (reference : Bytes) (values : List Bytes) (document : Document)
-        → IsDocument L.tokens_of leaves index.now reference values document
-        → IsDocumentOf (choices_of index.now).fields (choices_of index.now).reference_field
-        (LanguageReads (L.tokens_of lang) (L.leaves_of lang)) reference values document }
+        → MakesOnly (IsDocument L.tokens_of leaves index.now) (IsDocumentOf (choices_of index.now).fields
+        (choices_of index.now).reference_field (LanguageReads (L.tokens_of lang) (L.leaves_of lang))) }
     ensures commands { (lang : L)
         → ReadsOnly (reads_of L.tokens_of leaves index.now) (LanguageReads (L.tokens_of lang) (L.leaves_of lang))
-        → (calls : List Call) (commands : Commands)
-        → AreCommandsOf (IsDocument L.tokens_of leaves index.now) calls commands
-        → AreCommandsOf (IsDocumentOf (choices_of index.now).fields (choices_of index.now).reference_field
-        (LanguageReads (L.tokens_of lang) (L.leaves_of lang))) calls commands }
+        → CommandsOnly (IsDocument L.tokens_of leaves index.now) (IsDocumentOf (choices_of index.now).fields
+        (choices_of index.now).reference_field (LanguageReads (L.tokens_of lang) (L.leaves_of lang))) }
 {}
 
 /// Two indexes with equal settings make equal documents. Equal calls of both are equal commands,
 /// and the texts that both print after them are equal.
 pub fn equal_settings_print_equal_texts<L: Language>(index: &Index<L>, other: &Index<L>)
     ensures documents { SameSettings index.now other.now
-        → (reference : Bytes) (values : List Bytes) (document : Document)
-        → IsDocument L.tokens_of leaves other.now reference values document
-        → IsDocument L.tokens_of leaves index.now reference values document }
-    ensures commands { SameSettings index.now other.now → (calls : List Call) (left : Commands) (right : Commands)
+        → MakesOnly (IsDocument L.tokens_of leaves other.now) (IsDocument L.tokens_of leaves index.now) }
+    ensures commands { SameSettings index.now other.now → (calls : List Call) (left right : Commands)
         → AreCommandsOf (IsDocument L.tokens_of leaves index.now) calls left
         → AreCommandsOf (IsDocument L.tokens_of leaves other.now) calls right → left ≡ right }
-    ensures texts { SameSettings index.now other.now → (calls : List Call) (left : Commands) (right : Commands)
-        (text_of : Data → List ℕ) (text : List ℕ) (another : List ℕ)
+    ensures texts { SameSettings index.now other.now → (calls : List Call) (left right : Commands)
+        (text_of : Data → List ℕ) (text another : List ℕ)
         → AreCommandsOf (IsDocument L.tokens_of leaves index.now) calls left
         → AreCommandsOf (IsDocument L.tokens_of leaves other.now) calls right
         → IsTextAfter text_of (plan_of L.name_of name_text index.now) left text
@@ -78,19 +72,23 @@ pub fn equal_settings_print_equal_texts<L: Language>(index: &Index<L>, other: &I
 /// of one plan print after them are equal.
 pub fn kept_languages_print_equal_texts()
     ensures commands { (language : AnyLanguage) (fields : List Bytes) (reference_field : Bytes)
-        (calls : List Call) (left : Commands) (right : Commands)
-        → AreCommandsOf (IsDocumentOf fields reference_field (LanguageReads words (language_leaves language)))
-        calls left
-        → AreCommandsOf (IsDocumentOf fields reference_field (LanguageReads words (language_leaves language)))
-        calls right → left ≡ right }
-    ensures texts { (language : AnyLanguage) (plan : Plan) (calls : List Call) (left : Commands) (right : Commands)
-        (text_of : Data → List ℕ) (text : List ℕ) (another : List ℕ)
-        → AreCommandsOf (IsDocumentOf plan.fields plan.reference_field
-        (LanguageReads words (language_leaves language))) calls left
-        → AreCommandsOf (IsDocumentOf plan.fields plan.reference_field
-        (LanguageReads words (language_leaves language))) calls right
+        (calls : List Call) (left right : Commands)
+        → AreCommandsOf (IsKeptDocument language fields reference_field) calls left
+        → AreCommandsOf (IsKeptDocument language fields reference_field) calls right → left ≡ right }
+    ensures texts { (language : AnyLanguage) (plan : Plan) (calls : List Call) (left right : Commands)
+        (text_of : Data → List ℕ) (text another : List ℕ)
+        → AreCommandsOf (IsKeptDocument language plan.fields plan.reference_field) calls left
+        → AreCommandsOf (IsKeptDocument language plan.fields plan.reference_field) calls right
         → IsTextAfter text_of plan left text → IsTextAfter text_of plan right another → text ≡ another }
 {
     a_kept_language_makes_one_document();
     settings_and_commands_have_one_value();
 }
+
+/// A language read the documents of calls that it makes the documents of.
+pub fn documents_of_calls_are_read<L: Language>()
+    ensures { (language : L) (fields : List Bytes) (reference_field : Bytes) (calls : List Call) (commands : Commands)
+        → AreCommandsOf (IsDocumentOf fields reference_field
+        (LanguageReads (L.tokens_of language) (L.leaves_of language))) calls commands
+        → AreRead (LanguageReads (L.tokens_of language) (L.leaves_of language)) fields reference_field commands }
+{}

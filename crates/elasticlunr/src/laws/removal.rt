@@ -16,14 +16,12 @@ pub fn each_index_can_be_made_anew()
 /// The contents of the store, and all postings, are those of a new index with the current
 /// documents.
 pub fn removed_documents_leave_no_posting()
-    ensures contents { (plan : Plan) (commands : Commands) (fresh : Commands)
-        (tables : List Table) (others : List Table) (contents : Contents) (kept : Contents)
+    ensures contents { (plan : Plan) (commands fresh : Commands) (tables others : List Table) (contents kept : Contents)
         → IsFresh commands fresh → Holds plan commands tables contents → Holds plan fresh others kept
         → contents ≡ kept }
-    ensures postings { (plan : Plan) (commands : Commands) (fresh : Commands)
-        (tables : List Table) (others : List Table) (contents : Contents) (kept : Contents)
+    ensures postings { (plan : Plan) (commands fresh : Commands) (tables others : List Table) (contents kept : Contents)
         → IsFresh commands fresh → Holds plan commands tables contents → Holds plan fresh others kept
-        → (i : ℕ) (table : Table) (other : Table) → slice_get tables i ≡ Some table → slice_get others i ≡ Some other
+        → (i : ℕ) (table other : Table) → slice_get tables i ≡ Some table → slice_get others i ≡ Some other
         → (token : Text) (r : Bytes) → posting table token r ≡ posting other token r }
 {}
 

@@ -1,14 +1,16 @@
 //! Laws of the values of indexes.
 ghost use Rattle.std.specs.Prelude.{◌≡◌, ℕ, List, false, length, IsTrue, IsSomeAnd, Some, codes};
 ghost use Rattle.std.specs.List.{AllZip};
+ghost use Rattle.elasticlunr_text.specs.Text.{Bytes};
 ghost use Rattle.elasticlunr_store.specs.Table.{Table};
 ghost use Rattle.elasticlunr_store.specs.Contents.{Contents, store_value};
 ghost use Rattle.elasticlunr_store.specs.Tree.{IsTrieValue};
 ghost use Rattle.elasticlunr.specs.Fields.{all_differ};
 ghost use Rattle.elasticlunr.specs.History.{Commands, Agree};
 ghost use Rattle.elasticlunr.specs.Standing.{Plan};
-ghost use Rattle.elasticlunr.specs.Printed.{IsIndexValue, IsTextOf, IsValue, IsValueOf, IsValueOfNoOther, PrintAlike, texts};
-ghost use Rattle.serde_json.specs.Data.{Data, array};
+ghost use Rattle.elasticlunr.specs.Printed.{IsIndexValue, IsPrintOf, IsTextOf, IsValue, IsValueOf, IsValueOfNoOther, PrintAlike, texts};
+ghost use Rattle.elasticlunr.specs.Shape.{ArePartsOf, HasFields, HasLanguage, HasParts, HasStore, HasTries};
+ghost use Rattle.serde_json.specs.Data.{Data, array, string};
 ghost use Rattle.serde_json.specs.Find.{get};
 ghost use Rattle.serde_json.specs.Read.{read};
 ghost use Rattle.serde_json.specs.Written.{has_float};
@@ -65,15 +67,47 @@ pub fn equal_texts_have_equal_parts()
     values_tell_what_they_print();
 }
 
-/// A value has its parts under their keys: the names of the fields, the store, and under each
-/// field's name the trie value of its table.
+/// A value has its parts under their keys: the names of the fields, the store, the language's name,
+/// and under each field's name the trie value of its table.
 pub fn values_hold_their_parts()
     ensures fields { (plan : Plan) (tables : List Table) (contents : Contents) (v : Data)
         → IsValueOf plan tables contents v → get (codes "fields") v ≡ Some (array (texts plan.fields)) }
     ensures store { (plan : Plan) (tables : List Table) (contents : Contents) (v : Data)
         → IsValueOf plan tables contents v → get (codes "documentStore") v ≡ Some (store_value contents) }
+    ensures language { (plan : Plan) (tables : List Table) (contents : Contents) (v : Data)
+        → IsValueOf plan tables contents v → get (codes "lang") v ≡ Some (string plan.language) }
     ensures tries { (plan : Plan) (tables : List Table) (contents : Contents) (v : Data)
         → IsTrue (all_differ plan.fields) → length tables ≡ length plan.fields → IsValueOf plan tables contents v
         → IsSomeAnd (get (codes "index") v)
         (λ index. AllZip (λ name table. IsSomeAnd (get name index) (IsTrieValue table)) plan.fields tables) }
 {}
+
+/// A value has one list of fields, one table a field, one contents and one language at most.
+pub fn a_value_has_its_parts_once()
+    ensures fields { (v : Data) (names : List Bytes) (others : List Bytes)
+        → HasFields v names → HasFields v others → names ≡ others }
+    ensures tries { (v : Data) (names : List Bytes) (tables : List Table) (others : List Table)
+        → HasTries v names tables → HasTries v names others → tables ≡ others }
+    ensures store { (v : Data) (contents : Contents) (kept : Contents)
+        → HasStore v contents → HasStore v kept → contents ≡ kept }
+    ensures language { (v : Data) (name : Bytes) (other : Bytes)
+        → HasLanguage v name → HasLanguage v other → name ≡ other }
+{
+    one_table_a_value();
+    one_contents_a_value();
+}
+
+/// A printed text is read as a value with the parts that it was printed of, and with no others.
+pub fn printed_texts_have_their_parts()
+    ensures parts { (plan : Plan) (commands : Commands) (text : List ℕ) (print : IsPrintOf plan commands text)
+        → HasParts print.value plan.fields print.tables print.contents }
+    ensures language { (plan : Plan) (commands : Commands) (text : List ℕ) (print : IsPrintOf plan commands text)
+        → HasLanguage print.value plan.language }
+    ensures only { (plan : Plan) (commands : Commands) (text : List ℕ)
+        (v : Data) (names : List Bytes) (tables : List Table) (contents : Contents)
+        → IsPrintOf plan commands text → read text ≡ Some v → HasParts v names tables contents
+        → ArePartsOf plan commands names tables contents }
+{
+    one_table_a_value();
+    one_contents_a_value();
+}

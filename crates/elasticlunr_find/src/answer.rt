@@ -5,9 +5,10 @@ ghost use Rattle.elasticlunr_lang.specs.Known.{language_name};
 ghost use Rattle.elasticlunr_lang.specs.declared.any.AnyLanguage.{AnyLanguage};
 ghost use Rattle.elasticlunr.specs.History.{Commands};
 ghost use Rattle.elasticlunr.specs.Printed.{IsPrintOf};
+ghost use Rattle.elasticlunr.specs.ReadDocuments.{AreRead};
 ghost use Rattle.elasticlunr.specs.Reading.{LanguageReads};
 ghost use Rattle.elasticlunr.specs.Standing.{Plan};
-ghost use Rattle.elasticlunr_search.specs.Words.{AreRead, Finds};
+ghost use Rattle.elasticlunr_search.specs.Words.{Finds};
 ghost use Rattle.elasticlunr_find.specs.Lines.{lines};
 ghost use Rattle.serde_json.specs.Data.{string};
 ghost use Rattle.serde_json.specs.Find.{get};
@@ -49,6 +50,7 @@ impl From<SearchError> for Refusal {
     fn from(error: SearchError) -> Refusal {
         match error {
             SearchError::NotRead => Refusal::NotRead,
+            SearchError::OtherLanguage => Refusal::UnknownLanguage,
             SearchError::BadFields => Refusal::NoFields,
             SearchError::BadTries => Refusal::NoTries,
             SearchError::BadStore => Refusal::NoStore,

@@ -7,7 +7,7 @@ use Rattle.elasticlunr_text.specs.Text.{Bytes, bytes_of}
 use Rattle.elasticlunr_store.specs.Table.{Table}
 use Rattle.serde_json.specs.Data.{Data}
 use Rattle.serde_json.specs.Find.{get}
-use Rattle.elasticlunr_search.specs.Shape.{HasTrie, HasTries}
+use Rattle.elasticlunr.specs.Shape.{HasTrie, HasTries}
 
 push : (R : Bytes → Table → Type 0) (names : List Bytes) (tables : List Table) (name : Bytes) (table : Table) → AllZip R names tables → R name table → AllZip R (names ++ name ∷ []) (tables ++ table ∷ [])
 push R [] [] name table all r = (r, tt)

@@ -1,7 +1,8 @@
 pub mod Arrays
 pub mod Stops
+pub mod Naming
+pub mod Refusing
 pub mod FieldTries
-pub mod Shapes
 pub mod Sets
 pub mod Those
 pub mod Steps

@@ -1,4 +1,3 @@
-pub mod Shape
 pub mod Refusal
 pub mod Tries
 pub mod Query

@@ -3,14 +3,14 @@ use Rattle.std.specs.Prelude.{◌≡◌, List, Option}
 use Rattle.elasticlunr_text.specs.Text.{Text, Bytes, bytes_of}
 use Rattle.elasticlunr_text.specs.Stages.{LeavesBy}
 use Rattle.elasticlunr.specs.History.{Commands}
-use Rattle.elasticlunr.specs.Standing.{Plan, Holds}
+use Rattle.elasticlunr.specs.Shape.{ArePartsOf}
+use Rattle.elasticlunr.specs.Standing.{Plan}
 use Rattle.elasticlunr_search.specs.declared.printed.Printed.{Printed}
 use Rattle.elasticlunr_search.specs.declared.searcher.Searcher.{Searcher}
 
 -- what was read holds what these commands leave in an index of this plan
-pub record IsReadOf (printed : Printed) (plan : Plan) (commands : Commands) : Type 0 where
-  pub fields : bytes_of printed.fields.items ≡ plan.fields
-  pub holds : Holds plan commands printed.tries.items printed.store
+abbrev pub IsReadOf : Printed → Plan → Commands → Type 0
+IsReadOf printed plan commands = ArePartsOf plan commands (bytes_of printed.fields.items) printed.tries.items printed.store
 
 module _ {L P X : Type 0} {O : X → Type 0} {p : _} where
   -- the names of the fields, in order

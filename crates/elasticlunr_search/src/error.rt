@@ -7,6 +7,8 @@ use std::alloc::{AllocError, AllocFailed};
 pub enum SearchError {
     /// The text is not JSON, or is nested deeper than `serde_json` reads.
     NotRead,
+    /// Under the key `lang` is the name of another language than the searcher's.
+    OtherLanguage,
     /// Under the key `fields` is no list of names.
     BadFields,
     /// Under the key `index` the name of a field has no trie.

@@ -1,11 +1,11 @@
 //! The parts of a printed index, out of its value.
-ghost use Rattle.std.specs.Prelude.{◌≡◌, ◌≢◌, List, Some, None, IfOk, IfErr};
+ghost use Rattle.std.specs.Prelude.{◌≡◌, ◌≢◌, ◌↔◌, List, IsTrue, Some, None, IfOk, IfErr};
 ghost use Rattle.elasticlunr_text.specs.Text.{Bytes, bytes_of};
 ghost use Rattle.elasticlunr_store.specs.Table.{Table};
 ghost use Rattle.elasticlunr_store.specs.Contents.{Contents, IsConsistent};
 ghost use Rattle.elasticlunr.specs.Printed.{texts};
-ghost use Rattle.elasticlunr_search.specs.Shape.{HasFields, HasTrie, HasTries, HasStore};
-ghost use Rattle.elasticlunr_search.specs.Refusal.{StopsBy};
+ghost use Rattle.elasticlunr.specs.Shape.{HasFields, HasTrie, HasTries, HasStore};
+ghost use Rattle.elasticlunr_search.specs.Refusal.{NamesOther, StopsBy};
 ghost use Rattle.elasticlunr_search.specs.declared.error.SearchError.TheVariants.{NotRead, BadFields, BadTries, BadStore};
 ghost use Rattle.serde_json.specs.Data.{array};
 ghost use Rattle.serde_json.specs.Read.{read};
@@ -26,6 +26,19 @@ pub(crate) fn value_of(alloc: Global, text: &str) -> Result<Value, SearchError>
         Ok(value) => Ok(value),
         Err(e) if e.is_memory() => Err(SearchError::Memory),
         Err(_) => Err(SearchError::NotRead),
+    }
+}
+
+/// Whether the value names another language than this.
+pub(crate) fn names_other(language: &str, value: &Value) -> bool
+    ensures { IsTrue result ↔ NamesOther language.now (view value.now) }
+{
+    let Some(lang) = value.get("lang") else {
+        return false;
+    };
+    match lang.as_str() {
+        Some(name) => name != language,
+        None => false,
     }
 }
 

@@ -1,5 +1,5 @@
 //! Searches of a printed index, by a query in its language.
-ghost use Rattle.std.specs.Prelude.{◌≡◌, ◌<◌, ◌⊎◌, ◌↔◌, ℕ, List, false, Some, Err, IfOk, IfErr, IfSome, IsSome, IsTrue, length, option_map, slice_get};
+ghost use Rattle.std.specs.Prelude.{◌≡◌, ◌≢◌, ◌<◌, ◌⊎◌, ◌↔◌, ℕ, List, false, Some, Err, IfOk, IfErr, IfSome, IsSome, IsTrue, length, option_map, slice_get};
 ghost use Rattle.elasticlunr_text.specs.Stages.{LeavesBy};
 ghost use Rattle.elasticlunr_text.specs.Text.{bytes_of, texts_of};
 ghost use Rattle.elasticlunr_store.specs.Contents.{text_map};
@@ -7,27 +7,27 @@ ghost use Rattle.elasticlunr.specs.Fields.{has_name};
 ghost use Rattle.elasticlunr.specs.Found.{FindsAny, FindsAll};
 ghost use Rattle.elasticlunr.specs.History.{Commands, now};
 ghost use Rattle.elasticlunr.specs.Printed.{IsPrintOf};
+ghost use Rattle.elasticlunr.specs.ReadDocuments.{AreRead};
 ghost use Rattle.elasticlunr.specs.Reading.{LanguageReads};
 ghost use Rattle.elasticlunr.specs.Standing.{Plan, stored};
 ghost use Rattle.elasticlunr_search.specs.Query.{AreTokensOf, IsFound};
-ghost use Rattle.elasticlunr_search.specs.Refusal.{Lacks, Refuses};
-ghost use Rattle.elasticlunr_search.specs.Words.{AreRead, Finds};
-ghost use Rattle.elasticlunr_search.specs.declared.error.SearchError.TheVariants.{NoSuchField, Memory};
-ghost use Rattle.serde_json.specs.Data.{depth};
+ghost use Rattle.elasticlunr_search.specs.Refusal.{NamesOther, Refuses, RefusesValue};
+ghost use Rattle.elasticlunr_search.specs.Words.{Finds};
+ghost use Rattle.elasticlunr_search.specs.declared.error.SearchError.TheVariants.{OtherLanguage, NoSuchField, Memory};
+ghost use Rattle.serde_json.specs.Data.{Data, depth};
 ghost use Rattle.serde_json.specs.Read.{read, max_depth};
 ghost use Rattle.serde_json.specs.View.{view};
 
 use crate::error::SearchError;
-use crate::parts::value_of;
+use crate::parts::{names_other, value_of};
 use crate::printed::Printed;
 use crate::tries::{find_all_in, find_any_in};
 use crate::words::Join;
-use elasticlunr::laws::found::postings_tell_tokens;
-use elasticlunr::laws::values::values_hold_their_parts;
+use elasticlunr::laws::found::{documents_have_the_tokens_of_their_values, postings_tell_tokens};
+use elasticlunr::laws::reading::a_language_reads_what_its_pipeline_leaves;
+use elasticlunr::laws::values::{a_value_has_its_parts_once, printed_texts_have_their_parts};
 use elasticlunr_lang::Language;
 use elasticlunr_store::InvertedIndex;
-use elasticlunr_store::laws::{one_contents_a_value, one_table_a_value};
-use elasticlunr_text::laws::a_run_has_one_answer;
 use elasticlunr_text::pipeline::Pipeline;
 use serde_json::Value;
 use std::alloc::{AllocError, Global};
@@ -48,17 +48,22 @@ pub struct Searcher<L> {
 impl<L: Language> Searcher<L> {
     ghost use Rattle.elasticlunr_search.specs.Standing.{fields_of, StandsFor};
 
-    /// Reads the printed text of an index, in any layout, once.
+    /// Reads the printed text of an index, in any layout, once. The index must have been built with
+    /// this language: a text that names another one is refused, and one that names none is read.
     pub fn read(alloc: Global, language: L, text: &str) -> Result<Searcher<L>, SearchError>
         ensures stands { IfOk result (λ s. (plan : Plan) (commands : Commands)
             → IsPrintOf plan commands text.now
             → StandsFor L.leaves_of leaves s language plan commands) }
-        ensures refused { IfErr result (Refuses text.now) }
+        ensures refused { IfErr result (Refuses (L.name_of language) text.now) }
         ensures accepted { IfErr result (λ e. (plan : Plan) (commands : Commands)
             (print : IsPrintOf plan commands text.now)
-            → (e ≡ Memory) ⊎ (max_depth < depth print.value)) }
+            → (e ≡ Memory) ⊎ ((max_depth < depth print.value)
+            ⊎ ((e ≡ OtherLanguage) × (plan.language ≢ L.name_of language)))) }
+        ensures other { (v : Data) → read text.now ≡ Some v → NamesOther (L.name_of language) v
+            → (result ≡ Err OtherLanguage) ⊎ (result ≡ Err Memory) }
     {
-        values_hold_their_parts();
+        a_value_has_its_parts_once();
+        printed_texts_have_their_parts();
         let value = value_of(alloc, text)?;
         Searcher::from_value(alloc, language, &value)
     }
@@ -68,11 +73,15 @@ impl<L: Language> Searcher<L> {
         ensures stands { IfOk result (λ s. (plan : Plan) (commands : Commands) (text : List ℕ)
             → read text ≡ Some (view value.now) → IsPrintOf plan commands text
             → StandsFor L.leaves_of leaves s language plan commands) }
-        ensures lacks { IfErr result (Lacks (view value.now)) }
+        ensures refused { IfErr result (RefusesValue (L.name_of language) (view value.now)) }
+        ensures other { NamesOther (L.name_of language) (view value.now)
+            → (result ≡ Err OtherLanguage) ⊎ (result ≡ Err Memory) }
     {
-        values_hold_their_parts();
-        one_table_a_value();
-        one_contents_a_value();
+        printed_texts_have_their_parts();
+        let name = language.name(alloc)?;
+        if names_other(name.as_str(), value) {
+            return Err(SearchError::OtherLanguage);
+        }
         let printed = Printed::of_value(alloc, value)?;
         let empty = Pipeline {
             queue: Vec::new(alloc),
@@ -99,6 +108,7 @@ impl<L: Language> Searcher<L> {
             × Finds (LanguageReads (L.tokens_of language) (L.leaves_of language))
             join commands i query.now (bytes_of found.items)) }
     {
+        documents_have_the_tokens_of_their_values::<L>();
         match join {
             Join::Any => self.find_any(field, query),
             Join::All => self.find_all(field, query),
@@ -177,7 +187,7 @@ impl<L: Language> Searcher<L> {
             → AreTokensOf (LanguageReads (L.tokens_of self.now.language) (L.leaves_of self.now.language))
             i query.now (texts_of tokens.items)) }
     {
-        a_run_has_one_answer(&self.pipeline);
+        a_language_reads_what_its_pipeline_leaves(&self.language, &self.pipeline);
         let made = self.language.tokenize(self.alloc, query)?;
         let mut tokens = self.pipeline.run(self.alloc, made)?;
         tokens.retain(|token| !token.is_empty());

@@ -1,10 +1,11 @@
 use Rattle.std.proofs.Common.{inr, refl, arith}
 use Rattle.elasticlunr_text.specs.Text.{bytes_of}
-use Rattle.elasticlunr_search.proofs.Arrays.{all_names, not_all_names, not_string, next_name}
+use Rattle.elasticlunr_store.proofs.ReadingMaps.{no_string}
+use Rattle.elasticlunr_search.proofs.Arrays.{all_names, not_all_names, next_name}
 use Rattle.elasticlunr_search.proofs.parts.names_of.Goals as goal
 
 pub returns-in_default-as_str-clause-err : goal.returns-in_default-as_str-clause-err
-returns-in_default-as_str-clause-err c = inr (refl, not_all_names _ c.in-Some.items.now.items c.deref-item-items.result.now c.loop-item.item-index c.item-item.result c.in-Some.ensures c.deref-item-items.ensures.value c.loop-item-test.true c.item-item.is (not_string _ c.in_default-as_str.ensures))
+returns-in_default-as_str-clause-err c = inr (refl, not_all_names _ c.in-Some.items.now.items c.deref-item-items.result.now c.loop-item.item-index c.item-item.result c.in-Some.ensures c.deref-item-items.ensures.value c.loop-item-test.true c.item-item.is (no_string _ c.in_default-as_str.ensures))
 
 pub loop-item-preserved : goal.loop-item-preserved
 loop-item-preserved c = next_name c.deref-item-items.result.now c.loop-item.item-index c.item-item.result c.loop-item.names.items c.push.new.self.items c.in_ok-from_str.field-0 c.in-Some-as_str.name.now

@@ -3,7 +3,7 @@ use Rattle.std.specs.Prelude.{IsSomeAnd}
 use Rattle.std.specs.List.{AllZip}
 use Rattle.serde_json.specs.View.{view}
 use Rattle.elasticlunr_text.specs.Text.{bytes_of}
-use Rattle.elasticlunr_search.specs.Shape.{HasTrie}
+use Rattle.elasticlunr.specs.Shape.{HasTrie}
 use Rattle.elasticlunr_search.specs.declared.error.SearchError.TheVariants.{BadTries}
 use Rattle.elasticlunr_search.proofs.Stops.{at_exit}
 use Rattle.elasticlunr_search.proofs.FieldTries.{next_trie, no_trie, whole}

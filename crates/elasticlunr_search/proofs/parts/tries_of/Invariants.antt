@@ -2,7 +2,7 @@ use Rattle.std.proofs.Common.{take}
 use Rattle.std.specs.List.{AllZip}
 use Rattle.serde_json.specs.View.{view}
 use Rattle.elasticlunr_text.specs.Text.{bytes_of}
-use Rattle.elasticlunr_search.specs.Shape.{HasTrie}
+use Rattle.elasticlunr.specs.Shape.{HasTrie}
 use Rattle.elasticlunr_search.proofs.parts.tries_of.Given as goal
 
 -- the names so far have these tries

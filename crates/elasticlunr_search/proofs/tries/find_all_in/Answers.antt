@@ -2,11 +2,11 @@ use Rattle.std.proofs.Common.{[], sym, ap, subst, ◌∙◌, arith, rules, refl,
 use Rattle.std.proofs.lemmas.Fn.{filter_same}
 use Rattle.std.proofs.lemmas.List.Kept.{IsStrictlySortedBy-filter}
 use Rattle.std.specs.List.Sorted.{IsStrictlySortedBy}
-use Rattle.elasticlunr_text.specs.Text.{Bytes, bytes_of, text_of, text_cmp, texts_of, is_listed}
 use Rattle.std.specs.Str.{chars}
+use Rattle.elasticlunr_text.specs.Text.{Bytes, bytes_of, text_of, text_cmp, texts_of, is_listed}
 use Rattle.elasticlunr_store.specs.Table.{posting}
 use Rattle.elasticlunr_search.specs.Tries.{HaveAll}
-use Rattle.elasticlunr_search.proofs.Steps.{step_all, kept_bytes, kept_listed, all_taken, no_tokens}
+use Rattle.elasticlunr_search.proofs.Steps.{step_all, all_taken, no_strings, map-filter, kept_listed}
 use Rattle.elasticlunr_search.proofs.Those.{have_all, have_none}
 use Rattle.elasticlunr_search.proofs.tries.find_all_in.Goals as goal
 
@@ -16,10 +16,11 @@ loop-token-preserved c =
     let after = c.retain.new.self.items in
     let token = string_bytes c.token-item.result in
     let test = λ (bs : Bytes). is_some (posting c.args.trie.now (chars token) bs) in
-    let kept = filter_same _ (λ k. test (string_bytes k)) _ (λ x b f k. search rules) before after c.retain.ensures.filtered in (
-      subst (IsStrictlySortedBy text_cmp) (sym (ap bytes_of kept ∙ kept_bytes test before)) (IsStrictlySortedBy-filter text_cmp test (bytes_of before) c.loop-token.invariant.0),
-      λ r. step_all c.args.trie.now c.in-Some.first.now c.in-Some.others.now c.args.tokens.now c.loop-token.token-index c.token-item.result token r _ _ _
-          c.in-Some.ensures.cases.0 (omega arith) c.token-item.is refl (ap (λ ks. is_listed r (bytes_of ks)) kept ∙ kept_listed test before r) (c.loop-token.invariant.1 r) refl,
+    let same = filter_same _ (λ k. test (string_bytes k)) _ (λ x b f k. search rules) before after c.retain.ensures.filtered in
+    let kept = ap bytes_of same ∙ map-filter string_bytes test (λ k. test (string_bytes k)) (λ k. refl) before in (
+      subst (IsStrictlySortedBy text_cmp) (sym kept) (IsStrictlySortedBy-filter text_cmp test (bytes_of before) c.loop-token.invariant.0),
+      λ r. step_all (λ t. is_some (posting c.args.trie.now t r)) c.in-Some.first.now c.in-Some.others.now c.args.tokens.now c.loop-token.token-index c.token-item.result token _ _ _
+          c.in-Some.ensures.cases.0 (omega arith) c.token-item.is refl (ap (is_listed r) kept ∙ kept_listed test r (bytes_of before)) (c.loop-token.invariant.1 r) refl,
     )
 
 pub returns-after-loop-token : goal.returns-after-loop-token
@@ -29,10 +30,10 @@ returns-after-loop-token c =
     let others = c.in-Some.others.now in
     let are = c.in-Some.ensures.cases.0 in
     subst (λ ts. HaveAll trie (texts_of ts) (bytes_of c.loop-token.found.items)) (sym are)
-    (have_all trie first others (bytes_of c.loop-token.found.items) c.loop-token.invariant.0
-    (λ r. c.loop-token.invariant.1 r ∙ all_taken (λ t. is_some (posting trie (text_of t) r)) first others c.args.tokens.now c.loop-token.token-index are (omega arith)))
+    (have_all trie (text_of first) (texts_of others) (bytes_of c.loop-token.found.items) c.loop-token.invariant.0
+    (λ r. c.loop-token.invariant.1 r ∙ all_taken (λ t. is_some (posting trie t r)) first others c.args.tokens.now c.loop-token.token-index are (omega arith)))
 
 pub returns-in-None : goal.returns-in-None
 returns-in-None c =
-    let none = no_tokens c.args.tokens.now c.in-None.ensures.cases in
+    let none = no_strings c.args.tokens.now c.in-None.ensures.cases in
     subst (λ ts. HaveAll c.args.trie.now (texts_of ts) (bytes_of c.new.result.items)) (sym none) (subst (λ ks. HaveAll c.args.trie.now (texts_of []) (bytes_of ks)) (sym c.new.ensures.items) (have_none c.args.trie.now))

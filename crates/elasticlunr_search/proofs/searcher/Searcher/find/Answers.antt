@@ -9,19 +9,21 @@ use Rattle.elasticlunr_search.proofs.searcher.Searcher.find.Goals as goal
 pub returns-in-Any-clause-found : goal.returns-in-Any-clause-found
 returns-in-Any-clause-found g c = weaker_ok c.find_any.result _ _ (λ found h language plan commands stands read.
     let reads = LanguageReads (g.L.Language.tokens_of language) (g.L.Language.leaves_of language) in
+    let law = c.documents_have_the_tokens_of_their_values.ensures.tokens in
     let f = h language plan commands stands in (
       f.place,
       f.of_field,
       subst (λ j. Finds reads j commands f.place c.args.query.now (bytes_of found.items)) (sym c.in-Any.is)
-          (finds_any_word reads plan.fields plan.reference_field commands read f.place c.args.query.now f.tokens (bytes_of found.items) f.of_query f.are),
+          (finds_any_word reads f.place c.args.query.now f.tokens f.of_query commands (λ r token. law language plan.fields plan.reference_field commands f.place r token read) (bytes_of found.items) f.are),
     )) c.find_any.ensures.found
 
 pub returns-in-All-clause-found : goal.returns-in-All-clause-found
 returns-in-All-clause-found g c = weaker_ok c.find_all.result _ _ (λ found h language plan commands stands read.
     let reads = LanguageReads (g.L.Language.tokens_of language) (g.L.Language.leaves_of language) in
+    let law = c.documents_have_the_tokens_of_their_values.ensures.tokens in
     let f = h language plan commands stands in (
       f.place,
       f.of_field,
       subst (λ j. Finds reads j commands f.place c.args.query.now (bytes_of found.items)) (sym c.in-All.is)
-          (finds_all_words reads plan.fields plan.reference_field commands read f.place c.args.query.now f.tokens (bytes_of found.items) f.of_query f.are),
+          (finds_all_words reads f.place c.args.query.now f.tokens f.of_query commands (λ r token. law language plan.fields plan.reference_field commands f.place r token read) (bytes_of found.items) f.are),
     )) c.find_all.ensures.found

@@ -1,7 +1,8 @@
-use Rattle.std.proofs.Common.{inl, inr}
+use Rattle.std.proofs.Common.{◌≡◌, Some, inl, inr, sym, subst, ◌∙◌}
 use Rattle.serde_json.specs.View.{view}
+use Rattle.elasticlunr_search.specs.Refusal.{NamesOther}
 use Rattle.elasticlunr_search.proofs.Searching.{weaker_ok, weaker_err}
-use Rattle.elasticlunr_search.proofs.Shapes.{accepted}
+use Rattle.elasticlunr_search.proofs.Refusing.{accepted}
 use Rattle.elasticlunr_search.proofs.searcher.Searcher.read.Goals as goal
 
 pub returns-clause-stands : goal.returns-clause-stands
@@ -9,5 +10,13 @@ returns-clause-stands g c = weaker_ok c.from_value.result _ _ (λ s h plan comma
 
 pub returns-clause-accepted : goal.returns-clause-accepted
 returns-clause-accepted g c =
-    let laws = c.values_hold_their_parts.ensures in
-    weaker_err c.from_value.result _ _ (λ e lacks plan commands print. accepted (record { fields = laws.fields; store = laws.store; tries = laws.tries }) c.args.text.now e (inr (inl (view c.in_ok-value.value, c.in_ok-value.ensures.ok, lacks))) plan commands print) c.from_value.ensures.lacks
+    let laws = c.printed_texts_have_their_parts.ensures in
+    let text = c.args.text.now in
+    weaker_err c.from_value.result _ _ (λ e refused plan commands print. accepted c.a_value_has_its_parts_once.ensures.language (g.L.Language.name_of c.args.language) text e
+    (inr (inl (view c.in_ok-value.value, c.in_ok-value.ensures.ok, refused))) plan commands print (laws.parts plan commands text print) (laws.language plan commands text print)) c.from_value.ensures.refused
+
+pub returns-clause-other : goal.returns-clause-other
+returns-clause-other g c = λ v reads other.
+    let both : Some v ≡ Some (view c.in_ok-value.value) = sym reads ∙ c.in_ok-value.ensures.ok in
+    let same : v ≡ view c.in_ok-value.value = cc (both) in
+    c.from_value.ensures.other (subst (NamesOther (g.L.Language.name_of c.args.language)) same other)

@@ -1,0 +1,48 @@
+-- A printed text is refused for want of memory, for its depth or for its language alone.
+use Rattle.std.proofs.Common.{◌≡◌, ◌≢◌, ◌⊎◌, inl, inr, ◌<◌, ℕ, List, None, Some, refl, sym, subst, ◌∙◌}
+use Rattle.std.proofs.lemmas.Bool.{cases_lt}
+use Rattle.serde_json.specs.Data.{Data, depth}
+use Rattle.serde_json.specs.Read.{read, max_depth}
+use Rattle.elasticlunr_text.specs.Text.{Bytes}
+use Rattle.elasticlunr_store.specs.Contents.{Contents, IsConsistent}
+use Rattle.elasticlunr_store.specs.Table.{Table}
+use Rattle.elasticlunr.specs.History.{Commands}
+use Rattle.elasticlunr.specs.Printed.{IsPrintOf}
+use Rattle.elasticlunr.specs.Shape.{HasLanguage, HasParts}
+use Rattle.elasticlunr.specs.Standing.{Plan}
+use Rattle.elasticlunr_search.specs.Refusal.{Lacks, RefusesValue, Refuses}
+use Rattle.elasticlunr_search.specs.declared.error.SearchError.{SearchError}
+use Rattle.elasticlunr_search.specs.declared.error.SearchError.TheVariants.{NotRead, OtherLanguage, BadFields, BadTries, BadStore, NoSuchField, Memory}
+
+-- a value that has its parts lacks none
+lacks_none : (v : Data) (fields : List Bytes) (tables : List Table) (contents : Contents) → HasParts v fields tables contents
+    → IsConsistent contents → (e : SearchError) → Lacks v e → e ≡ Memory
+lacks_none v fields tables contents has are NotRead lacks = absurd lacks
+lacks_none v fields tables contents has are OtherLanguage lacks = absurd lacks
+lacks_none v fields tables contents has are BadFields lacks = absurd (lacks fields has.fields)
+lacks_none v fields tables contents has are BadTries lacks = absurd (lacks fields has.fields tables has.tries)
+lacks_none v fields tables contents has are BadStore lacks = absurd (lacks contents are has.store)
+lacks_none v fields tables contents has are NoSuchField lacks = absurd lacks
+lacks_none v fields tables contents has are Memory lacks = refl
+
+-- a printed text is refused for want of memory, for its depth, or for its language
+pub accepted : ((v : Data) (name other : Bytes) → HasLanguage v name → HasLanguage v other → name ≡ other)
+    → (language : Bytes) (text : List ℕ) (e : SearchError) → Refuses language text e → (plan : Plan) (commands : Commands) (p : IsPrintOf plan commands text)
+    → HasParts p.value plan.fields p.tables p.contents → HasLanguage p.value plan.language → (e ≡ Memory) ⊎ ((max_depth < depth p.value) ⊎ ((e ≡ OtherLanguage) × (plan.language ≢ language)))
+accepted one language text e refuses plan commands p has names = elim (cases_lt max_depth (depth p.value)) [ inl deep ↦ inr (inl deep) | inr shallow ↦ by_reading (p.read_as.reads shallow) refuses ] where
+  by_value : RefusesValue language p.value e
+      → (e ≡ Memory) ⊎ ((max_depth < depth p.value) ⊎ ((e ≡ OtherLanguage) × (plan.language ≢ language)))
+  by_value r = elim r [
+    | inl other ↦ inr (inr (other.0, λ same. other.1.2 (one p.value other.1.0 plan.language other.1.1 names ∙ same)))
+    | inr lacks ↦ inl (lacks_none p.value plan.fields p.tables p.contents has p.holds.store.are_contents e lacks)
+  ]
+
+  by_reading : read text ≡ Some p.value → Refuses language text e
+      → (e ≡ Memory) ⊎ ((max_depth < depth p.value) ⊎ ((e ≡ OtherLanguage) × (plan.language ≢ language)))
+  by_reading reads r = elim r [
+    | inl none ↦ (let wrong : None ≡ Some p.value = sym none.1 ∙ reads in absurd (cc))
+    | inr more ↦ elim more [
+      | inl value ↦ by_value (subst (λ w. RefusesValue language w e) (p.read_as.no_other value.0 value.1) value.2)
+      | inr m ↦ inl m
+    ]
+  ]

@@ -6,7 +6,8 @@ use Rattle.std.proofs.lemmas.Slice.Eq.{bytes_eq-Decides}
 use Rattle.elasticlunr_text.specs.Text.{Text, Bytes}
 use Rattle.elasticlunr.specs.Documents.{IsDocument, IsGiven}
 use Rattle.elasticlunr.specs.History.{Given, Document, Commands, none, ◌▸◌, add, now}
-use Rattle.elasticlunr_search.specs.Words.{AreRead, Asks, Has, Finds}
+use Rattle.elasticlunr.specs.ReadDocuments.{AreRead, HasReadToken}
+use Rattle.elasticlunr_search.specs.Words.{Asks, Finds}
 use Rattle.elasticlunr_search.specs.declared.words.Join.TheVariants.{Any}
 
 zero_place : (i : ℕ) → slice_get (codes "body" ∷ []) i ≡ Some (codes "body") → i ≡ 0
@@ -34,7 +35,7 @@ module _ (reads : ℕ → Bytes → List Text → Type 0) where
       let place : there.0 ≡ 0 = zero_place there.0 there.1 in
       let them : Finds reads Any (none ▸ add d ▸ add e) 0 query found = subst (λ i. Finds reads Any (none ▸ add d ▸ add e) i query found) place there.2 in
       let current : now (none ▸ add d ▸ add e) r ≡ Some e = ap (λ b. cond b (Some e) (now (none ▸ add d) r)) ((bytes_eq-Decides r e.reference).1 (sym is.its_reference)) in
-      let its : Has reads (none ▸ add d ▸ add e) 0 r token = subst (λ o. IsSomeAnd o (λ d. IsSomeAnd (slice_get d.given 0) (λ g. IsSomeAnd g.tokens (λ ts. reads 0 g.value ts × Contains ts token)))) (sym current) (first_has body token has e.given is.its_values is.each) in
+      let its : HasReadToken reads (none ▸ add d ▸ add e) 0 r token = subst (λ o. IsSomeAnd o (λ d. IsSomeAnd (slice_get d.given 0) (λ g. IsSomeAnd g.tokens (λ ts. reads 0 g.value ts × Contains ts token)))) (sym current) (first_has body token has e.given is.its_values is.each) in
       (them.exact r).1 (token, asks, its)
 
   -- the fields that an index has, in place of their names

@@ -12,9 +12,10 @@ use std::alloc::Global;
 pub fn first_index(alloc: Global) -> Result<String, IndexError>
     ensures { IfOk result (λ text. string_bytes text ≡
         codes "{\"documentStore\":{\"docInfo\":{\"1\":{\"body\":1}},\"docs\":{\"1\":{\"body\":\"go\",\"id\":\"1\"}},"
-        ++ codes "\"length\":1,\"save\":true},\"fields\":[\"body\"],\"index\":{\"body\":{\"root\":{\"df\":0,\"docs\":{},"
-        ++ codes "\"g\":{\"df\":0,\"docs\":{},\"o\":{\"df\":1,\"docs\":{\"1\":{\"tf\":1000000}}}}}}},\"lang\":\"English\","
-        ++ codes "\"pipeline\":[\"trimmer\",\"stopWordFilter\",\"stemmer\"],\"ref\":\"id\",\"version\":\"0.9.5\"}") }
+        ++ codes "\"length\":1,\"save\":true},\"fields\":[\"body\"],\"index\":{\"body\":{\"root\":{\"df\":0,"
+        ++ codes "\"docs\":{},\"g\":{\"df\":0,\"docs\":{},\"o\":{\"df\":1,\"docs\":{\"1\":{\"tf\":1000000}}}}}}},"
+        ++ codes "\"lang\":\"English\",\"pipeline\":[\"trimmer\",\"stopWordFilter\",\"stemmer\"],"
+        ++ codes "\"ref\":\"id\",\"version\":\"0.9.5\"}") }
 {
     one_word_is_a_path();
     let mut index = Index::new(alloc, &["body"])?;

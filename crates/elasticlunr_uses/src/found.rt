@@ -5,10 +5,8 @@
 //! has to know that a token is what the language leaves of a word: trimmed, no stop word, stemmed.
 ghost use Rattle.std.specs.Prelude.{List, IfOk, Contains};
 ghost use Rattle.elasticlunr_text.specs.Text.{Text, bytes_of};
-ghost use Rattle.elasticlunr_lang.specs.Known.{language_leaves};
 ghost use Rattle.elasticlunr_lang.specs.declared.any.AnyLanguage.TheVariants.{English as english};
-ghost use Rattle.elasticlunr_lang.specs.Words.{words};
-ghost use Rattle.elasticlunr.specs.Reading.{LanguageReads};
+ghost use Rattle.elasticlunr.specs.Kept.{KeptReads};
 ghost use Rattle.elasticlunr_search.specs.Words.{Asks};
 
 use crate::error::UseError;
@@ -26,8 +24,8 @@ pub fn built_printed_found(
     text: &str,
     query: &str,
 ) -> Result<Vec<String>, UseError>
-    ensures { IfOk result (λ found. (token : Text) → Asks (LanguageReads words (language_leaves english)) 0 query.now token
-        → ((tokens : List Text) → LanguageReads words (language_leaves english) 0 text.now tokens → Contains tokens token)
+    ensures { IfOk result (λ found. (token : Text) → Asks (KeptReads english) 0 query.now token
+        → ((tokens : List Text) → KeptReads english 0 text.now tokens → Contains tokens token)
         → Contains (bytes_of found.items) reference.now) }
 {
     let mut index = Index::new(alloc, &["body"])?;

@@ -48,9 +48,10 @@ only_go tokens is = is.are ∙ one_left is.lefts (subst (λ made. AllZip (langua
 -- the value as a text
 as_text : compact_text (word_value (one_field_plan (language_name english) (language_stages english) (codes "id") (codes "body")) (codes "body") (codes "1") (codes "go") (codes "go"))
     ≡ codes "{\"documentStore\":{\"docInfo\":{\"1\":{\"body\":1}},\"docs\":{\"1\":{\"body\":\"go\",\"id\":\"1\"}},"
-    ++ codes "\"length\":1,\"save\":true},\"fields\":[\"body\"],\"index\":{\"body\":{\"root\":{\"df\":0,\"docs\":{},"
-    ++ codes "\"g\":{\"df\":0,\"docs\":{},\"o\":{\"df\":1,\"docs\":{\"1\":{\"tf\":1000000}}}}}}},\"lang\":\"English\","
-    ++ codes "\"pipeline\":[\"trimmer\",\"stopWordFilter\",\"stemmer\"],\"ref\":\"id\",\"version\":\"0.9.5\"}"
+    ++ codes "\"length\":1,\"save\":true},\"fields\":[\"body\"],\"index\":{\"body\":{\"root\":{\"df\":0,"
+    ++ codes "\"docs\":{},\"g\":{\"df\":0,\"docs\":{},\"o\":{\"df\":1,\"docs\":{\"1\":{\"tf\":1000000}}}}}}},"
+    ++ codes "\"lang\":\"English\",\"pipeline\":[\"trimmer\",\"stopWordFilter\",\"stemmer\"],"
+    ++ codes "\"ref\":\"id\",\"version\":\"0.9.5\"}"
 unfolding escape_byte digits encode_utf8
 as_text = refl
 

@@ -1,14 +1,15 @@
 -- The test of an object's keys, and what it says of the object.
-use Rattle.std.proofs.Common.{◌≡◌, ℕ, suc, List, [], ◌∷◌, Bool, true, false, ◌&&◌, ◌||◌, Some, IsSome, Contains, string_bytes, bytes_eq, true≢false, refl, sym, ap, subst, ◌∙◌, arith}
+use Rattle.std.proofs.Common.{◌≡◌, ℕ, suc, List, [], ◌∷◌, map, Bool, true, false, not, cond, ◌&&◌, ◌||◌, None, Some, IsSome, is_some, Contains, Bor, String, Global, string_bytes, bytes_eq, true≢false, refl, sym, ap, subst, ◌∙◌, arith}
 use Rattle.std.proofs.lemmas.List.Folds.{list_any_at}
 use Rattle.std.proofs.lemmas.Slice.Eq.{bytes_eq-Decides}
-use Rattle.std.specs.List.{list_any, list_all}
+use Rattle.std.specs.List.{find, list_any, list_all}
 use Rattle.std.specs.Map.{keys_of}
 use Rattle.serde_json.specs.Data.{Data, null, boolean, number, string, array, object, Members}
 use Rattle.serde_json.specs.Find.{as_object, get, get_member}
 use Rattle.serde_json.specs.View.{members_view}
 use Rattle.serde_json.proofs.Views.{Entry, member_here, member_later}
 use Rattle.elasticlunr_job.specs.Job.{job_keys, HasOnly}
+use Rattle.elasticlunr_job.specs.FaultSteps.{HasJobKeys}
 use Rattle.elasticlunr_job.specs.Keys.{is_job_key}
 
 contains_later : (x k : List ℕ) (xs : List (List ℕ)) → Contains xs k → Contains (x ∷ xs) k
@@ -76,3 +77,67 @@ has_only d es is all key found = only_from es all key (subst (λ x. IsSome (get 
 pub has_others : (d : Data) (es : List Entry) → Some (members_view es) ≡ as_object d → list_all (λ key. is_job_key (string_bytes key)) (keys_of es) ≡ false → HasOnly job_keys d → ⊥
 has_others d es is not only =
     true≢false (sym (all_from_only es (λ key found. only key (subst (λ x. IsSome (get key x)) (sym (object_from d (members_view es) is)) found))) ∙ not)
+
+-- ---- a key among texts that are borrowed
+
+same_test : (a b : Bool) → (a ≡ true → b ≡ true) → (b ≡ true → a ≡ true) → a ≡ b
+same_test true b f g = sym (f refl)
+same_test false true f g = g refl
+same_test false false f g = refl
+
+either_way : (xs ys : List ℕ) → bytes_eq xs ys ≡ bytes_eq ys xs
+either_way xs ys = same_test _ _ (λ e. (bytes_eq-Decides ys xs).1 (sym ((bytes_eq-Decides xs ys).0 e))) (λ e. (bytes_eq-Decides xs ys).1 (sym ((bytes_eq-Decides ys xs).0 e)))
+
+pub any_told : (key : List ℕ) (known : List (Bor (List ℕ))) → list_any (λ k. bytes_eq k.now key) known ≡ list_any (bytes_eq key) (map (λ k. k.now) known)
+any_told key [] = refl
+any_told key (k ∷ known) = ap (λ b. b || list_any (λ k. bytes_eq k.now key) known) (either_way k.now key) ∙ ap (λ b. bytes_eq key k.now || b) (any_told key known)
+
+-- ---- the first key of an object that is none of a job
+
+not_true : (b : Bool) → not b ≡ true → b ≡ false
+not_true true e = sym e
+not_true false e = refl
+
+not_false : (b : Bool) → not b ≡ false → b ≡ true
+not_false true e = refl
+not_false false e = sym e
+
+abbrev is_other : String Global → Bool
+is_other key = not (is_job_key (string_bytes key))
+
+-- it is a key of these, and none of a job
+abbrev IsOther : List Entry → String Global → Type 0
+IsOther es key = IsSome (get_member (string_bytes key) (members_view es)) × (is_job_key (string_bytes key) ≡ false)
+
+other_at : (b : Bool) (e : Entry) (es : List Entry) (key : String Global) → is_other e.0 ≡ b → cond b (Some e.0) (find is_other (keys_of es)) ≡ Some key → (find is_other (keys_of es) ≡ Some key → IsOther es key) → IsOther (e ∷ es) key
+other_at true e es key is found later =
+    let same : e.0 ≡ key = cc in
+    (subst (λ k. IsSome (get_member (string_bytes k) (members_view (e ∷ es)))) same (found_here e es), subst (λ k. is_job_key (string_bytes k) ≡ false) same (not_true _ is))
+other_at false e es key is found later =
+    let rest : IsOther es key = later found in
+    (still_found (bytes_eq (string_bytes key) (string_bytes e.0)) e es (string_bytes key) refl rest.0, rest.1)
+
+other_from : (es : List Entry) (key : String Global) → find is_other (keys_of es) ≡ Some key → IsOther es key
+other_from [] key found = cc
+other_from (e ∷ es) key found = other_at (is_other e.0) e es key refl found (other_from es key)
+
+none_at : (b : Bool) (e : Entry) (es : List Entry) → is_other e.0 ≡ b → cond b (Some e.0) (find is_other (keys_of es)) ≡ None → (find is_other (keys_of es) ≡ None → AllJobKeys es) → AllJobKeys (e ∷ es)
+none_at true e es is found later = cc
+none_at false e es is found later = both _ _ (not_false _ is) (later found)
+
+none_other : (es : List Entry) → find is_other (keys_of es) ≡ None → AllJobKeys es
+none_other [] found = refl
+none_other (e ∷ es) found = none_at (is_other e.0) e es refl found (none_other es)
+
+-- what was found is a key of the object, and none of a job
+pub other_there : (d : Data) (es : List Entry) (key : String Global) → Some (members_view es) ≡ as_object d → Some key ≡ find is_other (keys_of es) → IsSome (get (string_bytes key) d) × (¬ Contains job_keys (string_bytes key))
+other_there d es key is found =
+    let other = other_from es key (sym found) in
+    (subst (λ x. IsSome (get (string_bytes key) x)) (sym (object_from d (members_view es) is)) other.0, λ among. true≢false (sym (any_from_contains job_keys (string_bytes key) among) ∙ other.1))
+
+-- where none was found, the object has keys of a job alone
+pub keys_fit : (d : Data) (es : List Entry) → Some (members_view es) ≡ as_object d → None ≡ find is_other (keys_of es) → HasJobKeys d
+keys_fit d es is found = record {
+  is_object = ap is_some (sym is);
+  only = has_only d es is (none_other es (sym found));
+}

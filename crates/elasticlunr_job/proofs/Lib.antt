@@ -12,3 +12,4 @@ pub mod OneLine
 pub mod OneAnswer
 pub mod FieldTexts
 pub mod Several
+pub mod JobFaults

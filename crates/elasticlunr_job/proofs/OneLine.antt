@@ -1,6 +1,5 @@
 -- A job has one line in a language.
-use Rattle.std.proofs.Common.{◌≡◌, List, [], ◌∷◌, refl, sym, ap, subst, ◌∙◌}
-use Rattle.std.specs.List.{AllZip}
+use Rattle.std.proofs.Common.{◌≡◌, List, sym, ap, subst, ◌∙◌}
 use Rattle.serde_json.specs.Data.{Data}
 use Rattle.elasticlunr_text.specs.Text.{Bytes}
 use Rattle.elasticlunr_lang.specs.Known.{language_leaves}
@@ -11,6 +10,7 @@ use Rattle.elasticlunr.specs.History.{Commands, none}
 use Rattle.elasticlunr.specs.Printed.{IsValue}
 use Rattle.elasticlunr.specs.Reading.{LanguageReads}
 use Rattle.elasticlunr.specs.Standing.{Plan}
+use Rattle.elasticlunr.proofs.Calling.{one_zip}
 use Rattle.elasticlunr_job.specs.Answer.{IsIndexLine, line, printed_text}
 use Rattle.elasticlunr_job.specs.Commands.{IsAdded, in_order, job_plan, language_tokens}
 use Rattle.elasticlunr_job.specs.Job.{Job}
@@ -22,17 +22,6 @@ OneValue = (plan : Plan) (commands : Commands) (v w : Data) → IsValue plan com
 -- a language makes one document of a reference and values
 abbrev pub OneDocument : Type 0
 OneDocument = (fields : List Bytes) (reference_field : Bytes) (language : AnyLanguage) → HasOneDocument (IsDocument fields reference_field (LanguageReads (language_tokens language) (language_leaves language)))
-
--- what is related to the items of a list, where each has one partner
-one_zip : {A B : Type 0} (R : A → B → Type 0) → ((x : A) (y z : B) → R x y → R x z → y ≡ z) → (xs : List A) (ys zs : List B) → AllZip R xs ys → AllZip R xs zs → ys ≡ zs
-one_zip R one [] [] [] a b = refl
-one_zip R one [] [] (z ∷ zs) a b = absurd b
-one_zip R one [] (y ∷ ys) zs a b = absurd a
-one_zip R one (x ∷ xs) [] zs a b = absurd a
-one_zip R one (x ∷ xs) (y ∷ ys) [] a b = absurd b
-one_zip R one (x ∷ xs) (y ∷ ys) (z ∷ zs) a b =
-    let head : y ≡ z = one x y z a.0 b.0 in
-    let tail : ys ≡ zs = one_zip R one xs ys zs a.1 b.1 in cc
 
 pub one_line : OneValue → OneDocument → (job : Job) (language : AnyLanguage) (t u : Bytes) → IsIndexLine job language t → IsIndexLine job language u → t ≡ u
 one_line values documents job language t u a b =

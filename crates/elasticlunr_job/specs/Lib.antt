@@ -7,5 +7,8 @@ pub mod Answer
 pub mod IndexStop
 pub mod Filled
 pub mod Kinds
+pub mod JobKeys
+pub mod JobFaults
+pub mod FaultSteps
 pub mod Objects
 pub mod ObjectsTold

@@ -14,6 +14,7 @@ ghost use Rattle.elasticlunr_job.specs.Stop.{StopsOnlyBy};
 ghost use Rattle.elasticlunr_job.specs.Keys.{is_job_key};
 ghost use Rattle.elasticlunr_job.specs.declared.outcome.Refusal.TheVariants.{NotAJob};
 
+use crate::key::is_job_key;
 use crate::outcome::{Refusal, Stop};
 use serde_json::{Map, Value};
 use std::alloc::Global;
@@ -108,16 +109,6 @@ impl<'a> Member<'a> for Document<'a> {
             values: texts,
         })
     }
-}
-
-/// Whether a job may have a member under this key.
-fn is_job_key(key: &str) -> bool
-    ensures { result ≡ is_job_key key.now }
-{
-    matches!(
-        key,
-        "fields" | "docs" | "ref" | "save" | "lang" | "pretty" | "remove" | "compact"
-    )
 }
 
 /// Whether no key of an object is another than those of a job.

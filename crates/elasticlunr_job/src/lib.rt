@@ -6,7 +6,9 @@
 #![tactic(auto)]
 
 pub mod answer;
+pub mod fault;
 pub mod job;
+pub mod key;
 pub mod kind;
 pub mod laws;
 pub mod objects;

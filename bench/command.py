@@ -7,8 +7,8 @@ A line of the table is an object: `name`, `args`, `files` (names and texts of fi
 folder that it runs in), `stdin`, and what must come of it: `out`, `err` and `status`. In place of `out`
 there may be `job`: the text that elasticlunr_index prints of this job. `before` and `after` stand around that
 text, and `in` names a file that has it in place of standard output. `err` is then `notes` and a last line
-with `documents`, the bytes of the text and the seconds. How many lines the table has stands beside it, in
-TABLE.rows.
+with `documents`, the tokens of the index (or `tokens`, where some are in no index), the bytes of the text and
+the seconds. How many lines the table has stands beside it, in TABLE.rows.
 """
 import json
 import os
@@ -70,6 +70,18 @@ def printed(job):
     return ended.out[:-1] if ended.status == 0 else b"no index of this job"
 
 
+def tokens_of(text):
+    """The tokens that any field of a printed index has."""
+    found = set()
+    left = [(table["root"], "") for table in json.loads(text)["index"].values()]
+    while left:
+        node, token = left.pop()
+        if node["docs"]:
+            found.add(token)
+        left.extend((node[it], token + it) for it in node if it not in ("df", "docs"))
+    return found
+
+
 def ran(folder, args, given=b"", **options):
     return run([COMMAND, *args], given, cwd=folder, **options)
 
@@ -86,7 +98,9 @@ def check_row(row, counts):
         if "job" in row:
             text = printed(row["job"])
             wanted = row.get("before", "").encode() + text + row.get("after", "").encode() + b"\n"
-            err = f"{row['notes']}elasticlunr: {row['documents']} documents, {len(text) + 1} bytes, N.N s\n"
+            tokens = row.get("tokens", len(tokens_of(text)))
+            counted = f"{row['documents']} documents, {tokens} tokens, {len(text) + 1} bytes"
+            err = f"{row['notes']}elasticlunr: {counted}, N.N s\n"
         out = ended.out
         if "in" in row:
             with open(os.path.join(folder, row["in"]), "rb") as file:

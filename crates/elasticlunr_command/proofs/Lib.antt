@@ -1,1 +1,9 @@
 pub mod Readings
+pub mod FieldKeys
+pub mod LineLemmas
+pub mod FormLemmas
+pub mod Refusals
+pub mod Scripts
+pub mod Called
+pub mod IndexLemmas
+pub mod FirstFaults

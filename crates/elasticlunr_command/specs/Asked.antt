@@ -5,22 +5,30 @@ use Rattle.serde_json.specs.Find.{as_array}
 use Rattle.serde_json.specs.View.{items_of}
 use Rattle.elasticlunr_text.specs.Text.{Bytes}
 use Rattle.elasticlunr_job.specs.Objects.{Options, IsLineOfObjects}
+use Rattle.elasticlunr_command.specs.Fields.{fields_of_first}
 use Rattle.elasticlunr_command.specs.Settled.{Settings}
 
--- the options of these settings, where these are the fields
-abbrev pub options_with : Settings → List Bytes → Options
-options_with settings fields = record {
-  reference_key = unwrap_or settings.reference (codes "id");
-  fields = fields;
+-- the key of the reference
+abbrev pub reference_key_of : Settings → Bytes
+reference_key_of settings = unwrap_or settings.reference (codes "id")
+
+-- the fields that are named, or else those of the first of the objects
+abbrev pub fields_of : Settings → List Data → List Bytes
+fields_of settings items = unwrap_or settings.fields (fields_of_first (reference_key_of settings) items)
+
+-- how these objects are read
+abbrev pub options_of : Settings → List Data → Options
+options_of settings items = record {
+  reference_key = reference_key_of settings;
+  fields = fields_of settings items;
   language = unwrap_or settings.language (codes "English");
   save = if settings.drops_texts then false else true;
   pretty = settings.pretty;
 }
 
--- the text of the index of these objects, of the fields that the settings name, or else of some
+-- the text of the index of these objects
 abbrev pub IsObjectsLineWith : Settings → List Data → Bytes → Type 0
-IsObjectsLineWith settings items text = (fields : List Bytes)
-    × IsLineOfObjects (options_with settings (unwrap_or settings.fields fields)) items text
+IsObjectsLineWith settings items text = IsLineOfObjects (options_of settings items) items text
 
 -- the text of the index of the objects in an array
 abbrev pub IsArrayLineWith : Settings → Data → Bytes → Type 0

@@ -1,5 +1,12 @@
 pub mod Status
 pub mod Settled
-pub mod Refused
+pub mod Words
+pub mod Script
+pub mod Fields
 pub mod Asked
 pub mod Lines
+pub mod Places
+pub mod Refused
+pub mod Forms
+pub mod Inputs
+pub mod FirstFaults

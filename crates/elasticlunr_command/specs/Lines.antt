@@ -1,5 +1,5 @@
 -- Lines of JSON, and their values.
-use Rattle.std.specs.Prelude.{◌≡◌, ◌==◌, ◌||◌, ℕ, Bool, true, false, List, Some, map, filter, if◌then◌else◌}
+use Rattle.std.specs.Prelude.{◌≡◌, ◌==◌, ◌||◌, ◌++◌, ◌∷◌, ℕ, Bool, true, false, List, Option, Some, None, map, filter, if◌then◌else◌}
 use Rattle.std.specs.List.{list_all, slice_split}
 use Rattle.serde_json.specs.Data.{Data}
 use Rattle.elasticlunr_text.specs.Text.{Bytes}
@@ -21,9 +21,17 @@ is_filled line = if is_blank line then false else true
 abbrev pub lines_of : Bytes → List Bytes
 lines_of text = slice_split (λ b. b == 10) text
 
+-- what the lines are read as, without the blank ones
+abbrev pub readings : Bytes → List (Option Data)
+readings text = map reading (filter is_filled (lines_of text))
+
 -- these are the values of the lines of the text, without the blank ones
 abbrev pub AreLineValues : Bytes → List Data → Type 0
-AreLineValues text items = map Some items ≡ map reading (filter is_filled (lines_of text))
+AreLineValues text items = map Some items ≡ readings text
+
+-- a line of the text is not JSON, and those before it are blank or have values
+abbrev pub HasUnreadLine : Bytes → Type 0
+HasUnreadLine text = (before : List Data) × (rest : List (Option Data)) × (map Some before ++ None ∷ rest ≡ readings text)
 
 -- the text of the index of the objects in the lines
 abbrev pub IsLinesLineWith : Settings → Bytes → Bytes → Type 0

@@ -1,4 +1,6 @@
 //! `build` and `check`.
+ghost use Rattle.std.specs.Prelude.{string_bytes, IfOk};
+ghost use Rattle.elasticlunr_command.specs.Script.{IsScript, IsWithoutFeed};
 
 use crate::ended::Ended;
 use crate::files::{input_name, read_input, write_output};
@@ -10,8 +12,11 @@ use crate::settings::{Settings, language_name};
 use crate::tell::{failed, troubled, warn};
 use clap::ArgMatches;
 use std::alloc::{AllocError, Global};
-use std::io;
+use std::io::{self, IsTerminal};
 use std::time::Instant;
+
+/// The bytes of an input whose index takes more than a moment.
+const MUCH: usize = 1_000_000;
 
 /// What is done with the text of an index.
 #[derive(Clone, Copy, Debug, PartialEq, Eq)]
@@ -26,6 +31,23 @@ struct Task<'r, 'a> {
     given: &'r ArgMatches<'a>,
     wanted: Use,
     begun: Instant,
+}
+
+impl Task<'_, '_> {
+    /// The seconds since it was begun.
+    fn seconds(&self, rt: &HostRuntime) -> io::Result<f64> {
+        Ok(self.begun.elapsed(rt)?.as_secs_f64())
+    }
+
+    /// Says how far it is, where that is asked for, or much was done and a terminal shows it.
+    fn progress(&self, rt: &HostRuntime, done: &str, bytes: usize) -> io::Result<()> {
+        let is_watched = bytes >= MUCH && rt.stderr().is_terminal();
+        if is_watched || self.given.get_flag("progress") {
+            let seconds = self.seconds(rt)?;
+            eprintln!(rt; "elasticlunr: {done} {bytes} bytes, {seconds:.1} s")?;
+        }
+        Ok(())
+    }
 }
 
 /// Builds an index in the language that is asked for.
@@ -57,7 +79,10 @@ fn build_from(
     let settings = Settings::of_words(rt.alloc(), task.given, language)?;
     let file = task.given.get_str("file");
     match read_input(rt, file) {
-        Ok(bytes) => build_of(rt, task, &settings, &bytes),
+        Ok(bytes) => {
+            task.progress(rt, "read", bytes.len())?;
+            build_of(rt, task, &settings, &bytes)
+        }
         Err(e) => failed(rt, input_name(file), &e),
     }
 }
@@ -73,15 +98,13 @@ fn build_of(
     let form = task.given.get_str("format").and_then(form_of);
     let mut notes = Notes::new(rt.alloc());
     let built = index_text(rt.alloc(), bytes, form, settings, &mut notes);
+    if let Ok(line) = &built {
+        task.progress(rt, "made an index of", line.len())?;
+    }
     warn(rt, name, &notes.warnings)?;
     match built {
         Ok(_) if task.given.get_flag("strict") && !notes.warnings.is_empty() => Ok(Ended::Refused),
-        Ok(line) if task.wanted == Use::Write => write_index(
-            rt,
-            task,
-            line.as_str(),
-            notes.documents,
-        ),
+        Ok(line) if task.wanted == Use::Write => write_index(rt, task, line.as_str(), &notes),
         Ok(_) => Ok(Ended::Done),
         Err(trouble) => troubled(rt, name, trouble),
     }
@@ -92,7 +115,7 @@ fn write_index(
     rt: &HostRuntime,
     task: &Task<'_, '_>,
     line: &str,
-    documents: usize,
+    notes: &Notes,
 ) -> io::Result<Ended> {
     let output = task.given.get_str("output");
     let written = match task.given.get_str("js") {
@@ -104,9 +127,11 @@ fn write_index(
     };
     match written {
         Ok(()) => {
-            let bytes = line.len();
-            let seconds = task.begun.elapsed(rt)?.as_secs_f64();
-            eprintln!(rt; "elasticlunr: {documents} documents, {bytes} bytes, {seconds:.1} s")?;
+            let (documents, tokens) = (notes.documents, notes.token_count());
+            let (bytes, seconds) = (line.len(), task.seconds(rt)?);
+            eprintln!(rt;
+                "elasticlunr: {documents} documents, {tokens} tokens, {bytes} bytes, {seconds:.1} s"
+            )?;
             Ok(Ended::Done)
         }
         Err(e) => failed(rt, output.unwrap_or("standard output"), &e),
@@ -114,7 +139,19 @@ fn write_index(
 }
 
 /// The line of an index with a text before it, and a semicolon after it.
-fn script_of(alloc: Global, before: &str, line: &str) -> Result<String, AllocError> {
-    let index = line.strip_suffix('\n').unwrap_or(line);
-    format!(in alloc; "{before}{index};\n")
+fn script_of(alloc: Global, before: &str, line: &str) -> Result<String, AllocError>
+    ensures { IfOk result (λ script. IsScript before.now line.now (string_bytes script)) }
+{
+    let index = without_feed(line);
+    let mut script = String::from_str(alloc, before)?;
+    script.push_str(index)?;
+    script.push_str(";\n")?;
+    Ok(script)
+}
+
+/// A line without the line feed at its end.
+fn without_feed(line: &str) -> &str
+    ensures { IsWithoutFeed line.now result.now }
+{
+    line.strip_suffix('\n').unwrap_or(line)
 }

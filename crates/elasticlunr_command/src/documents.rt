@@ -1,10 +1,11 @@
 //! The index of documents that are objects: an array of them, or a line for each.
-ghost use Rattle.std.specs.Prelude.{◌≡◌, map, string_bytes, IfOk, IfErr, Some};
+ghost use Rattle.std.specs.Prelude.{◌≡◌, map, string_bytes, IfOk, IfErr, Some, None};
 ghost use Rattle.elasticlunr_job.specs.Answer.{reading};
 ghost use Rattle.elasticlunr_job.specs.Objects.{IsLineOfObjects};
-ghost use Rattle.elasticlunr_job.specs.ObjectsTold.{options_told};
-ghost use Rattle.elasticlunr_command.specs.Lines.{AreLineValues, lines_of};
-ghost use Rattle.elasticlunr_command.specs.Refused.{IsRefusedObjects};
+ghost use Rattle.elasticlunr_job.specs.ObjectsTold.{options_told, texts_told};
+ghost use Rattle.elasticlunr_command.specs.Fields.{is_field, text_keys};
+ghost use Rattle.elasticlunr_command.specs.Lines.{AreLineValues, HasUnreadLine, lines_of};
+ghost use Rattle.elasticlunr_command.specs.Refused.{IsMemoryOr, IsRefusedObjects};
 ghost use Rattle.serde_json.specs.View.{view};
 
 use crate::form::{Form, is_blank};
@@ -167,7 +168,8 @@ fn document_label(
 
 /// The values of the lines. Lines of white space are passed over.
 pub(crate) fn line_values(alloc: Global, text: &[u8]) -> Result<Vec<Value>, Trouble>
-    ensures { IfOk result (λ values. AreLineValues text.now (map view values.items)) }
+    ensures ok { IfOk result (λ values. AreLineValues text.now (map view values.items)) }
+    ensures err { IfErr result (IsMemoryOr (HasUnreadLine text.now)) }
 {
     let lines = lines_of(alloc, text)?;
     let mut values = Vec::new(alloc);
@@ -188,7 +190,8 @@ fn lines_of(alloc: Global, text: &[u8]) -> Result<Vec<&[u8]>, AllocError>
 
 /// The value of a line, before which there are so many.
 fn line_value(alloc: Global, line: &[u8], before: usize) -> Result<Value, Trouble>
-    ensures { IfOk result (λ value. reading line.now ≡ Some (view value)) }
+    ensures ok { IfOk result (λ value. reading line.now ≡ Some (view value)) }
+    ensures err { IfErr result (IsMemoryOr (reading line.now ≡ None)) }
 {
     match Value::from_slice(alloc, line) {
         Ok(value) => Ok(value),
@@ -211,17 +214,26 @@ pub(crate) fn first_fields<'v>(
     alloc: Global,
     value: &'v Value,
     reference_key: &str,
-) -> Result<Vec<&'v str>, AllocError> {
+) -> Result<Vec<&'v str>, AllocError>
+    ensures { IfOk result (λ fields. texts_told fields.items ≡ text_keys reference_key.now (view value.now)) }
+{
     let mut fields = Vec::new(alloc);
     let Some(members) = value.as_object() else {
         return Ok(fields);
     };
     for (key, member) in members.iter() {
-        if member.is_string() && key.as_str() != reference_key {
+        if is_field(key.as_str(), member, reference_key) {
             fields.push(key.as_str())?;
         }
     }
     Ok(fields)
+}
+
+/// Whether a member is a text under another key than that of the reference.
+fn is_field(key: &str, member: &Value, reference_key: &str) -> bool
+    ensures { result ≡ is_field reference_key.now (key.now, view member.now) }
+{
+    member.is_string() && key != reference_key
 }
 
 /// Notes what is unwise in objects that are documents.

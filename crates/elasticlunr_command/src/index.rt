@@ -1,9 +1,11 @@
 //! The index of an input, of each form.
 ghost use Rattle.std.specs.Prelude.{◌≡◌, map, string_bytes, unwrap_or, IfOk, IfErr};
 ghost use Rattle.elasticlunr_job.specs.ObjectsTold.{options_told, texts_told};
-ghost use Rattle.elasticlunr_command.specs.Asked.{IsArrayLineWith, IsObjectsLineWith, options_with};
+ghost use Rattle.elasticlunr_command.specs.Asked.{IsArrayLineWith, IsObjectsLineWith, options_of};
+ghost use Rattle.elasticlunr_command.specs.Fields.{fields_of_first};
+ghost use Rattle.elasticlunr_command.specs.Forms.{IsIndexOf, IsRefusedInput};
 ghost use Rattle.elasticlunr_command.specs.Lines.{IsLinesLineWith};
-ghost use Rattle.elasticlunr_command.specs.Refused.{IsRefusedJob};
+ghost use Rattle.elasticlunr_command.specs.Refused.{AreRefusedLines, IsRefusedArray, IsRefusedJob, IsRefusedObjects};
 ghost use Rattle.elasticlunr_command.specs.Settled.{IsLineWith, settings_told};
 ghost use Rattle.serde_json.specs.View.{view};
 
@@ -25,7 +27,11 @@ pub(crate) fn index_text(
     form: Option<Form>,
     settings: &Settings,
     notes: &mut Notes,
-) -> Result<String, Trouble> {
+) -> Result<String, Trouble>
+    ensures ok { IfOk result (λ line.
+        IsIndexOf form (settings_told settings.now) text.now (string_bytes line)) }
+    ensures err { IfErr result (IsRefusedInput form (settings_told settings.now) text.now) }
+{
     match read_input(alloc, text, form)? {
         Input::Job(value) => text_of_job(alloc, text, &value, settings, notes),
         Input::Objects(value) => text_of_array(alloc, text, &value, settings, notes),
@@ -65,8 +71,9 @@ fn text_of_array(
     settings: &Settings,
     notes: &mut Notes,
 ) -> Result<String, Trouble>
-    ensures { IfOk result (λ line.
+    ensures ok { IfOk result (λ line.
         IsArrayLineWith (settings_told settings.now) (view value.now) (string_bytes line)) }
+    ensures err { IfErr result (IsRefusedArray (settings_told settings.now) (view value.now)) }
 {
     let Some(items) = value.as_array() else {
         let message = wants(alloc, text, &[], "the input", value, "a list of objects")?;
@@ -86,8 +93,9 @@ fn text_of_lines(
     settings: &Settings,
     notes: &mut Notes,
 ) -> Result<String, Trouble>
-    ensures { IfOk result (λ line.
+    ensures ok { IfOk result (λ line.
         IsLinesLineWith (settings_told settings.now) text.now (string_bytes line)) }
+    ensures err { IfErr result (AreRefusedLines (settings_told settings.now) text.now) }
 {
     let items = line_values(alloc, text)?;
     let source = Source {
@@ -105,10 +113,12 @@ fn text_of_objects(
     settings: &Settings,
     notes: &mut Notes,
 ) -> Result<String, Trouble>
-    ensures { IfOk result (λ line.
+    ensures ok { IfOk result (λ line.
         IsObjectsLineWith (settings_told settings.now) (map view items.now) (string_bytes line)) }
+    ensures err { IfErr result (IsRefusedObjects
+        (options_of (settings_told settings.now) (map view items.now)) (map view items.now)) }
 {
-    let options = options_of(alloc, settings, items.first())?;
+    let options = options_of(alloc, settings, items)?;
     let line = objects_text(alloc, source, items, &options)?;
     note_objects(alloc, &options, items, notes)?;
     Ok(line)
@@ -118,13 +128,13 @@ fn text_of_objects(
 fn options_of<'a>(
     alloc: Global,
     settings: &'a Settings,
-    first: Option<&'a Value>,
+    items: &'a [Value],
 ) -> Result<Options<'a>, AllocError>
-    ensures { IfOk result (λ options. options_told options ≡ options_with (settings_told settings.now)
-        (unwrap_or (settings_told settings.now).fields (options_told options).fields)) }
+    ensures { IfOk result (λ options.
+        options_told options ≡ options_of (settings_told settings.now) (map view items.now)) }
 {
     let reference_key = text_or(&settings.reference, "id");
-    let fields = fields_or_first(alloc, settings, first, reference_key)?;
+    let fields = fields_or_first(alloc, settings, items, reference_key)?;
     Ok(Options {
         reference_key,
         fields,
@@ -138,26 +148,29 @@ fn options_of<'a>(
 fn fields_or_first<'a>(
     alloc: Global,
     settings: &'a Settings,
-    first: Option<&'a Value>,
+    items: &'a [Value],
     reference_key: &str,
 ) -> Result<Vec<&'a str>, AllocError>
     ensures { IfOk result (λ fields. texts_told fields.items
-        ≡ unwrap_or (settings_told settings.now).fields (texts_told fields.items)) }
+        ≡ unwrap_or (settings_told settings.now).fields (fields_of_first reference_key.now (map view items.now))) }
 {
     match &settings.fields {
         Some(fields) => texts_of(alloc, fields),
-        None => fields_of_first(alloc, first, reference_key),
+        None => fields_of_first(alloc, items, reference_key),
     }
 }
 
 /// The fields of the first object, where there is one.
 fn fields_of_first<'a>(
     alloc: Global,
-    first: Option<&'a Value>,
+    items: &'a [Value],
     reference_key: &str,
-) -> Result<Vec<&'a str>, AllocError> {
-    match first {
-        Some(object) => first_fields(alloc, object, reference_key),
+) -> Result<Vec<&'a str>, AllocError>
+    ensures { IfOk result (λ fields.
+        texts_told fields.items ≡ fields_of_first reference_key.now (map view items.now)) }
+{
+    match items.first() {
+        Some(first) => first_fields(alloc, first, reference_key),
         None => Ok(Vec::new(alloc)),
     }
 }

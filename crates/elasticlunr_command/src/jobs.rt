@@ -1,18 +1,22 @@
 //! The index of a job.
-ghost use Rattle.std.specs.Prelude.{string_bytes, IfOk, IfErr};
+ghost use Rattle.std.specs.Prelude.{◌≡◌, true, string_bytes, IfOk, IfErr, IfSome, IfNone};
+ghost use Rattle.elasticlunr.specs.Fields.{all_differ, borrowed};
+ghost use Rattle.elasticlunr_job.specs.JobTold.{job_told};
 ghost use Rattle.elasticlunr_job.specs.Stop.{StopsWithReason};
+ghost use Rattle.elasticlunr_command.specs.FirstFaults.{AllFit, IsFirstTooLong, IsFirstTwice};
 ghost use Rattle.elasticlunr_command.specs.Settled.{IsLineWith, IsRefusedWith, settings_told};
 ghost use Rattle.serde_json.specs.View.{view};
 
-use crate::job_fault::not_a_job;
+use crate::job_fault::fault_message;
 use crate::message::{Message, Trouble, message_at, unplaced};
 use crate::nearest::nearest;
 use crate::notes::Notes;
 use crate::place::Step;
-use crate::settings::{Settings, all_names, settle, text_or};
+use crate::settings::{Settings, all_names, settle};
 use crate::tokens::Tokens;
 use elasticlunr_job::answer::job_line;
-use elasticlunr_job::job::{Job, parse};
+use elasticlunr_job::fault::first_fault;
+use elasticlunr_job::job::{Document, Job, parse};
 use elasticlunr_job::outcome::{Refusal, Stop};
 use serde_json::Value;
 use std::alloc::{AllocError, Global};
@@ -38,10 +42,12 @@ pub(crate) fn job_refused(
     value: &Value,
     refusal: Refusal,
 ) -> Result<Message, AllocError> {
+    if let Some(fault) = first_fault(value) {
+        return fault_message(alloc, text, value, fault);
+    }
     match parse(alloc, value) {
         Ok(job) => job_fault(alloc, text, &job, refusal),
-        Err(Stop::Memory) => Err(AllocError),
-        Err(Stop::Refused(_)) => not_a_job(alloc, text, value),
+        Err(_) => Err(AllocError),
     }
 }
 
@@ -58,9 +64,11 @@ fn job_fault(
             Ok(message_at(text, &[Step::Key("lang")], said))
         }
         Refusal::DuplicateField => {
-            let number = second_of(&job.fields);
             let said = duplicate_field(alloc, &job.fields)?;
-            Ok(message_at(text, &[Step::Key("fields"), Step::Item(number)], said))
+            Ok(match second_of(&job.fields) {
+                Some(number) => message_at(text, &[Step::Key("fields"), Step::Item(number)], said),
+                None => unplaced(said),
+            })
         }
         Refusal::TooManyValues => too_many_values(alloc, text, job),
         _ => Ok(unplaced(String::from_str(alloc, "not a job")?)),
@@ -85,39 +93,56 @@ pub(crate) fn unknown_language(alloc: Global, asked: &str) -> Result<String, All
 }
 
 /// The number of the first field that has the name of one before it.
-fn second_of(fields: &[&str]) -> usize {
+fn second_of(fields: &[&str]) -> Option<usize>
+    ensures some { IfSome result (IsFirstTwice (borrowed fields.now)) }
+    ensures none { IfNone result (all_differ (borrowed fields.now) ≡ true) }
+{
     for (number, field) in fields.iter().enumerate() {
-        if fields.iter().take(number).any(|before| *before == *field) {
-            return number;
+        if fields[..number].contains(field) {
+            return Some(number);
         }
     }
-    0
+    None
 }
 
 /// That a field comes twice.
 pub(crate) fn duplicate_field(alloc: Global, fields: &[&str]) -> Result<String, AllocError> {
-    let name = match fields.get(second_of(fields)) {
+    let Some(number) = second_of(fields) else {
+        return String::from_str(alloc, "a field of `--fields` comes twice");
+    };
+    let name = match fields.get(number) {
         Some(name) => *name,
         None => "",
     };
     format!(in alloc; "the field \"{name}\" comes twice")
 }
 
-/// The first document with more values than there are fields.
-fn too_many_values(alloc: Global, text: &[u8], job: &Job<'_>) -> Result<Message, AllocError> {
+/// The first document with more values than there are fields, and its number.
+fn first_too_long<'j, 'a>(job: &'j Job<'a>) -> Option<(usize, &'j Document<'a>)>
+    ensures some { let told = job_told job.now in IfSome result (λ found. IsFirstTooLong told.fields told.docs found.0) }
+    ensures none { let told = job_told job.now in IfNone result (AllFit told.fields told.docs) }
+{
     let most = job.fields.len();
     for (number, doc) in job.docs.iter().enumerate() {
-        let values = doc.values.len();
-        if values > most {
-            let count = number.saturating_add(1);
-            let reference = doc.reference;
-            let said = format!(in alloc;
-                "document {count} (\"{reference}\"): {values} values, where there are {most} fields"
-            )?;
-            return Ok(message_at(text, &[Step::Key("docs"), Step::Item(number)], said));
+        if doc.values.len() > most {
+            return Some((number, doc));
         }
     }
-    Ok(unplaced(String::from_str(alloc, "too many values")?))
+    None
+}
+
+/// The first document with more values than there are fields.
+fn too_many_values(alloc: Global, text: &[u8], job: &Job<'_>) -> Result<Message, AllocError> {
+    let Some((number, doc)) = first_too_long(job) else {
+        let said = "a document has more values than `--fields` has names";
+        return Ok(unplaced(String::from_str(alloc, said)?));
+    };
+    let (count, reference) = (number.saturating_add(1), doc.reference);
+    let (values, most) = (doc.values.len(), job.fields.len());
+    let said = format!(in alloc;
+        "document {count} (\"{reference}\"): {values} values, where there are {most} fields"
+    )?;
+    Ok(message_at(text, &[Step::Key("docs"), Step::Item(number)], said))
 }
 
 /// Notes what is unwise in the documents of a job.
@@ -130,7 +155,8 @@ pub(crate) fn note_job(
     let Ok(job) = parse(alloc, value) else {
         return Err(AllocError);
     };
-    let tokens = Tokens::of_language(alloc, text_or(&settings.language, job.language))?;
+    let job = settle(alloc, job, settings)?;
+    let tokens = Tokens::of_language(alloc, job.language)?;
     for doc in &job.docs {
         notes.document(&tokens, doc.reference, &doc.values)?;
     }

@@ -1,7 +1,8 @@
 //! What is wrong in an input: where, what, and what to do.
+ghost use Rattle.elasticlunr_command.specs.Places.{IsOffsetOf};
 
 use crate::form::is_blank;
-use crate::place::{Place, Step, place_at, place_of};
+use crate::place::{Place, Step, line_start, place_at, place_of};
 use elasticlunr_job::kind::{Kind, kind_of};
 use serde_json::{Error, Value};
 use std::alloc::{AllocError, AllocFailed, Global};
@@ -79,7 +80,19 @@ pub(crate) fn wants(
     value: &Value,
     wanted: &str,
 ) -> Result<Message, AllocError> {
-    let found = kind_words(kind_of(value));
+    unfit(alloc, text, path, label, kind_of(value), wanted)
+}
+
+/// A message that a value of this kind stands where another is wanted.
+pub(crate) fn unfit(
+    alloc: Global,
+    text: &[u8],
+    path: &[Step<'_>],
+    label: &str,
+    found: Kind,
+    wanted: &str,
+) -> Result<Message, AllocError> {
+    let found = kind_words(found);
     let said = format!(in alloc; "{label}: {found}, where {wanted} is wanted")?;
     Ok(message_at(text, path, said))
 }
@@ -146,15 +159,11 @@ fn half_at(text: &[u8], at: usize) -> Option<Half> {
 }
 
 /// The offset of a line and a column, both from 1, which counts bytes.
-fn offset_of(text: &[u8], line: usize, column: usize) -> usize {
-    let mut left = line;
-    for (at, byte) in text.iter().enumerate() {
-        if left <= 1 {
-            return at.saturating_add(column.saturating_sub(1));
-        }
-        if *byte == b'\n' {
-            left -= 1;
-        }
-    }
-    text.len()
+fn offset_of(text: &[u8], line: usize, column: usize) -> usize
+    ensures { IsOffsetOf text.now line column result }
+{
+    let start = line_start(text, line);
+    start
+        .saturating_add(column.saturating_sub(1))
+        .min(text.len())
 }

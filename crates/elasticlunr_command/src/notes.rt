@@ -2,7 +2,7 @@
 
 use crate::tokens::Tokens;
 use std::alloc::{AllocError, Global};
-use std::collections::BTreeMap;
+use std::collections::{BTreeMap, HashSet};
 
 /// The names that each object of JavaScript has: a script that keeps documents in an object takes
 /// them for what is there already.
@@ -30,6 +30,8 @@ pub(crate) struct Notes {
     /// Whether a field has a text, by its number.
     has_text: Vec<bool>,
     pub documents: usize,
+    /// The tokens of all documents, each once.
+    tokens: HashSet<String>,
     pub warnings: Vec<String>,
 }
 
@@ -40,8 +42,15 @@ impl Notes {
             references: BTreeMap::new(alloc),
             has_text: Vec::new(alloc),
             documents: 0,
+            tokens: HashSet::new(alloc),
             warnings: Vec::new(alloc),
         }
+    }
+
+    /// How many tokens the documents have that differ; those of a document whose place another
+    /// takes, or that is removed, count as well.
+    pub(crate) fn token_count(&self) -> usize {
+        self.tokens.len()
     }
 
     /// Takes the next document.
@@ -67,9 +76,9 @@ impl Notes {
             self.warnings.push(said)?;
         }
         if TAKEN.contains(&reference) {
-            let said = format!(in self.alloc;
-                "document {number} (\"{reference}\"): each object of JavaScript has a property of this name, so the script of browsers fails on it"
-            )?;
+            let why =
+                "each object of JavaScript has a property of this name, so the script of browsers fails on it";
+            let said = format!(in self.alloc; "document {number} (\"{reference}\"): {why}")?;
             self.warnings.push(said)?;
         }
         Ok(())
@@ -90,7 +99,7 @@ impl Notes {
                 Some(seen) => *seen = *seen || is_filled,
                 None => self.has_text.push(is_filled)?,
             }
-            has_token = has_token || tokens.are_in(self.alloc, value)?;
+            has_token = self.take_tokens(tokens.of_text(self.alloc, value)?)? || has_token;
         }
         if !has_token {
             let said = format!(in self.alloc;
@@ -99,6 +108,15 @@ impl Notes {
             self.warnings.push(said)?;
         }
         Ok(())
+    }
+
+    /// Takes the tokens of a text, and says whether there is one.
+    fn take_tokens(&mut self, tokens: Vec<String>) -> Result<bool, AllocError> {
+        let is_any = !tokens.is_empty();
+        for token in tokens {
+            self.tokens.insert(token)?;
+        }
+        Ok(is_any)
     }
 
     /// Takes the end of the documents, and the fields.

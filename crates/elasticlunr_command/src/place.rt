@@ -1,5 +1,6 @@
 //! Where a member of a JSON text stands.
-ghost use Rattle.std.specs.Prelude.{◌≡◌, ◌≤◌, ◌+◌, length};
+ghost use Rattle.std.specs.Prelude.{◌≡◌, ◌+◌, ◌⊎◌, min};
+ghost use Rattle.elasticlunr_command.specs.Places.{is_first, place_at, IsLineStart, IsPlaceIn};
 
 /// A step from a value to a member of it.
 #[derive(Clone, Copy, Debug, PartialEq, Eq)]
@@ -17,7 +18,10 @@ pub(crate) struct Place {
 
 impl Place {
     /// The place where so many more lines stand before it.
-    pub(crate) fn below(self, lines: usize) -> Place {
+    pub(crate) fn below(self, lines: usize) -> Place
+        ensures line { result.line ≡ min (self.line + lines) usize.MAX }
+        ensures column { result.column ≡ self.column }
+    {
         Place {
             line: self.line.saturating_add(lines),
             column: self.column,
@@ -25,30 +29,52 @@ impl Place {
     }
 }
 
-/// The place of the byte at an offset of a text.
-pub(crate) fn place_at(text: &[u8], offset: usize) -> Place {
+/// The place of the byte at an offset of a text; beyond the text, that of its end.
+pub(crate) fn place_at(text: &[u8], offset: usize) -> Place
+    ensures { result ≡ place_at text.now offset }
+{
     let before = &text[..offset.min(text.len())];
-    let mut line = 1usize;
-    let mut column = 1usize;
+    let mut line = 1;
+    let mut column = 1;
     for byte in before {
         if *byte == b'\n' {
-            line = line.saturating_add(1);
+            line += 1;
             column = 1;
-        } else if !is_continued(*byte) {
-            column = column.saturating_add(1);
+        } else if is_first(*byte) {
+            column += 1;
         }
     }
     Place { line, column }
 }
 
-/// Whether a byte of UTF-8 is not the first of its character.
-fn is_continued(byte: u8) -> bool {
-    byte & 0xc0 == 0x80
+/// The offset at which a line begins, from 1; the end of the text where it has fewer lines.
+pub(crate) fn line_start(text: &[u8], line: usize) -> usize
+    ensures { IsLineStart text.now line result }
+{
+    let mut here = 1;
+    for (at, byte) in text.iter().enumerate() {
+        if here >= line {
+            return at;
+        }
+        if *byte == b'\n' {
+            here += 1;
+        }
+    }
+    text.len()
+}
+
+/// Whether a byte of UTF-8 begins a character.
+fn is_first(byte: u8) -> bool
+    ensures { result ≡ is_first byte }
+{
+    byte & 0xc0 != 0x80
 }
 
 /// The place of the member that a path leads to in a JSON text. Where a key of the path is written
 /// with escapes, it is the place of the last member before it.
-pub(crate) fn place_of(text: &[u8], path: &[Step<'_>]) -> Place {
+pub(crate) fn place_of(text: &[u8], path: &[Step<'_>]) -> Place
+    ensures { IsPlaceIn text.now result }
+{
     let mut walk = Walk::new(text, path);
     for (at, byte) in text.iter().enumerate() {
         walk.take(at, *byte);
@@ -79,7 +105,9 @@ struct Walk<'a> {
 }
 
 impl<'a> Walk<'a> {
-    fn new(text: &'a [u8], path: &'a [Step<'a>]) -> Walk<'a> {
+    fn new(text: &'a [u8], path: &'a [Step<'a>]) -> Walk<'a>
+        ensures { result.found ≡ 0 }
+    {
         Walk {
             text,
             path,
@@ -97,7 +125,9 @@ impl<'a> Walk<'a> {
     }
 
     /// Takes the byte at an offset.
-    fn take(&mut self, at: usize, byte: u8) {
+    fn take(&mut self, at: usize, byte: u8)
+        ensures { (self.new.found ≡ self.old.found) ⊎ (self.new.found ≡ at) }
+    {
         if self.in_text {
             self.take_of_text(at, byte);
             return;
@@ -122,7 +152,9 @@ impl<'a> Walk<'a> {
     }
 
     /// Takes a byte of a text.
-    fn take_of_text(&mut self, at: usize, byte: u8) {
+    fn take_of_text(&mut self, at: usize, byte: u8)
+        ensures { self.new.found ≡ self.old.found }
+    {
         if self.is_escaped {
             self.is_escaped = false;
         } else if byte == b'\\' {
@@ -152,7 +184,9 @@ impl<'a> Walk<'a> {
     }
 
     /// A value or a key begins.
-    fn begin(&mut self, at: usize) {
+    fn begin(&mut self, at: usize)
+        ensures { (self.new.found ≡ self.old.found) ⊎ (self.new.found ≡ at) }
+    {
         if self.depth != 0 && !self.is_at_path() {
             return;
         }
@@ -172,7 +206,9 @@ impl<'a> Walk<'a> {
     }
 
     /// So many steps lead here.
-    fn note(&mut self, met: usize, at: usize) {
+    fn note(&mut self, met: usize, at: usize)
+        ensures { (self.new.found ≡ self.old.found) ⊎ (self.new.found ≡ at) }
+    {
         self.met = met;
         self.item = 0;
         self.is_key = false;
@@ -184,7 +220,9 @@ impl<'a> Walk<'a> {
     }
 
     /// A member ends.
-    fn end_item(&mut self) {
+    fn end_item(&mut self)
+        ensures { self.new.found ≡ self.old.found }
+    {
         self.leave_scalar();
         if self.is_at_path() {
             self.item = self.item.saturating_add(1);
@@ -194,14 +232,18 @@ impl<'a> Walk<'a> {
     }
 
     /// An array or an object ends.
-    fn leave(&mut self) {
+    fn leave(&mut self)
+        ensures { self.new.found ≡ self.old.found }
+    {
         self.leave_scalar();
         self.depth = self.depth.saturating_sub(1);
         self.leave_scalar();
     }
 
     /// Goes back to the value around the one that the steps led to, where that has ended.
-    fn leave_scalar(&mut self) {
+    fn leave_scalar(&mut self)
+        ensures { self.new.found ≡ self.old.found }
+    {
         if self.met > 0 && self.depth == self.met {
             self.met -= 1;
             self.item = match self.path.get(self.met) {

@@ -3,10 +3,12 @@ ghost use Rattle.std.specs.Prelude.{◌≡◌, map, option_map, string_bytes, un
 ghost use Rattle.elasticlunr_text.specs.Text.{bytes_of};
 ghost use Rattle.elasticlunr_job.specs.JobTold.{job_told};
 ghost use Rattle.elasticlunr_command.specs.Settled.{settled, settings_told};
+ghost use Rattle.elasticlunr_command.specs.Words.{AreSettings, is_called, name_asked, names_in, same_but_for_case};
+ghost use Rattle.elasticlunr_lang.specs.Known.{all_languages, language_name};
 
 use clap::ArgMatches;
 use elasticlunr_job::job::Job;
-use elasticlunr_lang::{Language, languages};
+use elasticlunr_lang::{AnyLanguage, Language, languages};
 use std::alloc::{AllocError, Global};
 
 /// What the command line says of an index.
@@ -26,7 +28,10 @@ impl Settings {
         alloc: Global,
         given: &ArgMatches<'_>,
         language: Option<String>,
-    ) -> Result<Settings, AllocError> {
+    ) -> Result<Settings, AllocError>
+        ensures { IfOk result (λ settings.
+            AreSettings given.now (option_map string_bytes language) (settings_told settings)) }
+    {
         Ok(Settings {
             reference: owned(alloc, given.get_str("ref"))?,
             fields: owned_names(alloc, given.get_str("fields"))?,
@@ -38,7 +43,9 @@ impl Settings {
 }
 
 /// A copy of a text.
-fn owned(alloc: Global, text: Option<&str>) -> Result<Option<String>, AllocError> {
+fn owned(alloc: Global, text: Option<&str>) -> Result<Option<String>, AllocError>
+    ensures { IfOk result (λ copy. option_map string_bytes copy ≡ option_map (λ s. s.now) text.entry) }
+{
     match text {
         Some(text) => Ok(Some(String::from_str(alloc, text)?)),
         None => Ok(None),
@@ -46,15 +53,32 @@ fn owned(alloc: Global, text: Option<&str>) -> Result<Option<String>, AllocError
 }
 
 /// Copies of the names in a text with commas between them.
-fn owned_names(alloc: Global, text: Option<&str>) -> Result<Option<Vec<String>>, AllocError> {
-    let Some(text) = text else {
-        return Ok(None);
-    };
-    let mut names = Vec::new(alloc);
-    for name in text.split(',') {
-        names.push(String::from_str(alloc, name)?)?;
+fn owned_names(alloc: Global, text: Option<&str>) -> Result<Option<Vec<String>>, AllocError>
+    ensures { IfOk result (λ names.
+        option_map (λ copies. bytes_of copies.items) names ≡ option_map (λ s. names_in s.now) text.entry) }
+{
+    match text {
+        Some(text) => Ok(Some(copies_of(alloc, &names_in(alloc, text)?)?)),
+        None => Ok(None),
     }
-    Ok(Some(names))
+}
+
+/// The parts of a text between commas.
+fn names_in(alloc: Global, text: &str) -> Result<Vec<&str>, AllocError>
+    ensures { IfOk result (λ names. map (λ name. name.now) names.items ≡ names_in text.now) }
+{
+    text.split(',').collect(alloc)
+}
+
+/// Copies of texts.
+fn copies_of(alloc: Global, texts: &[&str]) -> Result<Vec<String>, AllocError>
+    ensures { IfOk result (λ copies. bytes_of copies.items ≡ map (λ text. text.now) texts.now) }
+{
+    let mut copies = Vec::new(alloc);
+    for text in texts {
+        copies.push(String::from_str(alloc, *text)?)?;
+    }
+    Ok(copies)
 }
 
 /// The texts of strings.
@@ -99,7 +123,8 @@ pub(crate) fn settle<'a>(
     job: Job<'a>,
     settings: &'a Settings,
 ) -> Result<Job<'a>, AllocError>
-    ensures { IfOk result (λ settled_job. job_told settled_job ≡ settled (settings_told settings.now) (job_told job.entry)) }
+    ensures { IfOk result (λ settled_job.
+        job_told settled_job ≡ settled (settings_told settings.now) (job_told job.entry)) }
 {
     Ok(Job {
         fields: texts_or(alloc, &settings.fields, job.fields)?,
@@ -114,19 +139,37 @@ pub(crate) fn settle<'a>(
 }
 
 /// The name of the language that has this name or code, in capitals or small letters.
-pub(crate) fn language_name(alloc: Global, asked: &str) -> Result<Option<String>, AllocError> {
+pub(crate) fn language_name(alloc: Global, asked: &str) -> Result<Option<String>, AllocError>
+    ensures { IfOk result (λ name. option_map string_bytes name ≡ name_asked asked.now) }
+{
     for language in languages() {
-        let name = language.name(alloc)?;
-        let code = language.code(alloc)?;
-        if name.as_str().eq_ignore_ascii_case(asked) || code.as_str().eq_ignore_ascii_case(asked) {
-            return Ok(Some(name));
+        if is_called(alloc, language, asked)? {
+            return Ok(Some(language.name(alloc)?));
         }
     }
     Ok(None)
 }
 
+/// Whether a language has this name or code, in capitals or small letters.
+fn is_called(alloc: Global, language: AnyLanguage, asked: &str) -> Result<bool, AllocError>
+    ensures { IfOk result (λ is_called_so. is_called_so ≡ is_called asked.now language) }
+{
+    let name = language.name(alloc)?;
+    let code = language.code(alloc)?;
+    Ok(same_but_for_case(name.as_str(), asked) || same_but_for_case(code.as_str(), asked))
+}
+
+/// Whether texts are equal but for the case of ASCII letters.
+fn same_but_for_case(text: &str, other: &str) -> bool
+    ensures { result ≡ same_but_for_case text.now other.now }
+{
+    text.eq_ignore_ascii_case(other)
+}
+
 /// The names of the languages.
-pub(crate) fn all_names(alloc: Global) -> Result<Vec<String>, AllocError> {
+pub(crate) fn all_names(alloc: Global) -> Result<Vec<String>, AllocError>
+    ensures { IfOk result (λ names. bytes_of names.items ≡ map language_name all_languages) }
+{
     let mut names = Vec::new(alloc);
     for language in languages() {
         names.push(language.name(alloc)?)?;

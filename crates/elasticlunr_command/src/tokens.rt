@@ -22,10 +22,11 @@ impl Tokens {
         Ok(Tokens { language, pipeline })
     }
 
-    /// Whether the stages leave a token of a text.
-    pub(crate) fn are_in(&self, alloc: Global, text: &str) -> Result<bool, AllocError> {
+    /// The tokens that the stages leave of a text, but for empty ones.
+    pub(crate) fn of_text(&self, alloc: Global, text: &str) -> Result<Vec<String>, AllocError> {
         let tokens = self.language.tokenize(alloc, text)?;
-        let left = self.pipeline.run(alloc, tokens)?;
-        Ok(left.iter().any(|token| !token.is_empty()))
+        let mut left = self.pipeline.run(alloc, tokens)?;
+        left.retain(|token| !token.is_empty());
+        Ok(left)
     }
 }

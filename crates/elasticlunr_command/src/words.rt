@@ -97,7 +97,12 @@ fn input_words<'a>(alloc: Global, command: Command<'a>) -> Result<Command<'a>, A
         .arg(reference)?
         .arg(fields)?
         .arg(language)?
-        .arg(flag(alloc, "strict", "Refuses what there is a warning of"))
+        .arg(flag(alloc, "strict", "Refuses what there is a warning of"))?
+        .arg(flag(
+            alloc,
+            "progress",
+            "Says when the input is read and its index made",
+        ))
 }
 
 /// `search`: an index, a query, and how its words are joined.

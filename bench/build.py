@@ -24,6 +24,7 @@ import room
 LOGS = os.path.join(room.TOP, "out")
 FIRST = {"elasticlunr_index": "some 20 minutes on four cores"}  # what a build from nothing takes
 SHOWN = 40  # lines of the log that are shown where a crate isn't proved
+BUILT = (b"\nlogic=proved ", b"nothing has changed since the last proved build")  # what rt says of a program
 
 
 def folder(crate):
@@ -67,11 +68,17 @@ def say(text):
 
 
 def rt(command, at, jobs, log):
-    """One run of rt in a crate's folder: whether all is proved. A program is run on its stored input."""
+    """One run of rt in a crate's folder: whether all is proved. A program is run on its stored input.
+
+    Its own status is not asked for: it may want words or files that it does not get here.
+    """
     words = ["rt", *command] + (["--jobs", str(jobs)] if jobs else [])
     stored = os.path.join(at, "stdin")
     with open(log, "wb") as file, open(stored if os.path.exists(stored) else os.devnull, "rb") as given:
-        return subprocess.run(words, cwd=at, stdin=given, stdout=file, stderr=file).returncode == 0
+        status = subprocess.run(words, cwd=at, stdin=given, stdout=file, stderr=file).returncode
+    with open(log, "rb") as file:
+        said = file.read()
+    return status == 0 or (command == ["run"] and any(it in said for it in BUILT))
 
 
 def prove(crate, command, jobs, log, is_alone):

@@ -47,6 +47,10 @@ module _ (makes : Bytes → List Bytes → Document → Type 0) where
     pub each : AllZip IsCommandOf calls list
     pub whole : commands ≡ followed_by none list
 
+-- calls were the same commands where the one and where the other makes the documents
+abbrev pub SameCommands : (makes other : Bytes → List Bytes → Document → Type 0) → Type 0
+SameCommands makes other = (calls : List Call) (left right : Commands) → AreCommandsOf makes calls left → AreCommandsOf other calls right → left ≡ right
+
 -- what calls were where the one makes the documents, they were where the other does, too
 abbrev pub CommandsOnly : (makes other : Bytes → List Bytes → Document → Type 0) → Type 0
 CommandsOnly makes other = (calls : List Call) (commands : Commands) → AreCommandsOf makes calls commands → AreCommandsOf other calls commands

@@ -6,7 +6,7 @@ use Rattle.serde_json.specs.Data.{Data}
 use Rattle.elasticlunr.specs.Calls.{Call, adding, removing, compacting, AreCommandsOf}
 use Rattle.elasticlunr.specs.Documents as documents
 use Rattle.elasticlunr.specs.Fields.{all_differ}
-use Rattle.elasticlunr.specs.History.{Commands}
+use Rattle.elasticlunr.specs.History.{Commands, Document}
 use Rattle.elasticlunr.specs.Printed.{IsTextAfter}
 use Rattle.elasticlunr.specs.Standing.{Plan}
 
@@ -57,3 +57,9 @@ pub record IsPrintedAfter (reads : ℕ → Bytes → List Text → Type 0) (text
   pub commands : Commands
   pub were : AreCommandsOf (documents.IsDocument plan.fields plan.reference_field reads) calls commands
   pub printed : IsTextAfter text_of plan commands text
+
+-- what is printed after the same calls is equal: of the one plan where the one makes the documents, of the other where the other does
+abbrev pub SameTexts : (makes other : Bytes → List Bytes → Document → Type 0) (plan another_plan : Plan) → Type 0
+SameTexts makes other plan another_plan = (calls : List Call) (left right : Commands) (text_of : Data → List ℕ) (text another : List ℕ)
+    → AreCommandsOf makes calls left → AreCommandsOf other calls right
+    → IsTextAfter text_of plan left text → IsTextAfter text_of another_plan right another → text ≡ another

@@ -33,3 +33,8 @@ IsKeptPrint language text_of plan calls text = IsPrintedAfter (KeptReads languag
 -- the text is what an index of this language and these fields prints after these calls, where nothing else was chosen
 abbrev pub IsTextOfCalls : AnyLanguage → (fields : List Bytes) → List Call → (text : List ℕ) → Type 0
 IsTextOfCalls language fields calls text = IsKeptPrint language compact_text (fields_plan (language_name language) (language_stages language) fields) calls text
+
+-- whatever the language and the plan, what is printed after the one calls and after the other is equal
+abbrev pub HaveEqualPrints : (calls others : List Call) → Type 0
+HaveEqualPrints calls others = (language : AnyLanguage) (plan : Plan) (text_of : Data → List ℕ) (text another : List ℕ)
+    → IsKeptPrint language text_of plan calls text → IsKeptPrint language text_of plan others another → text ≡ another

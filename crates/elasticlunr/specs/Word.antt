@@ -1,11 +1,14 @@
 -- The value of an index of one document, in whose one field one token is read.
-use Rattle.std.specs.Prelude.{List, [], ◌∷◌, true, codes, encode_utf8}
+use Rattle.std.specs.Prelude.{◌≡◌, ℕ, List, [], ◌∷◌, true, codes, encode_utf8}
 use Rattle.std.specs.FinMap.{put as put_entry}
 use Rattle.serde_json.specs.Data.{Data, number, string, object, unsigned, no_members, member, put}
 use Rattle.elasticlunr_text.specs.Text.{Text, Bytes, text_cmp}
 use Rattle.elasticlunr_store.specs.Contents.{store_object}
 use Rattle.elasticlunr_store.specs.Maps.{members, count}
 use Rattle.elasticlunr_store.specs.Tree.{frequencies}
+use Rattle.elasticlunr_lang.specs.declared.any.AnyLanguage.{AnyLanguage}
+use Rattle.elasticlunr.specs.Calls.{adding}
+use Rattle.elasticlunr.specs.Kept.{IsKeptPrint}
 use Rattle.elasticlunr.specs.Printed.{index_object}
 use Rattle.elasticlunr.specs.Standing.{Plan}
 
@@ -32,3 +35,8 @@ word_store reference_field field reference value = store_object true
 -- the value of the index
 abbrev pub word_value : Plan → (field reference value : Bytes) (token : Text) → Data
 word_value plan field reference value token = index_object plan (word_trie token reference ∷ []) (word_store plan.reference_field field reference value)
+
+-- what an index of this plan and language prints after this document alone is the path of this token
+abbrev pub PrintsPath : AnyLanguage → Plan → (field reference value : Bytes) (token : Text) → Type 0
+PrintsPath language plan field reference value token = (text_of : Data → List ℕ) (text : List ℕ)
+    → IsKeptPrint language text_of plan (adding reference (value ∷ []) ∷ []) text → text ≡ text_of (word_value plan field reference value token)

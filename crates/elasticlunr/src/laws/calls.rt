@@ -1,17 +1,14 @@
 //! Laws of the calls of an index: equal calls leave equal commands, and print equal texts.
-ghost use Rattle.std.specs.Prelude.{◌≡◌, ℕ, List};
+ghost use Rattle.std.specs.Prelude.{List};
 ghost use Rattle.elasticlunr_text.specs.Text.{Bytes};
 ghost use Rattle.elasticlunr_lang.specs.declared.any.AnyLanguage.{AnyLanguage};
-ghost use Rattle.elasticlunr.specs.Calls.{AreCommandsOf, Call, CommandsOnly, HasOneDocument, HasOneReading, MakesOnly};
-ghost use Rattle.elasticlunr.specs.Documents.{IsDocument as IsDocumentOf};
-ghost use Rattle.elasticlunr.specs.History.{Commands};
-ghost use Rattle.elasticlunr.specs.Index.{choices_of, IsDocument, plan_of, reads_of, SameSettings};
+ghost use Rattle.elasticlunr.specs.Calls.{CommandsOnly, HasOneDocument, HasOneReading, MakesOnly, SameCommands};
+ghost use Rattle.elasticlunr.specs.Current.{SameTexts};
+ghost use Rattle.elasticlunr.specs.Index.{IsDocument, IsDocumentBy, plan_of, reads_of, ReadsAs, SameSettings};
 ghost use Rattle.elasticlunr.specs.Kept.{IsKeptDocument, KeptReads};
-ghost use Rattle.elasticlunr.specs.Printed.{IsTextAfter};
-ghost use Rattle.elasticlunr.specs.ReadDocuments.{AreRead};
-ghost use Rattle.elasticlunr.specs.Reading.{LanguageReads, ReadsOnly};
+ghost use Rattle.elasticlunr.specs.ReadDocuments.{MadeAreRead};
+ghost use Rattle.elasticlunr.specs.Reading.{LanguageReads};
 ghost use Rattle.elasticlunr.specs.Standing.{Plan};
-ghost use Rattle.serde_json.specs.Data.{Data};
 
 use super::values::settings_and_commands_have_one_value;
 use crate::index::Index;
@@ -39,14 +36,10 @@ pub fn a_kept_language_makes_one_document()
 /// An index that reads only what a language reads makes only documents, and so commands, that are
 /// made by the language.
 pub fn an_index_makes_what_its_language_makes<L: Language>(index: &Index<L>)
-    ensures documents { (lang : L)
-        → ReadsOnly (reads_of L.tokens_of leaves index.now) (LanguageReads (L.tokens_of lang) (L.leaves_of lang))
-        → MakesOnly (IsDocument L.tokens_of leaves index.now) (IsDocumentOf (choices_of index.now).fields
-        (choices_of index.now).reference_field (LanguageReads (L.tokens_of lang) (L.leaves_of lang))) }
-    ensures commands { (lang : L)
-        → ReadsOnly (reads_of L.tokens_of leaves index.now) (LanguageReads (L.tokens_of lang) (L.leaves_of lang))
-        → CommandsOnly (IsDocument L.tokens_of leaves index.now) (IsDocumentOf (choices_of index.now).fields
-        (choices_of index.now).reference_field (LanguageReads (L.tokens_of lang) (L.leaves_of lang))) }
+    ensures documents { (lang : L) → ReadsAs L.tokens_of leaves L.leaves_of index.now lang → MakesOnly
+        (IsDocument L.tokens_of leaves index.now) (IsDocumentBy L.tokens_of L.leaves_of index.now lang) }
+    ensures commands { (lang : L) → ReadsAs L.tokens_of leaves L.leaves_of index.now lang → CommandsOnly
+        (IsDocument L.tokens_of leaves index.now) (IsDocumentBy L.tokens_of L.leaves_of index.now lang) }
 {}
 
 /// Two indexes with equal settings make equal documents. Equal calls of both are equal commands,
@@ -54,15 +47,11 @@ pub fn an_index_makes_what_its_language_makes<L: Language>(index: &Index<L>)
 pub fn equal_settings_print_equal_texts<L: Language>(index: &Index<L>, other: &Index<L>)
     ensures documents { SameSettings index.now other.now
         → MakesOnly (IsDocument L.tokens_of leaves other.now) (IsDocument L.tokens_of leaves index.now) }
-    ensures commands { SameSettings index.now other.now → (calls : List Call) (left right : Commands)
-        → AreCommandsOf (IsDocument L.tokens_of leaves index.now) calls left
-        → AreCommandsOf (IsDocument L.tokens_of leaves other.now) calls right → left ≡ right }
-    ensures texts { SameSettings index.now other.now → (calls : List Call) (left right : Commands)
-        (text_of : Data → List ℕ) (text another : List ℕ)
-        → AreCommandsOf (IsDocument L.tokens_of leaves index.now) calls left
-        → AreCommandsOf (IsDocument L.tokens_of leaves other.now) calls right
-        → IsTextAfter text_of (plan_of L.name_of name_text index.now) left text
-        → IsTextAfter text_of (plan_of L.name_of name_text other.now) right another → text ≡ another }
+    ensures commands { SameSettings index.now other.now
+        → SameCommands (IsDocument L.tokens_of leaves index.now) (IsDocument L.tokens_of leaves other.now) }
+    ensures texts { SameSettings index.now other.now
+        → SameTexts (IsDocument L.tokens_of leaves index.now) (IsDocument L.tokens_of leaves other.now)
+        (plan_of L.name_of name_text index.now) (plan_of L.name_of name_text other.now) }
 {
     an_index_makes_one_document(index);
     settings_and_commands_have_one_value();
@@ -72,14 +61,9 @@ pub fn equal_settings_print_equal_texts<L: Language>(index: &Index<L>, other: &I
 /// of one plan print after them are equal.
 pub fn kept_languages_print_equal_texts()
     ensures commands { (language : AnyLanguage) (fields : List Bytes) (reference_field : Bytes)
-        (calls : List Call) (left right : Commands)
-        → AreCommandsOf (IsKeptDocument language fields reference_field) calls left
-        → AreCommandsOf (IsKeptDocument language fields reference_field) calls right → left ≡ right }
-    ensures texts { (language : AnyLanguage) (plan : Plan) (calls : List Call) (left right : Commands)
-        (text_of : Data → List ℕ) (text another : List ℕ)
-        → AreCommandsOf (IsKeptDocument language plan.fields plan.reference_field) calls left
-        → AreCommandsOf (IsKeptDocument language plan.fields plan.reference_field) calls right
-        → IsTextAfter text_of plan left text → IsTextAfter text_of plan right another → text ≡ another }
+        → let makes = IsKeptDocument language fields reference_field in SameCommands makes makes }
+    ensures texts { (language : AnyLanguage) (plan : Plan)
+        → let makes = IsKeptDocument language plan.fields plan.reference_field in SameTexts makes makes plan plan }
 {
     a_kept_language_makes_one_document();
     settings_and_commands_have_one_value();
@@ -87,8 +71,5 @@ pub fn kept_languages_print_equal_texts()
 
 /// A language read the documents of calls that it makes the documents of.
 pub fn documents_of_calls_are_read<L: Language>()
-    ensures { (language : L) (fields : List Bytes) (reference_field : Bytes) (calls : List Call) (commands : Commands)
-        → AreCommandsOf (IsDocumentOf fields reference_field
-        (LanguageReads (L.tokens_of language) (L.leaves_of language))) calls commands
-        → AreRead (LanguageReads (L.tokens_of language) (L.leaves_of language)) fields reference_field commands }
+    ensures { (language : L) → MadeAreRead (LanguageReads (L.tokens_of language) (L.leaves_of language)) }
 {}

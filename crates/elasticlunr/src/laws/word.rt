@@ -1,11 +1,9 @@
 //! The law of an index of one word.
-ghost use Rattle.std.specs.Prelude.{◌≡◌, ◌≢◌, ◌∷◌, [], ℕ, List};
+ghost use Rattle.std.specs.Prelude.{◌≢◌, [], List};
 ghost use Rattle.elasticlunr_text.specs.Text.{Text, Bytes};
 ghost use Rattle.elasticlunr_lang.specs.declared.any.AnyLanguage.{AnyLanguage};
-ghost use Rattle.elasticlunr.specs.Calls.{adding};
-ghost use Rattle.elasticlunr.specs.Kept.{IsKeptPrint, ReadsOneToken};
-ghost use Rattle.elasticlunr.specs.Word.{one_field_plan, word_value};
-ghost use Rattle.serde_json.specs.Data.{Data};
+ghost use Rattle.elasticlunr.specs.Kept.{ReadsOneToken};
+ghost use Rattle.elasticlunr.specs.Word.{one_field_plan, PrintsPath};
 
 use elasticlunr_store::laws::one_value_a_table;
 
@@ -13,11 +11,9 @@ use elasticlunr_store::laws::one_value_a_table;
 /// a path of the token's characters, and at its end the root of 1 for the reference.
 pub fn one_word_is_a_path()
     ensures { (language : AnyLanguage) (name : Bytes) (stages : List Bytes)
-        (reference_field field reference value : Bytes) (token : Text) (text_of : Data → List ℕ) (text : List ℕ)
+        (reference_field field reference value : Bytes) (token : Text)
         → field ≢ reference_field → token ≢ [] → ReadsOneToken language value token
-        → let plan = one_field_plan name stages reference_field field in
-        IsKeptPrint language text_of plan (adding reference (value ∷ []) ∷ []) text
-        → text ≡ text_of (word_value plan field reference value token) }
+        → PrintsPath language (one_field_plan name stages reference_field field) field reference value token }
 {
     one_value_a_table();
 }

@@ -1,14 +1,8 @@
 //! What is printed for an input.
-ghost use Rattle.std.specs.Prelude.{◌≡◌, ℕ, List, Some, IfOk, codes, slice_get, string_bytes};
+ghost use Rattle.std.specs.Prelude.{◌≡◌, Some, IfOk, codes, string_bytes};
 ghost use Rattle.elasticlunr_text.specs.Text.{bytes_of};
 ghost use Rattle.elasticlunr_lang.specs.Known.{language_name};
-ghost use Rattle.elasticlunr_lang.specs.declared.any.AnyLanguage.{AnyLanguage};
-ghost use Rattle.elasticlunr.specs.History.{Commands};
-ghost use Rattle.elasticlunr.specs.Printed.{IsPrintOf};
-ghost use Rattle.elasticlunr.specs.ReadDocuments.{AreRead};
-ghost use Rattle.elasticlunr.specs.Reading.{LanguageReads};
-ghost use Rattle.elasticlunr.specs.Standing.{Plan};
-ghost use Rattle.elasticlunr_search.specs.Words.{Finds};
+ghost use Rattle.elasticlunr_find.specs.Answers.{AreFoundOf};
 ghost use Rattle.elasticlunr_find.specs.Lines.{lines};
 ghost use Rattle.serde_json.specs.Data.{string};
 ghost use Rattle.serde_json.specs.Find.{get};
@@ -101,16 +95,7 @@ fn json(alloc: Global, text: &str, unread: Refusal) -> Result<Value, Refusal>
 
 /// The references that are found in the value of a printed index, by the language that it names.
 fn find_in(alloc: Global, request: &Request<'_>, index: &Value) -> Result<Vec<String>, Refusal>
-    ensures { IfOk result (λ found. (language : AnyLanguage)
-        × (get (codes "lang") (view index.now) ≡ Some (string (language_name language)))
-        × ((plan : Plan) (commands : Commands) (text : List ℕ)
-        → read text ≡ Some (view index.now) → IsPrintOf plan commands text
-        → AreRead (LanguageReads (⟦<AnyLanguage as Language>⟧.tokens_of language)
-        (⟦<AnyLanguage as Language>⟧.leaves_of language)) plan.fields plan.reference_field commands
-        → (i : ℕ) × (slice_get plan.fields i ≡ Some request.now.field.now)
-        × Finds (LanguageReads (⟦<AnyLanguage as Language>⟧.tokens_of language)
-        (⟦<AnyLanguage as Language>⟧.leaves_of language))
-        request.now.join commands i request.now.query.now (bytes_of found.items))) }
+    ensures { IfOk result (λ found. AreFoundOf (view index.now) request.now (bytes_of found.items)) }
 {
     let language = language_of(index)?;
     let searcher = Searcher::from_value(alloc, language, index)?;
@@ -120,7 +105,8 @@ fn find_in(alloc: Global, request: &Request<'_>, index: &Value) -> Result<Vec<St
 
 /// The language that the value of a printed index names.
 fn language_of(index: &Value) -> Result<AnyLanguage, Refusal>
-    ensures { IfOk result (λ language. get (codes "lang") (view index.now) ≡ Some (string (language_name language))) }
+    ensures { IfOk result (λ language.
+        get (codes "lang") (view index.now) ≡ Some (string (language_name language))) }
 {
     let Some(lang) = index.get("lang") else {
         return Err(Refusal::UnknownLanguage);

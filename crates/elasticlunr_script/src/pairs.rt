@@ -80,8 +80,10 @@ fn pair_of<M: CharChange>(
     change: &M,
     code: u32,
 ) -> Result<Option<String>, AllocError>
-    ensures some { IfOk result (λ found. IfSome found (λ pair. InScalarRange code × (text_of pair ≡ code ∷ M.changed change.now code))) }
-    ensures none { IfOk result (λ found. IsNone found → InScalarRange code → M.changed change.now code ≡ code ∷ []) }
+    ensures some { IfOk result (λ found. IfSome found (λ pair. InScalarRange code
+        × (text_of pair ≡ code ∷ M.changed change.now code))) }
+    ensures none { IfOk result (λ found. IsNone found → InScalarRange code
+        → M.changed change.now code ≡ code ∷ []) }
 {
     let Some(c) = char::from_u32(code) else {
         return Ok(None);

@@ -17,7 +17,8 @@ use std::alloc::{AllocError, Global};
 
 /// The words of a filter in the order of their bytes.
 fn words_of(alloc: Global, filter: &StopWordFilter) -> Result<Vec<String>, AllocError>
-    ensures { IfOk result (λ words. (token : Text) → has_word filter.now token ≡ is_listed token (texts_of words.items)) }
+    ensures { IfOk result (λ words. (token : Text)
+        → has_word filter.now token ≡ is_listed token (texts_of words.items)) }
 {
     let mut words = Vec::new(alloc);
     for word in filter.stop_words() {

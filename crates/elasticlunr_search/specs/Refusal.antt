@@ -1,11 +1,14 @@
 -- Why a text is refused.
-use Rattle.std.specs.Prelude.{◌≡◌, ◌≢◌, ◌⊎◌, ℕ, List, Some, None}
+use Rattle.std.specs.Prelude.{◌≡◌, ◌≢◌, ◌<◌, ◌⊎◌, ℕ, List, Some, None}
 use Rattle.elasticlunr_text.specs.Text.{Bytes}
 use Rattle.elasticlunr_store.specs.Table.{Table}
 use Rattle.elasticlunr_store.specs.Contents.{Contents, IsConsistent}
+use Rattle.elasticlunr.specs.History.{Commands}
+use Rattle.elasticlunr.specs.Printed.{IsPrintOf}
 use Rattle.elasticlunr.specs.Shape.{HasFields, HasTries, HasStore, HasLanguage}
-use Rattle.serde_json.specs.Data.{Data}
-use Rattle.serde_json.specs.Read.{read}
+use Rattle.elasticlunr.specs.Standing.{Plan}
+use Rattle.serde_json.specs.Data.{Data, depth}
+use Rattle.serde_json.specs.Read.{read, max_depth}
 use Rattle.elasticlunr_search.specs.declared.error.SearchError.{SearchError}
 use Rattle.elasticlunr_search.specs.declared.error.SearchError.TheVariants.{NotRead, OtherLanguage, BadFields, BadTries, BadStore, NoSuchField, Memory}
 
@@ -34,3 +37,8 @@ RefusesValue language v e = ((e ≡ OtherLanguage) × NamesOther language v) ⊎
 -- why it refuses the text: it is not read, or its value is refused
 abbrev pub Refuses : (language : Bytes) → List ℕ → SearchError → Type 0
 Refuses language text e = ((e ≡ NotRead) × (read text ≡ None)) ⊎ (((v : Data) × (read text ≡ Some v) × RefusesValue language v e) ⊎ (e ≡ Memory))
+
+-- why it refuses a text that was printed of an index: for want of memory, for its depth, or since the index has another language
+abbrev pub RefusesPrint : (language : Bytes) → List ℕ → SearchError → Type 0
+RefusesPrint language text e = (plan : Plan) (commands : Commands) (print : IsPrintOf plan commands text)
+    → (e ≡ Memory) ⊎ ((max_depth < depth print.value) ⊎ ((e ≡ OtherLanguage) × (plan.language ≢ language)))

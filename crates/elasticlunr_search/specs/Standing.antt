@@ -1,12 +1,16 @@
 -- What a searcher stands for.
-use Rattle.std.specs.Prelude.{◌≡◌, List, Option}
+use Rattle.std.specs.Prelude.{◌≡◌, ℕ, List, Option}
 use Rattle.elasticlunr_text.specs.Text.{Text, Bytes, bytes_of}
 use Rattle.elasticlunr_text.specs.Stages.{LeavesBy}
 use Rattle.elasticlunr.specs.History.{Commands}
+use Rattle.elasticlunr.specs.Reading.{LanguageReads}
 use Rattle.elasticlunr.specs.Shape.{ArePartsOf}
 use Rattle.elasticlunr.specs.Standing.{Plan}
+use Rattle.elasticlunr_search.specs.Query.{IsFound}
+use Rattle.elasticlunr_search.specs.Words.{FindsInField}
 use Rattle.elasticlunr_search.specs.declared.printed.Printed.{Printed}
 use Rattle.elasticlunr_search.specs.declared.searcher.Searcher.{Searcher}
+use Rattle.elasticlunr_search.specs.declared.words.Join.{Join}
 
 -- what was read holds what these commands leave in an index of this plan
 abbrev pub IsReadOf : Printed → Plan → Commands → Type 0
@@ -22,3 +26,17 @@ module _ {L P X : Type 0} {O : X → Type 0} {p : _} where
     pub its_language : s.language ≡ language
     pub stages : LeavesBy leaves s.pipeline (leaves_of language)
     pub read : IsReadOf s.printed plan commands
+
+  -- whatever it searches, these references are found of the query in the field; `Finds` says it of the commands, the field's number and the query's tokens
+  abbrev pub AreFound : (tokens_of : L → Text → List Text) (leaves_of : L → Text → Option Text → Type 0) (leaves : (v : X) × O v → Text → Option Text) → Searcher L P X O p
+      → (Finds : Commands → ℕ → List Text → List Bytes → Type 0) → (field query : Bytes) → (found : List Bytes) → Type 0
+  AreFound tokens_of leaves_of leaves s Finds field query found = (language : L) (plan : Plan) (commands : Commands)
+      → StandsFor leaves_of leaves s language plan commands
+      → IsFound (Finds commands) (LanguageReads (tokens_of language) (leaves_of language)) plan.fields field query found
+
+  -- whatever it searches, where its language read the documents, these references are found of the query's text in the field
+  abbrev pub AreFoundInTexts : (tokens_of : L → Text → List Text) (leaves_of : L → Text → Option Text → Type 0) (leaves : (v : X) × O v → Text → Option Text) → Searcher L P X O p
+      → Join → (field query : Bytes) → (found : List Bytes) → Type 0
+  AreFoundInTexts tokens_of leaves_of leaves s join field query found = (language : L) (plan : Plan) (commands : Commands)
+      → StandsFor leaves_of leaves s language plan commands
+      → FindsInField (LanguageReads (tokens_of language) (leaves_of language)) join plan commands field query found

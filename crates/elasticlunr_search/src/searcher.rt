@@ -1,5 +1,5 @@
 //! Searches of a printed index, by a query in its language.
-ghost use Rattle.std.specs.Prelude.{◌≡◌, ◌≢◌, ◌<◌, ◌⊎◌, ◌↔◌, ℕ, List, false, Some, Err, IfOk, IfErr, IfSome, IsSome, IsTrue, length, option_map, slice_get};
+ghost use Rattle.std.specs.Prelude.{◌≡◌, ◌<◌, ◌⊎◌, ◌↔◌, ℕ, List, false, Some, Err, IfOk, IfErr, IfSome, IsSome, IsTrue, length, option_map, slice_get};
 ghost use Rattle.elasticlunr_text.specs.Stages.{LeavesBy};
 ghost use Rattle.elasticlunr_text.specs.Text.{bytes_of, texts_of};
 ghost use Rattle.elasticlunr_store.specs.Contents.{text_map};
@@ -7,15 +7,13 @@ ghost use Rattle.elasticlunr.specs.Fields.{has_name};
 ghost use Rattle.elasticlunr.specs.Found.{FindsAny, FindsAll};
 ghost use Rattle.elasticlunr.specs.History.{Commands, now};
 ghost use Rattle.elasticlunr.specs.Printed.{IsPrintOf};
-ghost use Rattle.elasticlunr.specs.ReadDocuments.{AreRead};
 ghost use Rattle.elasticlunr.specs.Reading.{LanguageReads};
 ghost use Rattle.elasticlunr.specs.Standing.{Plan, stored};
-ghost use Rattle.elasticlunr_search.specs.Query.{AreTokensOf, IsFound};
-ghost use Rattle.elasticlunr_search.specs.Refusal.{NamesOther, Refuses, RefusesValue};
-ghost use Rattle.elasticlunr_search.specs.Words.{Finds};
+ghost use Rattle.elasticlunr_search.specs.Query.{AreTokensOf};
+ghost use Rattle.elasticlunr_search.specs.Refusal.{NamesOther, Refuses, RefusesPrint, RefusesValue};
 ghost use Rattle.elasticlunr_search.specs.declared.error.SearchError.TheVariants.{OtherLanguage, NoSuchField, Memory};
-ghost use Rattle.serde_json.specs.Data.{Data, depth};
-ghost use Rattle.serde_json.specs.Read.{read, max_depth};
+ghost use Rattle.serde_json.specs.Data.{Data};
+ghost use Rattle.serde_json.specs.Read.{read};
 ghost use Rattle.serde_json.specs.View.{view};
 
 use crate::error::SearchError;
@@ -46,7 +44,7 @@ pub struct Searcher<L> {
 }
 
 impl<L: Language> Searcher<L> {
-    ghost use Rattle.elasticlunr_search.specs.Standing.{fields_of, StandsFor};
+    ghost use Rattle.elasticlunr_search.specs.Standing.{fields_of, AreFound, AreFoundInTexts, StandsFor};
 
     /// Reads the printed text of an index, in any layout, once. The index must have been built with
     /// this language: a text that names another one is refused, and one that names none is read.
@@ -55,10 +53,7 @@ impl<L: Language> Searcher<L> {
             → IsPrintOf plan commands text.now
             → StandsFor L.leaves_of leaves s language plan commands) }
         ensures refused { IfErr result (Refuses (L.name_of language) text.now) }
-        ensures accepted { IfErr result (λ e. (plan : Plan) (commands : Commands)
-            (print : IsPrintOf plan commands text.now)
-            → (e ≡ Memory) ⊎ ((max_depth < depth print.value)
-            ⊎ ((e ≡ OtherLanguage) × (plan.language ≢ L.name_of language)))) }
+        ensures accepted { IfErr result (RefusesPrint (L.name_of language) text.now) }
         ensures other { (v : Data) → read text.now ≡ Some v → NamesOther (L.name_of language) v
             → (result ≡ Err OtherLanguage) ⊎ (result ≡ Err Memory) }
     {
@@ -100,13 +95,8 @@ impl<L: Language> Searcher<L> {
     pub fn find(&self, join: Join, field: &str, query: &str) -> Result<Vec<String>, SearchError>
         ensures no_field { (result ≡ Err NoSuchField) ↔ (has_name field.now (fields_of self.now) ≡ false) }
         ensures errors { IfErr result (λ e. (e ≡ NoSuchField) ⊎ (e ≡ Memory)) }
-        ensures found { IfOk result (λ found. (language : L) (plan : Plan) (commands : Commands)
-            → StandsFor L.leaves_of leaves self.now language plan commands
-            → AreRead (LanguageReads (L.tokens_of language) (L.leaves_of language))
-            plan.fields plan.reference_field commands
-            → (i : ℕ) × (slice_get plan.fields i ≡ Some field.now)
-            × Finds (LanguageReads (L.tokens_of language) (L.leaves_of language))
-            join commands i query.now (bytes_of found.items)) }
+        ensures found { IfOk result (λ found. AreFoundInTexts L.tokens_of L.leaves_of leaves self.now
+            join field.now query.now (bytes_of found.items)) }
     {
         documents_have_the_tokens_of_their_values::<L>();
         match join {
@@ -120,10 +110,8 @@ impl<L: Language> Searcher<L> {
     pub fn find_any(&self, field: &str, query: &str) -> Result<Vec<String>, SearchError>
         ensures no_field { (result ≡ Err NoSuchField) ↔ (has_name field.now (fields_of self.now) ≡ false) }
         ensures errors { IfErr result (λ e. (e ≡ NoSuchField) ⊎ (e ≡ Memory)) }
-        ensures found { IfOk result (λ found. (language : L) (plan : Plan) (commands : Commands)
-            → StandsFor L.leaves_of leaves self.now language plan commands
-            → IsFound (FindsAny commands) (LanguageReads (L.tokens_of language) (L.leaves_of language))
-            plan.fields field.now query.now (bytes_of found.items)) }
+        ensures found { IfOk result (λ found. AreFound L.tokens_of L.leaves_of leaves self.now FindsAny
+            field.now query.now (bytes_of found.items)) }
     {
         postings_tell_tokens();
         let Some(trie) = self.trie(field) else {
@@ -140,10 +128,8 @@ impl<L: Language> Searcher<L> {
     pub fn find_all(&self, field: &str, query: &str) -> Result<Vec<String>, SearchError>
         ensures no_field { (result ≡ Err NoSuchField) ↔ (has_name field.now (fields_of self.now) ≡ false) }
         ensures errors { IfErr result (λ e. (e ≡ NoSuchField) ⊎ (e ≡ Memory)) }
-        ensures found { IfOk result (λ found. (language : L) (plan : Plan) (commands : Commands)
-            → StandsFor L.leaves_of leaves self.now language plan commands
-            → IsFound (FindsAll commands) (LanguageReads (L.tokens_of language) (L.leaves_of language))
-            plan.fields field.now query.now (bytes_of found.items)) }
+        ensures found { IfOk result (λ found. AreFound L.tokens_of L.leaves_of leaves self.now FindsAll
+            field.now query.now (bytes_of found.items)) }
     {
         postings_tell_tokens();
         let Some(trie) = self.trie(field) else {
@@ -197,7 +183,8 @@ impl<L: Language> Searcher<L> {
 
 /// Where the name stands.
 fn place_of(names: &[String], name: &str) -> Option<usize>
-    ensures found { IfSome result (λ i. (i < length names.now) × (slice_get (bytes_of names.now) i ≡ Some name.now)) }
+    ensures found { IfSome result (λ i. (i < length names.now)
+        × (slice_get (bytes_of names.now) i ≡ Some name.now)) }
     ensures is_found { IsSome result ↔ IsTrue (has_name name.now (bytes_of names.now)) }
 {
     for (i, other) in names.iter().enumerate() {

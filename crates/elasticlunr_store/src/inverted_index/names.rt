@@ -80,8 +80,8 @@ impl Names {
         Some(count - 1)
     }
 
-    /// The number of a name, which is added if it is new. The newest name, which comes most often, is
-    /// not looked up.
+    /// The number of a name, which is added if it is new. The newest name, which comes most often,
+    /// is not looked up.
     pub fn enter(&mut self, name: &str) -> Result<usize, AllocError>
         ensures names { OnOk result (self.new ≡ entered self.old name.now) }
         ensures number { IfOk result (λ n. number_of self.new name.now ≡ Some n) }

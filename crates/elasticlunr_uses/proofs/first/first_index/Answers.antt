@@ -60,5 +60,5 @@ returns c =
     let language : English = record {} in
     let one = c.in_ok-add_doc.ensures.after language _ _ (c.in_ok-index.ensures.after language) in
     if_ok c.to_json.result _ _
-    (λ text printed. c.one_word_is_a_path.ensures english _ _ _ (codes "body") (codes "1") (codes "go") (codes "go") compact_text _ (λ e. cc (e)) (λ e. cc (e)) only_go (printed language _ _ one) ∙ as_text)
+    (λ text printed. c.one_word_is_a_path.ensures english _ _ _ (codes "body") (codes "1") (codes "go") (codes "go") (λ e. cc (e)) (λ e. cc (e)) only_go compact_text _ (printed language _ _ one) ∙ as_text)
     c.to_json.ensures.after

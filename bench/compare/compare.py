@@ -16,6 +16,7 @@ docs/DIFFERENCES.md declares:
 Then both are timed on large jobs, side by side, and the table of README is printed.
 """
 import argparse
+import glob
 import json
 import math
 import os
@@ -148,6 +149,13 @@ def ratio_to_ours(mine, ours, other, times):
     return f"{ratio:.2f} times the time {'per document ' if times > 1 else ''}of `{other}`"
 
 
+def regex_of(original):
+    """The crate whose regular expressions the original's stemmer is, and its version."""
+    folder = original.split("/program/", maxsplit=1)[0]
+    found = glob.glob(os.path.join(folder, "registry", "regex-[0-9]*"))
+    return " ".join(os.path.basename(path).replace("-", " ") for path in found) or "no known regex"
+
+
 def speed(original, runs):
     """Prints the table; how many jobs were done, and how many failed."""
     failed = 0
@@ -165,7 +173,7 @@ def speed(original, runs):
             ratio = ratio_to(mine, theirs) if theirs else ratio_to_ours(mine, ours, *beside)
             row = [name, told_run(mine), told_run(theirs) if theirs else "-", ratio]
             print("| " + " | ".join(row) + " |", flush=True)
-    print(f"\nThe fastest of {runs} runs each, with the most memory that it took.")
+    print(f"\nThe fastest of {runs} runs each, with the most memory that it took; the original over {regex_of(original)}.")
     return len(ours) - failed, failed
 
 

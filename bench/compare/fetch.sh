@@ -3,12 +3,16 @@
 #
 # usage: fetch.sh FOLDER
 #
-# The crate, elasticlunr-rs 3.0.2, is a package of Debian's release RELEASE (`trixie` unless set). Its
-# packages are downloaded and unpacked in FOLDER, with an apt of their own: nothing is installed, and
-# the sources and the packages of the system stay as they are. The path of the program is printed.
+# The crate, elasticlunr-rs 3.0.2, is a package of Debian's release RELEASE (`trixie` unless set). The
+# crates that it stands on are packages of the release BESIDE (unless set, that of the system, as is
+# cargo): the crate's stemmer is regular expressions, and takes three times as long with the `regex` of
+# one release as with that of another. The packages are downloaded and unpacked in FOLDER, with an apt of
+# their own: nothing is installed, and the sources and the packages of the system stay as they are. The
+# path of the program is printed.
 set -eu
 here=$(cd "$(dirname "$0")" && pwd)
 release=${RELEASE:-trixie}
+beside=${BESIDE:-$(. /etc/os-release && echo "$VERSION_CODENAME")}
 mirror=${MIRROR:-http://deb.debian.org/debian}
 key=${KEY:-/usr/share/keyrings/debian-archive-keyring.gpg}
 mkdir -p "$1"
@@ -19,12 +23,12 @@ for tool in apt-get dpkg-deb cargo; do
     command -v "$tool" >/dev/null || { echo "fetch.sh: there is no $tool on the path" >&2; exit 1; }
 done
 
-if [ ! -d "$folder/registry" ]; then
-    echo "Fetching elasticlunr-rs 3.0.2 from Debian's release $release ..." >&2
+# An apt whose one source is a release.
+apt_of() {
     rm -rf "$folder/apt"
     mkdir -p "$folder/apt/lists/partial" "$folder/apt/cache/archives/partial" "$folder/apt/parts" "$folder/apt/packages"
     : >"$folder/apt/status"
-    echo "deb [signed-by=$key] $mirror $release main" >"$folder/apt/sources.list"
+    echo "deb [signed-by=$key] $mirror $1 main" >"$folder/apt/sources.list"
     cat >"$folder/apt/apt.conf" <<CONF
 Dir::Etc::sourcelist "$folder/apt/sources.list";
 Dir::Etc::sourceparts "$folder/apt/parts";
@@ -35,14 +39,27 @@ APT::Sandbox::User "";
 CONF
     export APT_CONFIG=$folder/apt/apt.conf
     apt-get -qq update >&2
-    # the crates that it stands on, without the compilers and libraries that their packages name
-    wanted=$(apt-get -s --no-install-recommends install librust-elasticlunr-rs-dev | awk '$1 == "Inst" && $2 ~ /^librust-/ { print $2 }')
-    (cd "$folder/apt/packages" && apt-get -qq download $wanted >&2)
+}
+
+# Unpacks packages of that release.
+unpack() {
+    (cd "$folder/apt/packages" && apt-get -qq download "$@" >&2)
     for package in "$folder"/apt/packages/*.deb; do
-        dpkg-deb -x "$package" "$folder/apt/unpacked"
+        dpkg-deb -x "$package" "$folder/unpacked"
     done
-    mv "$folder/apt/unpacked/usr/share/cargo/registry" "$folder/registry"
-    rm -rf "$folder/apt"
+}
+
+if [ ! -d "$folder/registry" ]; then
+    echo "Fetching elasticlunr-rs 3.0.2 from Debian's release $release, and what it stands on from $beside ..." >&2
+    rm -rf "$folder/unpacked"
+    apt_of "$release"
+    unpack librust-elasticlunr-rs-dev
+    below=$(dpkg-deb -f "$folder"/apt/packages/*.deb Depends | tr ',' '\n' | awk '{ print $1 }')
+    apt_of "$beside"
+    # the crates alone, without the compilers and libraries that their packages name
+    unpack $(apt-get -s --no-install-recommends install $below | awk '$1 == "Inst" && $2 ~ /^librust-/ { print $2 }')
+    mv "$folder/unpacked/usr/share/cargo/registry" "$folder/registry"
+    rm -rf "$folder/apt" "$folder/unpacked"
 fi
 
 echo "Building the original crate ..." >&2

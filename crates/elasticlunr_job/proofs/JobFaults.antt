@@ -4,6 +4,7 @@ use Rattle.std.proofs.lemmas.Bool.{cases_lt}
 use Rattle.std.proofs.lemmas.List.{map-append, map_more, take-map, take_all}
 use Rattle.std.proofs.lemmas.Option.{slice_get-map, slice_get-get_or}
 use Rattle.std.specs.List.{slice_get}
+use Rattle.elasticlunr_store.proofs.ReadingMaps.{array_of}
 use Rattle.serde_json.specs.Data.{Data, null, boolean, number, string, array, object, no_items, item}
 use Rattle.serde_json.specs.Find.{as_array, as_bool, as_object, as_str, get}
 use Rattle.serde_json.specs.View.{view, items_of, items_view}
@@ -26,7 +27,7 @@ use Rattle.elasticlunr_job.specs.declared.key.Key.TheVariants.{Fields, Docs, Ref
 use Rattle.elasticlunr_job.specs.declared.key.Wanted.{Wanted}
 use Rattle.elasticlunr_job.specs.declared.key.Wanted.TheVariants.{Text, Truth, Texts, Documents}
 use Rattle.elasticlunr_job.specs.declared.kind.Kind.{Kind}
-use Rattle.elasticlunr_job.proofs.JobValues.{array_from, same_items}
+use Rattle.elasticlunr_job.proofs.JobValues.{same_items}
 
 -- ---- items, one after the other
 
@@ -93,14 +94,14 @@ all_documents vs i past so_far = (so_far.0, ap (map view) (sym (take_all i vs pa
 -- ---- an array, and its items
 
 pub texts_wanted : (d : Data) (vs : List Value) → Some (items_view vs) ≡ as_array d → AreTexts (map view vs) → IsWanted Texts d
-texts_wanted d vs is all = (all.0, array_from d (items_view vs) is ∙ ap (λ ds. array (items_of ds)) all.1)
+texts_wanted d vs is all = (all.0, array_of d (items_view vs) is ∙ ap (λ ds. array (items_of ds)) all.1)
 
 pub documents_wanted : (d : Data) (vs : List Value) → Some (items_view vs) ≡ as_array d → AreDocuments (map view vs) → IsWanted Documents d
-documents_wanted d vs is all = (all.0, array_from d (items_view vs) is ∙ ap (λ ds. array (items_of ds)) all.1)
+documents_wanted d vs is all = (all.0, array_of d (items_view vs) is ∙ ap (λ ds. array (items_of ds)) all.1)
 
 document_of : (d : Data) (v : Value) (vs : List Value) (ss : List (List ℕ)) → Some (items_view (v ∷ vs)) ≡ as_array d → map view (v ∷ vs) ≡ map string ss → IsADocument d
 document_of d v vs [] is all = cc
-document_of d v vs (s ∷ ss) is all = (record { reference = s; values = ss }, array_from d (items_view (v ∷ vs)) is ∙ ap (λ ds. array (items_of ds)) all)
+document_of d v vs (s ∷ ss) is all = (record { reference = s; values = ss }, array_of d (items_view (v ∷ vs)) is ∙ ap (λ ds. array (items_of ds)) all)
 
 pub a_document : (d : Data) (vs : List Value) → Some (items_view vs) ≡ as_array d → (length vs == 0) ≡ false → AreTexts (map view vs) → IsADocument d
 a_document d [] is some all = absurd (true≢false some)

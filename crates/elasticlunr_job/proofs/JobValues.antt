@@ -2,7 +2,8 @@
 use Rattle.std.proofs.Common.{◌≡◌, ◌≢◌, ◌<◌, ◌≤◌, ℕ, zero, suc, List, [], ◌∷◌, length, map, take, get_or, Any, Bor, Option, Some, None, IfSome, IsSomeAnd, unwrap_or, refl, sym, ap, subst, ◌∙◌, ◌==◌, false, true≢false, arith}
 use Rattle.std.specs.List.{remove}
 use Rattle.std.proofs.lemmas.List.{take_all, length-map, get_or-map}
-use Rattle.serde_json.specs.Data.{Data, null, boolean, number, string, array, object, Items, no_items, item}
+use Rattle.elasticlunr_store.proofs.ReadingMaps.{array_of}
+use Rattle.serde_json.specs.Data.{Data, string, array, Items, no_items, item}
 use Rattle.serde_json.specs.Find.{as_array}
 use Rattle.serde_json.specs.View.{view, items_of, items_view}
 use Rattle.serde_json.specs.declared.value.Value.{Value}
@@ -24,23 +25,15 @@ listed (d ∷ ds) = ap (λ es. d ∷ es) (listed ds)
 pub same_items : (ds es : List Data) → array (items_of ds) ≡ array (items_of es) → ds ≡ es
 same_items ds es e = sym (listed ds) ∙ ap list_of e ∙ listed es
 
-pub array_from : (d : Data) (ds : Items) → Some ds ≡ as_array d → d ≡ array ds
-array_from null ds e = cc
-array_from (boolean b) ds e = cc
-array_from (number n) ds e = cc
-array_from (string s) ds e = cc
-array_from (array es) ds e = ap array (cc)
-array_from (object ms) ds e = cc
-
 -- where each item was seen to have its form
 pub all_items : {X : Type 0} (form : X → Data) (d : Data) (vs ws : List Value) (i : ℕ) (xs : List X) → Some (items_view vs) ≡ as_array d → ws ≡ vs → length ws ≤ i → map view (take i ws) ≡ map form xs → d ≡ array (items_of (map form xs))
 all_items form d vs ws i xs is same past seen =
-    array_from d (items_view vs) is ∙ ap (λ ds. array (items_of ds)) (ap (λ us. map view us) (sym same ∙ sym (take_all i ws past)) ∙ seen)
+    array_of d (items_view vs) is ∙ ap (λ ds. array (items_of ds)) (ap (λ us. map view us) (sym same ∙ sym (take_all i ws past)) ∙ seen)
 
 -- where an item is another thing
 pub some_other : (IsOther : Data → Type 0) (d : Data) (vs ws : List Value) (i : ℕ) (v : Value) → Some (items_view vs) ≡ as_array d → ws ≡ vs → i < length ws → v ≡ get_or ws i v → IsOther (view v) → (items : List Data) → d ≡ array (items_of items) → Any IsOther items
 some_other IsOther d vs ws i v is same lt at other items e =
-    subst (Any IsOther) (ap (λ us. map view us) same ∙ same_items (map view vs) items (sym (array_from d (items_view vs) is) ∙ e))
+    subst (Any IsOther) (ap (λ us. map view us) same ∙ same_items (map view vs) items (sym (array_of d (items_view vs) is) ∙ e))
     (i, view v, subst (λ n. i < n) (sym (length-map ws view)) lt, get_or-map view ws i v (view v) lt ∙ ap view (sym at), other)
 
 none_other : {X : Type 0} (form : X → Data) (xs : List X) → Any (λ d. (x : X) → d ≢ form x) (map form xs) → ⊥

@@ -1,23 +1,15 @@
 -- Arrays of names, read item by item.
 use Rattle.std.proofs.Common.{◌≡◌, ◌≢◌, ◌<◌, ◌≤◌, ◌+◌, ℕ, zero, suc, List, [], ◌∷◌, ◌++◌, length, take, get_or, Some, None, String, Global, string_bytes, sym, ap, ◌∙◌, arith}
 use Rattle.std.proofs.lemmas.List.{take_all, take_more}
-use Rattle.serde_json.specs.Data.{Data, null, boolean, number, string, array, object, Items}
+use Rattle.serde_json.specs.Data.{Data, string, array}
 use Rattle.serde_json.specs.Find.{as_array, as_str}
 use Rattle.serde_json.specs.View.{view, items_view}
 use Rattle.serde_json.specs.declared.value.Value.{Value}
 use Rattle.elasticlunr_text.specs.Text.{Bytes, bytes_of}
 use Rattle.elasticlunr_store.proofs.Keys.{bytes_behind}
-use Rattle.elasticlunr_store.proofs.ReadingMaps.{string_of}
+use Rattle.elasticlunr_store.proofs.ReadingMaps.{array_of, string_of}
 use Rattle.elasticlunr.specs.Printed.{texts}
 use Rattle.elasticlunr.proofs.Values.{texts_push}
-
-array_of : (d : Data) (ds : Items) → Some ds ≡ as_array d → d ≡ array ds
-array_of null ds e = cc
-array_of (boolean b) ds e = cc
-array_of (number n) ds e = cc
-array_of (string s) ds e = cc
-array_of (array es) ds e = ap array (cc)
-array_of (object ms) ds e = cc
 
 pub not_array : (d : Data) → None ≡ as_array d → (names : List Bytes) → d ≢ array (texts names)
 not_array d none names e = let at : None ≡ Some (texts names) = none ∙ ap as_array e in cc

@@ -8,8 +8,8 @@ use Rattle.std.specs.FinMap as finite
 use Rattle.std.specs.FinMap.Entries.{by_order}
 use Rattle.std.proofs.lemmas.Cmp.{nat_list_cmp_total}
 use Rattle.std.specs.Option.{option_and_then}
-use Rattle.serde_json.specs.Data.{Num, unsigned, negative, float, Data, null, boolean, number, string, array, object, Members, no_members, member, put}
-use Rattle.serde_json.specs.Find.{as_object, as_str, as_bool, as_number, as_u64}
+use Rattle.serde_json.specs.Data.{Num, unsigned, negative, float, Data, null, boolean, number, string, array, object, Items, Members, no_members, member, put}
+use Rattle.serde_json.specs.Find.{as_array, as_object, as_str, as_bool, as_number, as_u64}
 use Rattle.serde_json.specs.View.{view, members_view}
 use Rattle.serde_json.proofs.Views.{Entry, put_last}
 use Rattle.elasticlunr_text.specs.Text.{Bytes, text_cmp}
@@ -59,6 +59,14 @@ object_of (number n) ms e = absurd (cc)
 object_of (string s) ms e = absurd (cc)
 object_of (array ds) ms e = absurd (cc)
 object_of (object ns) ms e = let same : ns ≡ ms = cc in ap object same
+
+pub array_of : (d : Data) (ds : Items) → Some ds ≡ as_array d → d ≡ array ds
+array_of null ds e = absurd (cc)
+array_of (boolean b) ds e = absurd (cc)
+array_of (number n) ds e = absurd (cc)
+array_of (string s) ds e = absurd (cc)
+array_of (array es) ds e = let same : es ≡ ds = cc in ap array same
+array_of (object ms) ds e = absurd (cc)
 
 pub string_of : (d : Data) (s : Bytes) → Some s ≡ as_str d → d ≡ string s
 string_of null s e = absurd (cc)

@@ -7,3 +7,4 @@ pub mod Scripts
 pub mod Called
 pub mod IndexLemmas
 pub mod FirstFaults
+pub mod Members

@@ -8,3 +8,4 @@ pub mod Called
 pub mod IndexLemmas
 pub mod FirstFaults
 pub mod Members
+pub mod Depths

@@ -5,7 +5,7 @@ use Rattle.elasticlunr_text.specs.Text.{Bytes}
 use Rattle.elasticlunr_job.specs.Job.{Job, IsJob}
 use Rattle.elasticlunr_job.specs.JobFaults.{HasFirstFault}
 use Rattle.elasticlunr_job.specs.JobKeys.{key_name}
-use Rattle.elasticlunr_job.specs.Objects.{Options}
+use Rattle.elasticlunr_job.specs.Objects.{Options, IsFirstProblem}
 use Rattle.elasticlunr_job.specs.declared.fault.DocumentFault.{DocumentFault}
 use Rattle.elasticlunr_job.specs.declared.fault.DocumentFault.TheVariants as doc
 use Rattle.elasticlunr_job.specs.declared.fault.Fault.{Fault}
@@ -43,14 +43,14 @@ fault_path (Missing _) = []
 
 -- the place is that of what a job fails a check for: its language, the second field of a name, the first document that is too long
 abbrev pub IsPlaceOfRefusal : Bytes → Job → Refusal → Place → Type 0
-IsPlaceOfRefusal text job UnknownLanguage place = IsPlaceOf None text (under (codes "lang") ∷ []) place
-IsPlaceOfRefusal text job DuplicateField place = (i : ℕ) × IsFirstTwice job.fields i × IsPlaceOf None text (under (codes "fields") ∷ item i ∷ []) place
-IsPlaceOfRefusal text job TooManyValues place = (i : ℕ) × IsFirstTooLong job.fields job.docs i × IsPlaceOf None text (under (codes "docs") ∷ item i ∷ []) place
+IsPlaceOfRefusal text job UnknownLanguage place = IsPlaceOf None (under (codes "lang") ∷ []) text place
+IsPlaceOfRefusal text job DuplicateField place = (i : ℕ) × IsFirstTwice job.fields i × IsPlaceOf None (under (codes "fields") ∷ item i ∷ []) text place
+IsPlaceOfRefusal text job TooManyValues place = (i : ℕ) × IsFirstTooLong job.fields job.docs i × IsPlaceOf None (under (codes "docs") ∷ item i ∷ []) text place
 IsPlaceOfRefusal text job _ place = ⊥
 
 -- the place is that of the first fault of a value that is no job, or of what its job fails a check for
 abbrev pub IsPlaceInJob : Bytes → Data → Refusal → Place → Type 0
-IsPlaceInJob text d refusal place = ((fault : Fault) × HasFirstFault d fault × IsPlaceOf None text (fault_path fault) place)
+IsPlaceInJob text d refusal place = ((fault : Fault) × HasFirstFault d fault × IsPlaceOf None (fault_path fault) text place)
     ⊎ ((job : Job) × IsJob d job × IsPlaceOfRefusal text job refusal place)
 
 -- the problem is that of a member, and not of the object
@@ -70,5 +70,9 @@ problem_path options problem = if is_of_member problem then under (problem_key o
 
 -- the place is that of a problem of the object with this number, from 1: in its line, or in the array
 abbrev pub IsPlaceOfProblem : Form → Bytes → Options → ℕ → Problem → Place → Type 0
-IsPlaceOfProblem form.Lines text options number problem place = IsPlaceOf (Some (number - 1)) text (problem_path options problem) place
-IsPlaceOfProblem _ text options number problem place = IsPlaceOf None text (item (number - 1) ∷ problem_path options problem) place
+IsPlaceOfProblem form.Lines text options number problem place = IsPlaceOf (Some (number - 1)) (problem_path options problem) text place
+IsPlaceOfProblem _ text options number problem place = IsPlaceOf None (item (number - 1) ∷ problem_path options problem) text place
+
+-- the place is that of the first problem of these objects, which stand in the text
+abbrev pub IsPlaceInObjects : Form → Bytes → Options → List Data → Place → Type 0
+IsPlaceInObjects form text options items place = (number : ℕ) × (problem : Problem) × IsFirstProblem options items number problem × IsPlaceOfProblem form text options number problem place

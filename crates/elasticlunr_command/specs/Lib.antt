@@ -12,3 +12,4 @@ pub mod Forms
 pub mod Inputs
 pub mod FirstFaults
 pub mod FaultPlaces
+pub mod RefusedPlaces

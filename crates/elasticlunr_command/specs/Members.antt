@@ -1,5 +1,5 @@
 -- Where a value stands in a text of JSON, or in a line of one.
-use Rattle.std.specs.Prelude.{◌≡◌, ◌++◌, ℕ, List, [], ◌∷◌, true, false, Option, Some, None, option_and_then, take, drop, slice_get, slice_range, filter, map, codes, IsSome}
+use Rattle.std.specs.Prelude.{◌≡◌, ◌++◌, ℕ, List, [], ◌∷◌, true, false, Option, Some, None, option_and_then, take, drop, slice_get, slice_range, filter, map, codes}
 use Rattle.serde_json.specs.Data.{Data, null, boolean}
 use Rattle.serde_json.specs.Find.{at, get}
 use Rattle.elasticlunr_text.specs.Text.{Bytes}
@@ -41,24 +41,28 @@ part_of (Some number) text = slice_get (filter is_filled (lines_of text)) number
 abbrev pub value_of : Option ℕ → Bytes → Option Data
 value_of line text = option_and_then reading (part_of line text)
 
+-- what a path leads to in a text, or in that line of it
+abbrev pub value_at : Option ℕ → List Move → Bytes → Option Data
+value_at line path text = option_and_then (follow path) (value_of line text)
+
+-- these bytes are read as what the path leads to
+abbrev pub HasValue : Option ℕ → List Move → Bytes → ℕ → ℕ → Type 0
+HasValue line path text start end = (value : Data) × (value_at line path text ≡ Some value) × (reading (slice_range text start end) ≡ Some value)
+
 -- the text with this word in the place of the bytes from one offset up to another
 abbrev pub with_word : Bytes → ℕ → ℕ → Bytes → Bytes
 with_word text start end word = take start text ++ word ++ drop end text
 
--- with this word in their place, the path leads to this value
-abbrev pub Gives : Option ℕ → Bytes → List Move → ℕ → ℕ → Bytes → Data → Type 0
-Gives line text path start end word d = option_and_then (follow path) (value_of line (with_word text start end word)) ≡ Some d
-
--- these bytes are what the path leads to: they are one value of JSON, with no white space before it, and
--- where null, or true, stands in their place, the path leads to that
-pub record StandsAt (line : Option ℕ) (text : Bytes) (path : List Move) (start end : ℕ) : Type 0 where
+-- these bytes are what the path leads to: they begin with no white space, are read as its value, and where
+-- null, or true, stands in their place, the path leads to that
+pub record StandsAt (line : Option ℕ) (path : List Move) (text : Bytes) (start end : ℕ) : Type 0 where
   pub first : ℕ
   pub there : slice_get text start ≡ Some first
   pub no_space : is_space first ≡ false
-  pub is_value : IsSome (reading (slice_range text start end))
-  pub gives_null : Gives line text path start end (codes "null") null
-  pub gives_true : Gives line text path start end (codes "true") (boolean true)
+  pub has_value : HasValue line path text start end
+  pub gives_null : value_at line path (with_word text start end (codes "null")) ≡ Some null
+  pub gives_true : value_at line path (with_word text start end (codes "true")) ≡ Some (boolean true)
 
 -- the place is that of what the path leads to
-abbrev pub IsPlaceOf : Option ℕ → Bytes → List Move → Place → Type 0
-IsPlaceOf line text path place = (start : ℕ) × (end : ℕ) × StandsAt line text path start end × (place ≡ place_at text start)
+abbrev pub IsPlaceOf : Option ℕ → List Move → Bytes → Place → Type 0
+IsPlaceOf line path text place = (start : ℕ) × (end : ℕ) × StandsAt line path text start end × (place ≡ place_at text start)

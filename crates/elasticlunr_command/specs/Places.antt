@@ -22,6 +22,10 @@ column_at text offset = 1 + count_by is_first (after_last is_line_feed (take off
 abbrev pub place_at : Bytes → ℕ → Place
 place_at text offset = record { line = line_at text offset; column = column_at text offset }
 
+-- the place is that of an offset of the text, or of its end
+abbrev pub IsPlaceIn : Bytes → Place → Type 0
+IsPlaceIn text place = (offset : ℕ) × (offset ≤ length text) × (place ≡ place_at text offset)
+
 -- the first offset in this line, from 1, or in a later one; the end of the text, where it has fewer lines
 pub record IsLineStart (text : Bytes) (line start : ℕ) : Type 0 where
   pub within : start ≤ length text

@@ -3,10 +3,11 @@ ghost use Rattle.std.specs.Prelude.{◌≡◌, ◌-◌, map, take, length, strin
 ghost use Rattle.elasticlunr_job.specs.Answer.{reading};
 ghost use Rattle.elasticlunr_job.specs.Objects.{IsLineOfObjects};
 ghost use Rattle.elasticlunr_job.specs.ObjectsTold.{options_told, texts_told};
-ghost use Rattle.elasticlunr_command.specs.FaultPlaces.{is_of_member, problem_key, IsPlaceOfProblem};
+ghost use Rattle.elasticlunr_command.specs.FaultPlaces.{is_of_member, problem_key, IsPlaceInObjects, IsPlaceOfProblem};
 ghost use Rattle.elasticlunr_command.specs.Fields.{is_field, text_keys};
 ghost use Rattle.elasticlunr_command.specs.Lines.{AreLineValues, HasUnreadLine, lines_of};
 ghost use Rattle.elasticlunr_command.specs.Refused.{IsMemoryOr, IsRefusedObjects};
+ghost use Rattle.elasticlunr_command.specs.RefusedPlaces.{IfPlaced};
 ghost use Rattle.serde_json.specs.View.{view};
 
 use crate::form::{Form, is_blank};
@@ -38,6 +39,8 @@ pub(crate) fn objects_text(
     ensures ok { IfOk result (λ line.
         IsLineOfObjects (options_told options.now) (map view items.now) (string_bytes line)) }
     ensures err { IfErr result (IsRefusedObjects (options_told options.now) (map view items.now)) }
+    ensures place { IfErr result (IfPlaced (IsPlaceInObjects source.entry.form source.entry.text.now
+        (options_told options.now) (map view items.now))) }
 {
     match objects_line(alloc, options, items) {
         Ok(line) => Ok(line),

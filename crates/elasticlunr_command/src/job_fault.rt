@@ -22,7 +22,7 @@ pub(crate) fn fault_message(
     value: &Value,
     fault: Fault<'_>,
 ) -> Result<Message, AllocError>
-    ensures { IfOk result (λ message. IfSome message.place (IsPlaceOf None text.now (fault_path fault.entry))) }
+    ensures { IfOk result (λ message. IfSome message.place (IsPlaceOf None (fault_path fault.entry) text.now)) }
 {
     match fault {
         Fault::NotAnObject(found) => unfit(alloc, text, &[], "the input", found, A_JOB),
@@ -40,7 +40,7 @@ pub(crate) fn fault_message(
 
 /// That a key is none of a job.
 fn unknown_key(alloc: Global, text: &[u8], key: &str) -> Result<Message, AllocError>
-    ensures { IfOk result (λ message. IfSome message.place (IsPlaceOf None text.now (under key.now ∷ []))) }
+    ensures { IfOk result (λ message. IfSome message.place (IsPlaceOf None (under key.now ∷ []) text.now)) }
 {
     let near = nearest(alloc, key, &job_keys())?;
     let said = match near {
@@ -62,7 +62,7 @@ fn wanted_words(wanted: Wanted) -> &'static str {
 
 /// That the member under a key is of this kind, where another is wanted.
 fn other_kind(alloc: Global, text: &[u8], key: Key, found: Kind) -> Result<Message, AllocError>
-    ensures { IfOk result (λ message. IfSome message.place (IsPlaceOf None text.now (under (key_name key) ∷ []))) }
+    ensures { IfOk result (λ message. IfSome message.place (IsPlaceOf None (under (key_name key) ∷ []) text.now)) }
 {
     let name = key.name();
     let wanted = wanted_words(key.wanted());
@@ -85,7 +85,7 @@ fn no_text(
     number: usize,
     found: Kind,
 ) -> Result<Message, AllocError>
-    ensures { IfOk result (λ message. IfSome message.place (IsPlaceOf None text.now (under (key_name key) ∷ item number ∷ []))) }
+    ensures { IfOk result (λ message. IfSome message.place (IsPlaceOf None (under (key_name key) ∷ item number ∷ []) text.now)) }
 {
     let name = key.name();
     let count = number.saturating_add(1);
@@ -103,7 +103,7 @@ fn no_document(
     number: usize,
     fault: DocumentFault,
 ) -> Result<Message, AllocError>
-    ensures { IfOk result (λ message. IfSome message.place (IsPlaceOf None text.now (under (key_name key) ∷ item number ∷ document_fault_path fault))) }
+    ensures { IfOk result (λ message. IfSome message.place (IsPlaceOf None (under (key_name key) ∷ item number ∷ document_fault_path fault) text.now)) }
 {
     let count = number.saturating_add(1);
     let (docs, item) = (Step::Key(key.name()), Step::Item(number));
@@ -156,7 +156,7 @@ fn value_label(
 
 /// That a member is missing that a job has.
 fn missing(alloc: Global, text: &[u8], key: Key) -> Result<Message, AllocError>
-    ensures { IfOk result (λ message. IfSome message.place (IsPlaceOf None text.now ([]))) }
+    ensures { IfOk result (λ message. IfSome message.place (IsPlaceOf None ([]) text.now)) }
 {
     let name = key.name();
     let said = format!(in alloc; "no \"{name}\": a job is an object with \"fields\" and \"docs\"")?;

@@ -1,10 +1,10 @@
 //! Where a value stands in a text of JSON: it is looked for, and what is found is checked.
-ghost use Rattle.std.specs.Prelude.{◌≡◌, ℕ, true, false, Some, codes, map, filter, option_map, slice_get, slice_range, IfOk, IfSome, IsSome};
-ghost use Rattle.serde_json.specs.Data.{boolean, null};
+ghost use Rattle.std.specs.Prelude.{◌≡◌, ◌≤◌, ℕ, true, false, Some, codes, map, filter, option_map, slice_get, IfOk, IfSome};
+ghost use Rattle.serde_json.specs.Data.{boolean, depth, null};
+ghost use Rattle.serde_json.specs.Read.{max_depth};
 ghost use Rattle.serde_json.specs.View.{view};
-ghost use Rattle.elasticlunr_job.specs.Answer.{reading};
 ghost use Rattle.elasticlunr_command.specs.Lines.{is_filled, is_space, lines_of};
-ghost use Rattle.elasticlunr_command.specs.Members.{follow, move, move_told, part_of, path_told, value_of, with_word, Gives, IsPlaceOf, StandsAt};
+ghost use Rattle.elasticlunr_command.specs.Members.{follow, move, move_told, part_of, path_told, value_of, value_at, with_word, HasValue, IsPlaceOf, StandsAt};
 
 use crate::form::is_blank;
 use crate::place::{Place, place_at};
@@ -20,14 +20,14 @@ pub(crate) enum Step<'a> {
 }
 
 /// The place of the value that a path leads to in a text, or in the line with this number, from 0,
-/// of those that are not blank. Reads the text twice again.
+/// of those that are not blank. Reads the text three times again.
 pub(crate) fn place_of(
     alloc: Global,
     text: &[u8],
     line: Option<usize>,
     path: &[Step<'_>],
 ) -> Result<Option<Place>, AllocError>
-    ensures { IfOk result (λ found. IfSome found (IsPlaceOf line text.now (path_told path.now))) }
+    ensures { IfOk result (λ found. IfSome found (IsPlaceOf line (path_told path.now) text.now)) }
 {
     match seek(alloc, text, line, path)? {
         Some(span) if stands_at(alloc, text, line, path, span)? => {
@@ -46,11 +46,11 @@ fn stands_at(
     span: Span,
 ) -> Result<bool, AllocError>
     ensures { IfOk result (λ stands.
-        stands ≡ true → StandsAt line text.now (path_told path.now) span.start span.end) }
+        stands ≡ true → StandsAt line (path_told path.now) text.now span.start span.end) }
 {
     Ok(
         begins_at(text, span.start)
-            && is_value(alloc, text, span)?
+            && has_value(alloc, text, line, path, span)?
             && gives_null(alloc, text, line, path, span)?
             && gives_true(alloc, text, line, path, span)?,
     )
@@ -73,14 +73,38 @@ fn is_space(byte: u8) -> bool
     byte == b' ' || byte == b'\t' || byte == b'\r' || byte == b'\n'
 }
 
-/// Whether these bytes are a value.
-fn is_value(alloc: Global, text: &[u8], span: Span) -> Result<bool, AllocError>
-    ensures { IfOk result (λ is. is ≡ true → IsSome (reading (slice_range text.now span.start span.end))) }
+/// Whether these bytes are read as what the path leads to.
+fn has_value(
+    alloc: Global,
+    text: &[u8],
+    line: Option<usize>,
+    path: &[Step<'_>],
+    span: Span,
+) -> Result<bool, AllocError>
+    ensures { IfOk result (λ has. has ≡ true → HasValue line (path_told path.now) text.now span.start span.end) }
 {
-    match text.get(span.start..span.end) {
-        Some(bytes) => Ok(value_in(alloc, bytes, None)?.is_some()),
+    let Some(bytes) = text.get(span.start..span.end) else {
+        return Ok(false);
+    };
+    let Some(found) = value_in(alloc, bytes, None)? else {
+        return Ok(false);
+    };
+    let Some(whole) = value_in(alloc, text, line)? else {
+        return Ok(false);
+    };
+    match follow(&whole, path) {
+        Some(value) => is_same(alloc, &found, value),
         None => Ok(false),
     }
+}
+
+/// Whether two values are printed alike.
+fn is_same(alloc: Global, value: &Value, other: &Value) -> Result<bool, AllocError>
+    ensures { IfOk result (λ same. same ≡ true → depth (view value.now) ≤ max_depth
+        → depth (view other.now) ≤ max_depth → view value.now ≡ view other.now) }
+{
+    let (printed, others) = (value.to_string(alloc)?, other.to_string(alloc)?);
+    Ok(printed.as_str() == others.as_str())
 }
 
 /// Whether the path leads to null where that stands in the place of these bytes.
@@ -92,7 +116,7 @@ fn gives_null(
     span: Span,
 ) -> Result<bool, AllocError>
     ensures { IfOk result (λ gives. gives ≡ true
-        → Gives line text.now (path_told path.now) span.start span.end (codes "null") null) }
+        → value_at line (path_told path.now) (with_word text.now span.start span.end (codes "null")) ≡ Some null) }
 {
     let changed = with_word(alloc, text, span, "null")?;
     match value_in(alloc, &changed, line)? {
@@ -110,7 +134,8 @@ fn gives_true(
     span: Span,
 ) -> Result<bool, AllocError>
     ensures { IfOk result (λ gives. gives ≡ true
-        → Gives line text.now (path_told path.now) span.start span.end (codes "true") (boolean true)) }
+        → value_at line (path_told path.now) (with_word text.now span.start span.end (codes "true"))
+        ≡ Some (boolean true)) }
 {
     let changed = with_word(alloc, text, span, "true")?;
     match value_in(alloc, &changed, line)? {

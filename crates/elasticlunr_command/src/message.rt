@@ -1,7 +1,7 @@
 //! What is wrong in an input: where, what, and what to do.
 ghost use Rattle.std.specs.Prelude.{◌≡◌, None, IfOk, IfSome};
 ghost use Rattle.elasticlunr_command.specs.Members.{path_told, IsPlaceOf};
-ghost use Rattle.elasticlunr_command.specs.Places.{IsOffsetOf};
+ghost use Rattle.elasticlunr_command.specs.Places.{IsOffsetOf, IsPlaceIn};
 
 use crate::form::is_blank;
 use crate::member::{Step, place_of};
@@ -53,7 +53,7 @@ pub(crate) fn message_at(
     path: &[Step<'_>],
     said: String,
 ) -> Result<Message, AllocError>
-    ensures { IfOk result (λ message. IfSome message.place (IsPlaceOf None text.now (path_told path.now))) }
+    ensures { IfOk result (λ message. IfSome message.place (IsPlaceOf None (path_told path.now) text.now)) }
 {
     let place = place_of(alloc, text, None, path)?;
     Ok(Message { place, text: said })
@@ -90,7 +90,7 @@ pub(crate) fn wants(
     value: &Value,
     wanted: &str,
 ) -> Result<Message, AllocError>
-    ensures { IfOk result (λ message. IfSome message.place (IsPlaceOf None text.now (path_told path.now))) }
+    ensures { IfOk result (λ message. IfSome message.place (IsPlaceOf None (path_told path.now) text.now)) }
 {
     unfit(alloc, text, path, label, kind_of(value), wanted)
 }
@@ -104,7 +104,7 @@ pub(crate) fn unfit(
     found: Kind,
     wanted: &str,
 ) -> Result<Message, AllocError>
-    ensures { IfOk result (λ message. IfSome message.place (IsPlaceOf None text.now (path_told path.now))) }
+    ensures { IfOk result (λ message. IfSome message.place (IsPlaceOf None (path_told path.now) text.now)) }
 {
     let found = kind_words(found);
     let said = format!(in alloc; "{label}: {found}, where {wanted} is wanted")?;
@@ -112,7 +112,9 @@ pub(crate) fn unfit(
 }
 
 /// A message that a text is not JSON.
-pub(crate) fn not_json(alloc: Global, text: &[u8], error: &Error) -> Result<Message, AllocError> {
+pub(crate) fn not_json(alloc: Global, text: &[u8], error: &Error) -> Result<Message, AllocError>
+    ensures { IfOk result (λ message. IfSome message.place (IsPlaceIn text.now)) }
+{
     let offset = offset_of(text, error.line(), error.column());
     let said = String::from_str(alloc, json_fault(text, offset, error))?;
     Ok(Message {

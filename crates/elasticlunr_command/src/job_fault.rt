@@ -85,7 +85,8 @@ fn no_text(
     number: usize,
     found: Kind,
 ) -> Result<Message, AllocError>
-    ensures { IfOk result (λ message. IfSome message.place (IsPlaceOf None (under (key_name key) ∷ item number ∷ []) text.now)) }
+    ensures { IfOk result (λ message. IfSome message.place
+        (IsPlaceOf None (under (key_name key) ∷ item number ∷ []) text.now)) }
 {
     let name = key.name();
     let count = number.saturating_add(1);
@@ -103,7 +104,8 @@ fn no_document(
     number: usize,
     fault: DocumentFault,
 ) -> Result<Message, AllocError>
-    ensures { IfOk result (λ message. IfSome message.place (IsPlaceOf None (under (key_name key) ∷ item number ∷ document_fault_path fault) text.now)) }
+    ensures { IfOk result (λ message. IfSome message.place
+        (IsPlaceOf None (under (key_name key) ∷ item number ∷ document_fault_path fault) text.now)) }
 {
     let count = number.saturating_add(1);
     let (docs, item) = (Step::Key(key.name()), Step::Item(number));
@@ -156,7 +158,7 @@ fn value_label(
 
 /// That a member is missing that a job has.
 fn missing(alloc: Global, text: &[u8], key: Key) -> Result<Message, AllocError>
-    ensures { IfOk result (λ message. IfSome message.place (IsPlaceOf None ([]) text.now)) }
+    ensures { IfOk result (λ message. IfSome message.place (IsPlaceOf None [] text.now)) }
 {
     let name = key.name();
     let said = format!(in alloc; "no \"{name}\": a job is an object with \"fields\" and \"docs\"")?;

@@ -7,3 +7,5 @@ pub mod Scripts
 pub mod Called
 pub mod IndexLemmas
 pub mod FirstFaults
+pub mod Members
+pub mod Depths

@@ -6,7 +6,10 @@ pub mod Fields
 pub mod Asked
 pub mod Lines
 pub mod Places
+pub mod Members
 pub mod Refused
 pub mod Forms
 pub mod Inputs
 pub mod FirstFaults
+pub mod FaultPlaces
+pub mod RefusedPlaces

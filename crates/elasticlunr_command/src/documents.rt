@@ -1,18 +1,21 @@
 //! The index of documents that are objects: an array of them, or a line for each.
-ghost use Rattle.std.specs.Prelude.{◌≡◌, map, string_bytes, IfOk, IfErr, Some, None};
+ghost use Rattle.std.specs.Prelude.{◌≡◌, ◌-◌, map, take, length, string_bytes, if◌then◌else◌, IfOk, IfErr, IfSome, Some, None};
 ghost use Rattle.elasticlunr_job.specs.Answer.{reading};
 ghost use Rattle.elasticlunr_job.specs.Objects.{IsLineOfObjects};
 ghost use Rattle.elasticlunr_job.specs.ObjectsTold.{options_told, texts_told};
+ghost use Rattle.elasticlunr_command.specs.FaultPlaces.{is_of_member, problem_key, IsPlaceInObjects, IsPlaceOfProblem};
 ghost use Rattle.elasticlunr_command.specs.Fields.{is_field, text_keys};
 ghost use Rattle.elasticlunr_command.specs.Lines.{AreLineValues, HasUnreadLine, lines_of};
 ghost use Rattle.elasticlunr_command.specs.Refused.{IsMemoryOr, IsRefusedObjects};
+ghost use Rattle.elasticlunr_command.specs.RefusedPlaces.{IfPlaced};
 ghost use Rattle.serde_json.specs.View.{view};
 
 use crate::form::{Form, is_blank};
 use crate::jobs::{duplicate_field, unknown_language};
+use crate::member::{Step, place_of};
 use crate::message::{Message, Trouble, kind_words, not_json, unplaced};
 use crate::notes::Notes;
-use crate::place::{Place, Step, place_of};
+use crate::place::Place;
 use crate::tokens::Tokens;
 use elasticlunr_job::objects::{ObjectsError, Options, Problem, object_of, objects_line};
 use elasticlunr_job::outcome::Refusal;
@@ -36,6 +39,8 @@ pub(crate) fn objects_text(
     ensures ok { IfOk result (λ line.
         IsLineOfObjects (options_told options.now) (map view items.now) (string_bytes line)) }
     ensures err { IfErr result (IsRefusedObjects (options_told options.now) (map view items.now)) }
+    ensures place { IfErr result (IfPlaced (IsPlaceInObjects source.entry.form source.entry.text.now
+        (options_told options.now) (map view items.now))) }
 {
     match objects_line(alloc, options, items) {
         Ok(line) => Ok(line),
@@ -46,7 +51,7 @@ pub(crate) fn objects_text(
         Err(ObjectsError::Document(number, problem)) => {
             let item = items.get(number.saturating_sub(1));
             let text = problem_text(alloc, options, number, item, problem)?;
-            let place = Some(problem_place(source, options, number, problem));
+            let place = problem_place(alloc, source, options, number, problem)?;
             Err(Trouble::Refused(Message { place, text }))
         }
     }
@@ -67,38 +72,33 @@ fn settings_fault(
 
 /// The place of what is wrong with the document of this number.
 fn problem_place(
+    alloc: Global,
     source: Source<'_>,
     options: &Options<'_>,
     number: usize,
     problem: Problem,
-) -> Place {
+) -> Result<Option<Place>, AllocError>
+    ensures { IfOk result (λ place. IfSome place
+        (IsPlaceOfProblem source.entry.form source.entry.text.now (options_told options.now) number problem)) }
+{
     let item = number.saturating_sub(1);
     let key = Step::Key(problem_key(options, problem));
     if source.form == Form::Lines {
-        let (before, line) = line_of(source.text, item);
-        place_of(line, path_of(&[key], problem)).below(before)
+        place_of(alloc, source.text, Some(item), path_of(&[key], problem))
     } else {
-        place_of(source.text, path_of(&[Step::Item(item), key], problem))
+        place_of(
+            alloc,
+            source.text,
+            None,
+            path_of(&[Step::Item(item), key], problem),
+        )
     }
-}
-
-/// The line of the object with this number, from 0, and how many lines stand before it.
-fn line_of(text: &[u8], item: usize) -> (usize, &[u8]) {
-    let mut left = item;
-    for (before, line) in text.split(|byte| *byte == b'\n').enumerate() {
-        if is_blank(line) {
-            continue;
-        }
-        if left == 0 {
-            return (before, line);
-        }
-        left -= 1;
-    }
-    (0, text)
 }
 
 /// The steps to what a problem is about: the document, or a member of it.
-fn path_of<'p, 'a>(path: &'p [Step<'a>], problem: Problem) -> &'p [Step<'a>] {
+fn path_of<'p, 'a>(path: &'p [Step<'a>], problem: Problem) -> &'p [Step<'a>]
+    ensures { result.now ≡ (if is_of_member problem then path.now else take (length path.now - 1) path.now) }
+{
     match problem {
         Problem::NotAReference(_) | Problem::NotAText(_, _) => path,
         _ => &path[..path.len().saturating_sub(1)],
@@ -106,7 +106,9 @@ fn path_of<'p, 'a>(path: &'p [Step<'a>], problem: Problem) -> &'p [Step<'a>] {
 }
 
 /// The key of the member that a problem is about.
-fn problem_key<'a>(options: &Options<'a>, problem: Problem) -> &'a str {
+fn problem_key<'a>(options: &Options<'a>, problem: Problem) -> &'a str
+    ensures { result.now ≡ problem_key (options_told options.now) problem }
+{
     match problem {
         Problem::NotAText(number, _) => match options.fields.get(number) {
             Some(field) => *field,

@@ -5,7 +5,9 @@ ghost use Rattle.elasticlunr_text.specs.Text.{Bytes};
 ghost use Rattle.elasticlunr_command.specs.Forms.{HasForm, IsNotJson, begins_with_an_object, form_word, has, is_object_line, value_form};
 ghost use Rattle.elasticlunr_command.specs.Inputs.{IsInput, input_of};
 ghost use Rattle.elasticlunr_command.specs.Lines.{is_blank, is_filled, lines_of};
+ghost use Rattle.elasticlunr_command.specs.Places.{IsPlaceIn};
 ghost use Rattle.elasticlunr_command.specs.Refused.{IsMemoryOr};
+ghost use Rattle.elasticlunr_command.specs.RefusedPlaces.{IfPlaced};
 ghost use Rattle.elasticlunr_command.specs.declared.form.Form.{Form};
 ghost use Rattle.serde_json.specs.View.{view};
 
@@ -48,6 +50,7 @@ pub(crate) fn form_of(word: &str) -> Option<Form>
 pub(crate) fn read_input(alloc: Global, bytes: &[u8], asked: Option<Form>) -> Result<Input, Trouble>
     ensures ok { IfOk result (IsInput asked bytes.now) }
     ensures err { IfErr result (IsMemoryOr (IsNotJson asked bytes.now)) }
+    ensures place { IfErr result (IfPlaced (IsPlaceIn bytes.now)) }
 {
     if asked == Some(Form::Lines) {
         return Ok(Input::Lines);

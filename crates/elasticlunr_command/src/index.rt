@@ -2,10 +2,12 @@
 ghost use Rattle.std.specs.Prelude.{◌≡◌, map, string_bytes, unwrap_or, IfOk, IfErr};
 ghost use Rattle.elasticlunr_job.specs.ObjectsTold.{options_told, texts_told};
 ghost use Rattle.elasticlunr_command.specs.Asked.{IsArrayLineWith, IsObjectsLineWith, options_of};
+ghost use Rattle.elasticlunr_command.specs.FaultPlaces.{IsPlaceInObjects};
 ghost use Rattle.elasticlunr_command.specs.Fields.{fields_of_first};
 ghost use Rattle.elasticlunr_command.specs.Forms.{IsIndexOf, IsRefusedInput};
 ghost use Rattle.elasticlunr_command.specs.Lines.{IsLinesLineWith};
 ghost use Rattle.elasticlunr_command.specs.Refused.{AreRefusedLines, IsRefusedArray, IsRefusedJob, IsRefusedObjects};
+ghost use Rattle.elasticlunr_command.specs.RefusedPlaces.{IfPlaced, IsArrayPlace, IsInputPlace, IsJobPlace, IsLinesPlace};
 ghost use Rattle.elasticlunr_command.specs.Settled.{IsLineWith, settings_told};
 ghost use Rattle.serde_json.specs.View.{view};
 
@@ -31,6 +33,7 @@ pub(crate) fn index_text(
     ensures ok { IfOk result (λ line.
         IsIndexOf form (settings_told settings.now) text.now (string_bytes line)) }
     ensures err { IfErr result (IsRefusedInput form (settings_told settings.now) text.now) }
+    ensures place { IfErr result (IfPlaced (IsInputPlace form (settings_told settings.now) text.now)) }
 {
     match read_input(alloc, text, form)? {
         Input::Job(value) => text_of_job(alloc, text, &value, settings, notes),
@@ -50,6 +53,7 @@ fn text_of_job(
     ensures ok { IfOk result (λ line.
         IsLineWith (settings_told settings.now) (view value.now) (string_bytes line)) }
     ensures err { IfErr result (IsRefusedJob (settings_told settings.now) (view value.now)) }
+    ensures place { IfErr result (IfPlaced (IsJobPlace (settings_told settings.now) text.now (view value.now))) }
 {
     match job_text(alloc, value, settings) {
         Ok(line) => {
@@ -74,6 +78,7 @@ fn text_of_array(
     ensures ok { IfOk result (λ line.
         IsArrayLineWith (settings_told settings.now) (view value.now) (string_bytes line)) }
     ensures err { IfErr result (IsRefusedArray (settings_told settings.now) (view value.now)) }
+    ensures place { IfErr result (IfPlaced (IsArrayPlace (settings_told settings.now) text.now (view value.now))) }
 {
     let Some(items) = value.as_array() else {
         let message = wants(alloc, text, &[], "the input", value, "a list of objects")?;
@@ -96,6 +101,7 @@ fn text_of_lines(
     ensures ok { IfOk result (λ line.
         IsLinesLineWith (settings_told settings.now) text.now (string_bytes line)) }
     ensures err { IfErr result (AreRefusedLines (settings_told settings.now) text.now) }
+    ensures place { IfErr result (IfPlaced (IsLinesPlace (settings_told settings.now) text.now)) }
 {
     let items = line_values(alloc, text)?;
     let source = Source {
@@ -117,6 +123,8 @@ fn text_of_objects(
         IsObjectsLineWith (settings_told settings.now) (map view items.now) (string_bytes line)) }
     ensures err { IfErr result (IsRefusedObjects
         (options_of (settings_told settings.now) (map view items.now)) (map view items.now)) }
+    ensures place { IfErr result (IfPlaced (IsPlaceInObjects source.entry.form source.entry.text.now
+        (options_of (settings_told settings.now) (map view items.now)) (map view items.now))) }
 {
     let options = options_of(alloc, settings, items)?;
     let line = objects_text(alloc, source, items, &options)?;

@@ -1,8 +1,12 @@
 //! What keeps a JSON value from being a job, in words.
+ghost use Rattle.std.specs.Prelude.{None, [], ◌∷◌, IfOk, IfSome};
+ghost use Rattle.elasticlunr_job.specs.JobKeys.{key_name};
+ghost use Rattle.elasticlunr_command.specs.FaultPlaces.{document_fault_path, fault_path};
+ghost use Rattle.elasticlunr_command.specs.Members.{item, under, IsPlaceOf};
 
+use crate::member::Step;
 use crate::message::{Message, message_at, unfit};
 use crate::nearest::nearest;
-use crate::place::Step;
 use elasticlunr_job::fault::{DocumentFault, Fault, MemberFault};
 use elasticlunr_job::key::{Key, Wanted, job_keys};
 use elasticlunr_job::kind::Kind;
@@ -17,7 +21,9 @@ pub(crate) fn fault_message(
     text: &[u8],
     value: &Value,
     fault: Fault<'_>,
-) -> Result<Message, AllocError> {
+) -> Result<Message, AllocError>
+    ensures { IfOk result (λ message. IfSome message.place (IsPlaceOf None (fault_path fault.entry) text.now)) }
+{
     match fault {
         Fault::NotAnObject(found) => unfit(alloc, text, &[], "the input", found, A_JOB),
         Fault::UnknownKey(key) => unknown_key(alloc, text, key),
@@ -25,21 +31,23 @@ pub(crate) fn fault_message(
         Fault::Member(key, MemberFault::Item(number, found)) => {
             no_text(alloc, text, key, number, found)
         }
-        Fault::Member(_, MemberFault::Document(number, fault)) => {
-            no_document(alloc, text, value, number, fault)
+        Fault::Member(key, MemberFault::Document(number, fault)) => {
+            no_document(alloc, text, value, key, number, fault)
         }
         Fault::Missing(key) => missing(alloc, text, key),
     }
 }
 
 /// That a key is none of a job.
-fn unknown_key(alloc: Global, text: &[u8], key: &str) -> Result<Message, AllocError> {
+fn unknown_key(alloc: Global, text: &[u8], key: &str) -> Result<Message, AllocError>
+    ensures { IfOk result (λ message. IfSome message.place (IsPlaceOf None (under key.now ∷ []) text.now)) }
+{
     let near = nearest(alloc, key, &job_keys())?;
     let said = match near {
         Some(near) => format!(in alloc; "\"{key}\" is no key of a job; did you mean \"{near}\"?")?,
         None => format!(in alloc; "\"{key}\" is no key of a job")?,
     };
-    Ok(message_at(text, &[Step::Key(key)], said))
+    message_at(alloc, text, &[Step::Key(key)], said)
 }
 
 /// What a member has to be, in words.
@@ -53,7 +61,9 @@ fn wanted_words(wanted: Wanted) -> &'static str {
 }
 
 /// That the member under a key is of this kind, where another is wanted.
-fn other_kind(alloc: Global, text: &[u8], key: Key, found: Kind) -> Result<Message, AllocError> {
+fn other_kind(alloc: Global, text: &[u8], key: Key, found: Kind) -> Result<Message, AllocError>
+    ensures { IfOk result (λ message. IfSome message.place (IsPlaceOf None (under (key_name key) ∷ []) text.now)) }
+{
     let name = key.name();
     let wanted = wanted_words(key.wanted());
     let label = format!(in alloc; "\"{name}\"")?;
@@ -74,7 +84,10 @@ fn no_text(
     key: Key,
     number: usize,
     found: Kind,
-) -> Result<Message, AllocError> {
+) -> Result<Message, AllocError>
+    ensures { IfOk result (λ message. IfSome message.place
+        (IsPlaceOf None (under (key_name key) ∷ item number ∷ []) text.now)) }
+{
     let name = key.name();
     let count = number.saturating_add(1);
     let label = format!(in alloc; "\"{name}\", item {count}")?;
@@ -87,11 +100,15 @@ fn no_document(
     alloc: Global,
     text: &[u8],
     value: &Value,
+    key: Key,
     number: usize,
     fault: DocumentFault,
-) -> Result<Message, AllocError> {
+) -> Result<Message, AllocError>
+    ensures { IfOk result (λ message. IfSome message.place
+        (IsPlaceOf None (under (key_name key) ∷ item number ∷ document_fault_path fault) text.now)) }
+{
     let count = number.saturating_add(1);
-    let (docs, item) = (Step::Key(Key::Docs.name()), Step::Item(number));
+    let (docs, item) = (Step::Key(key.name()), Step::Item(number));
     match fault {
         DocumentFault::NotAList(found) => {
             let label = format!(in alloc; "document {count}")?;
@@ -102,7 +119,7 @@ fn no_document(
             let said = format!(in alloc;
                 "document {count}: an empty list, where a reference and values are wanted"
             )?;
-            Ok(message_at(text, &[docs, item], said))
+            message_at(alloc, text, &[docs, item], said)
         }
         DocumentFault::Item(place, found) => {
             let label = value_label(alloc, value, number, place)?;
@@ -140,8 +157,10 @@ fn value_label(
 }
 
 /// That a member is missing that a job has.
-fn missing(alloc: Global, text: &[u8], key: Key) -> Result<Message, AllocError> {
+fn missing(alloc: Global, text: &[u8], key: Key) -> Result<Message, AllocError>
+    ensures { IfOk result (λ message. IfSome message.place (IsPlaceOf None [] text.now)) }
+{
     let name = key.name();
     let said = format!(in alloc; "no \"{name}\": a job is an object with \"fields\" and \"docs\"")?;
-    Ok(message_at(text, &[], said))
+    message_at(alloc, text, &[], said)
 }

@@ -3,15 +3,17 @@ ghost use Rattle.std.specs.Prelude.{◌≡◌, true, string_bytes, IfOk, IfErr, 
 ghost use Rattle.elasticlunr.specs.Fields.{all_differ, borrowed};
 ghost use Rattle.elasticlunr_job.specs.JobTold.{job_told};
 ghost use Rattle.elasticlunr_job.specs.Stop.{StopsWithReason};
+ghost use Rattle.elasticlunr_job.specs.declared.outcome.Refusal.{Refusal};
+ghost use Rattle.elasticlunr_command.specs.FaultPlaces.{IsPlaceInJob, IsPlaceOfRefusal};
 ghost use Rattle.elasticlunr_command.specs.FirstFaults.{AllFit, IsFirstTooLong, IsFirstTwice};
 ghost use Rattle.elasticlunr_command.specs.Settled.{IsLineWith, IsRefusedWith, settings_told};
 ghost use Rattle.serde_json.specs.View.{view};
 
 use crate::job_fault::fault_message;
+use crate::member::Step;
 use crate::message::{Message, Trouble, message_at, unplaced};
 use crate::nearest::nearest;
 use crate::notes::Notes;
-use crate::place::Step;
 use crate::settings::{Settings, all_names, settle};
 use crate::tokens::Tokens;
 use elasticlunr_job::answer::job_line;
@@ -41,7 +43,9 @@ pub(crate) fn job_refused(
     text: &[u8],
     value: &Value,
     refusal: Refusal,
-) -> Result<Message, AllocError> {
+) -> Result<Message, AllocError>
+    ensures { IfOk result (λ message. IfSome message.place (IsPlaceInJob text.now (view value.now) refusal)) }
+{
     if let Some(fault) = first_fault(value) {
         return fault_message(alloc, text, value, fault);
     }
@@ -57,18 +61,26 @@ fn job_fault(
     text: &[u8],
     job: &Job<'_>,
     refusal: Refusal,
-) -> Result<Message, AllocError> {
+) -> Result<Message, AllocError>
+    ensures { IfOk result (λ message.
+        IfSome message.place (IsPlaceOfRefusal text.now (job_told job.now) refusal)) }
+{
     match refusal {
         Refusal::UnknownLanguage => {
             let said = unknown_language(alloc, job.language)?;
-            Ok(message_at(text, &[Step::Key("lang")], said))
+            message_at(alloc, text, &[Step::Key("lang")], said)
         }
         Refusal::DuplicateField => {
             let said = duplicate_field(alloc, &job.fields)?;
-            Ok(match second_of(&job.fields) {
-                Some(number) => message_at(text, &[Step::Key("fields"), Step::Item(number)], said),
-                None => unplaced(said),
-            })
+            let Some(number) = second_of(&job.fields) else {
+                return Ok(unplaced(said));
+            };
+            message_at(
+                alloc,
+                text,
+                &[Step::Key("fields"), Step::Item(number)],
+                said,
+            )
         }
         Refusal::TooManyValues => too_many_values(alloc, text, job),
         _ => Ok(unplaced(String::from_str(alloc, "not a job")?)),
@@ -132,7 +144,10 @@ fn first_too_long<'j, 'a>(job: &'j Job<'a>) -> Option<(usize, &'j Document<'a>)>
 }
 
 /// The first document with more values than there are fields.
-fn too_many_values(alloc: Global, text: &[u8], job: &Job<'_>) -> Result<Message, AllocError> {
+fn too_many_values(alloc: Global, text: &[u8], job: &Job<'_>) -> Result<Message, AllocError>
+    ensures { IfOk result (λ message.
+        IfSome message.place (IsPlaceOfRefusal text.now (job_told job.now) Refusal.TooManyValues)) }
+{
     let Some((number, doc)) = first_too_long(job) else {
         let said = "a document has more values than `--fields` has names";
         return Ok(unplaced(String::from_str(alloc, said)?));
@@ -142,7 +157,7 @@ fn too_many_values(alloc: Global, text: &[u8], job: &Job<'_>) -> Result<Message,
     let said = format!(in alloc;
         "document {count} (\"{reference}\"): {values} values, where there are {most} fields"
     )?;
-    Ok(message_at(text, &[Step::Key("docs"), Step::Item(number)], said))
+    message_at(alloc, text, &[Step::Key("docs"), Step::Item(number)], said)
 }
 
 /// Notes what is unwise in the documents of a job.

@@ -1,8 +1,11 @@
 //! What is wrong in an input: where, what, and what to do.
-ghost use Rattle.elasticlunr_command.specs.Places.{IsOffsetOf};
+ghost use Rattle.std.specs.Prelude.{◌≡◌, None, IfOk, IfSome};
+ghost use Rattle.elasticlunr_command.specs.Members.{path_told, IsPlaceOf};
+ghost use Rattle.elasticlunr_command.specs.Places.{IsOffsetOf, IsPlaceIn};
 
 use crate::form::is_blank;
-use crate::place::{Place, Step, line_start, place_at, place_of};
+use crate::member::{Step, place_of};
+use crate::place::{Place, line_start, place_at};
 use elasticlunr_job::kind::{Kind, kind_of};
 use serde_json::{Error, Value};
 use std::alloc::{AllocError, AllocFailed, Global};
@@ -43,16 +46,23 @@ impl<T: Drop> From<AllocFailed<T>> for Trouble {
     }
 }
 
-/// A message about the member of a text that a path leads to.
-pub(crate) fn message_at(text: &[u8], path: &[Step<'_>], said: String) -> Message {
-    Message {
-        place: Some(place_of(text, path)),
-        text: said,
-    }
+/// A message about the value that a path leads to in a text.
+pub(crate) fn message_at(
+    alloc: Global,
+    text: &[u8],
+    path: &[Step<'_>],
+    said: String,
+) -> Result<Message, AllocError>
+    ensures { IfOk result (λ message. IfSome message.place (IsPlaceOf None (path_told path.now) text.now)) }
+{
+    let place = place_of(alloc, text, None, path)?;
+    Ok(Message { place, text: said })
 }
 
 /// A message about no place.
-pub(crate) fn unplaced(said: String) -> Message {
+pub(crate) fn unplaced(said: String) -> Message
+    ensures { result.place ≡ None }
+{
     Message {
         place: None,
         text: said,
@@ -79,7 +89,9 @@ pub(crate) fn wants(
     label: &str,
     value: &Value,
     wanted: &str,
-) -> Result<Message, AllocError> {
+) -> Result<Message, AllocError>
+    ensures { IfOk result (λ message. IfSome message.place (IsPlaceOf None (path_told path.now) text.now)) }
+{
     unfit(alloc, text, path, label, kind_of(value), wanted)
 }
 
@@ -91,14 +103,18 @@ pub(crate) fn unfit(
     label: &str,
     found: Kind,
     wanted: &str,
-) -> Result<Message, AllocError> {
+) -> Result<Message, AllocError>
+    ensures { IfOk result (λ message. IfSome message.place (IsPlaceOf None (path_told path.now) text.now)) }
+{
     let found = kind_words(found);
     let said = format!(in alloc; "{label}: {found}, where {wanted} is wanted")?;
-    Ok(message_at(text, path, said))
+    message_at(alloc, text, path, said)
 }
 
 /// A message that a text is not JSON.
-pub(crate) fn not_json(alloc: Global, text: &[u8], error: &Error) -> Result<Message, AllocError> {
+pub(crate) fn not_json(alloc: Global, text: &[u8], error: &Error) -> Result<Message, AllocError>
+    ensures { IfOk result (λ message. IfSome message.place (IsPlaceIn text.now)) }
+{
     let offset = offset_of(text, error.line(), error.column());
     let said = String::from_str(alloc, json_fault(text, offset, error))?;
     Ok(Message {

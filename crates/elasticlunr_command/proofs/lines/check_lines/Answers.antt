@@ -1,0 +1,19 @@
+use Rattle.std.proofs.Common.{[], refl}
+use Rattle.serde_json.specs.View.{view}
+use Rattle.elasticlunr_job.specs.ObjectsTold.{object_told, options_told}
+use Rattle.elasticlunr_command.specs.Refused.{FailLinesOf}
+use Rattle.elasticlunr_command.proofs.LineLemmas.{checked_next, checked_problem}
+use Rattle.elasticlunr_command.proofs.Refusals.{for_this}
+use Rattle.elasticlunr_command.proofs.lines.check_lines.Goals as goal
+
+pub loop-line-init : goal.loop-line-init
+loop-line-init c = record { read = record { items = []; lines = refl }; documents = []; are_documents = tt }
+
+pub returns-in-Err-Problem-clause-err : goal.returns-in-Err-Problem-clause-err
+returns-in-Err-Problem-clause-err c =
+    for_this (FailLinesOf (options_told c.args.options.now) c.args.text.now) c.in_ok-line_refused-in-Err-Problem.field-0
+    (checked_problem (options_told c.args.options.now) c.args.text.now c.loop-line.rest.now c.in-Some.line.now c.in-Some.after.now c.loop-line.invariant c.in-Some.ensures.some (view c.in_ok-value.value) c.in-Err-Problem.problem
+    c.in_ok-value.ensures.ok (rw c.in-Err-Problem.field-0-is at c.in-Err-Problem.ensures.err) c.in_ok-check_json-in-Err-Problem.ensures.ok)
+
+pub loop-line-preserved-in-Ok-3 : goal.loop-line-preserved-in-Ok-3
+loop-line-preserved-in-Ok-3 c = checked_next (options_told c.args.options.now) c.args.text.now c.loop-line.rest.now c.in-Some.line.now c.in-Some.after.now c.loop-line.invariant c.in-Some.ensures.some (view c.in_ok-value.value) c.in_ok-value.ensures.ok (object_told c.in-Ok.object) c.in-Ok.ensures.ok

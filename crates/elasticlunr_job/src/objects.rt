@@ -31,7 +31,7 @@ pub struct Options<'a> {
 /// What is wrong with a document: the first check that it fails.
 #[derive(Clone, Copy, Debug, PartialEq, Eq)]
 pub enum Problem {
-    /// Its bytes are not JSON: of a caller that reads it of bytes.
+    /// It is a line that is not JSON.
     NotJson,
     /// It is of this kind, and no object.
     NotAnObject(Kind),

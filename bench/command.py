@@ -19,6 +19,7 @@ import subprocess
 import sys
 import tempfile
 
+from measure import measured
 from refusing import Refusing
 from running import HERE, program, run, told
 from tables import rows_missing
@@ -28,7 +29,9 @@ FIRST = program("elasticlunr_index")
 TABLE = os.path.join(HERE, "command_rows.jsonl")
 SECONDS = re.compile(rb"\d+\.\d s\n")
 DOCUMENTS = 100_000
-MEGABYTES = 1500  # that the lines of so many documents may take
+MEGABYTES = 340  # that the lines of so many documents may take, most of them for their index
+OTHERS = 40  # numbers in a member of each line that no field takes
+MORE = 12  # megabytes that they may take beside their text, in all lines
 LEAST = 20  # requests for memory that must have been refused
 
 JOB = {
@@ -241,6 +244,24 @@ def check_many(counts):
                 counts.note("their number", json.load(file)["documentStore"]["length"] == DOCUMENTS, "another number")
 
 
+def check_one_line(counts):
+    """Of the lines one value is held at a time: what no field takes costs no more than its text."""
+    with tempfile.TemporaryDirectory() as folder:
+        sizes, peaks, texts = [], [], []
+        for others in ({}, {"others": [0] * OTHERS}):
+            asked, answered = os.path.join(folder, "docs.jsonl"), os.path.join(folder, "index.json")
+            with open(asked, "w", encoding="ascii") as file:
+                for number in range(DOCUMENTS):
+                    file.write(json.dumps({"id": number, "title": "fox", **others}) + "\n")
+            ended = measured([COMMAND, "build", "--no-save"], asked, answered)
+            sizes.append(os.path.getsize(asked) >> 20)
+            peaks.append(ended.megabytes if ended.status == 0 else None)
+            with open(answered, "rb") as file:
+                texts.append(file.read())
+        good = None not in peaks and peaks[1] - peaks[0] <= sizes[1] - sizes[0] + MORE and texts[0] == texts[1]
+        counts.note("the memory of one line", good, f"{sizes} megabytes of text took {peaks}")
+
+
 def check_memory(counts):
     """Each request for memory refused in turn: status 1 and nothing written, or the whole answer."""
     job = json.dumps(JOB)
@@ -267,6 +288,7 @@ def main():
     check_search(counts)
     check_files(counts)
     check_many(counts)
+    check_one_line(counts)
     check_memory(counts)
     return told("command", counts.passed, counts.failed)
 

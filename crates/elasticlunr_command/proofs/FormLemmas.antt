@@ -8,7 +8,7 @@ use Rattle.elasticlunr_text.specs.Text.{Bytes}
 use Rattle.elasticlunr_job.specs.Answer.{reading}
 use Rattle.elasticlunr_command.specs.Forms.{HasForm, IsNotJson, begins_with_an_object, is_object_line}
 use Rattle.elasticlunr_command.specs.Inputs.{IsInput, input_of}
-use Rattle.elasticlunr_command.specs.Lines.{is_filled, lines_of}
+use Rattle.elasticlunr_job.specs.Lines.{is_filled, lines_of}
 use Rattle.elasticlunr_command.specs.declared.form.Form.{Form}
 use Rattle.elasticlunr_command.specs.declared.form.Form.TheVariants.{Job, Objects, Lines}
 

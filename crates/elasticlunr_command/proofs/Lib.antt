@@ -1,6 +1,7 @@
 pub mod Readings
 pub mod FieldKeys
 pub mod LineLemmas
+pub mod LinePlaces
 pub mod FormLemmas
 pub mod Refusals
 pub mod Scripts

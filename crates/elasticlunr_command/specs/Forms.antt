@@ -4,8 +4,9 @@ use Rattle.serde_json.specs.Data.{Data}
 use Rattle.serde_json.specs.Find.{as_array, as_object, get}
 use Rattle.elasticlunr_text.specs.Text.{Bytes}
 use Rattle.elasticlunr_job.specs.Answer.{reading}
+use Rattle.elasticlunr_job.specs.Lines.{is_filled, lines_of}
 use Rattle.elasticlunr_command.specs.Asked.{IsArrayLineWith}
-use Rattle.elasticlunr_command.specs.Lines.{is_filled, lines_of, IsLinesLineWith}
+use Rattle.elasticlunr_command.specs.Lines.{IsLinesLineWith}
 use Rattle.elasticlunr_command.specs.Refused.{IsMemoryOr, FailsJob, FailsArray, FailLines}
 use Rattle.elasticlunr_command.specs.Settled.{Settings, IsLineWith}
 use Rattle.elasticlunr_command.specs.declared.form.Form.{Form}

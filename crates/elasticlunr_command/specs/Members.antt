@@ -4,7 +4,7 @@ use Rattle.serde_json.specs.Data.{Data, null, boolean}
 use Rattle.serde_json.specs.Find.{at, get}
 use Rattle.elasticlunr_text.specs.Text.{Bytes}
 use Rattle.elasticlunr_job.specs.Answer.{reading}
-use Rattle.elasticlunr_command.specs.Lines.{is_filled, is_space, lines_of}
+use Rattle.elasticlunr_job.specs.Lines.{is_space, filled_lines}
 use Rattle.elasticlunr_command.specs.Places.{place_at}
 use Rattle.elasticlunr_command.specs.declared.place.Place.{Place}
 use Rattle.elasticlunr_command.specs.declared.member.Step.{Step}
@@ -36,7 +36,7 @@ follow (step ∷ path) d = option_and_then (follow path) (move step d)
 -- the part of a text that is one value: the text, or the line with this number, from 0, of those that are not blank
 abbrev pub part_of : Option ℕ → Bytes → Option Bytes
 part_of None text = Some text
-part_of (Some number) text = slice_get (filter is_filled (lines_of text)) number
+part_of (Some number) text = slice_get (filled_lines text) number
 
 abbrev pub value_of : Option ℕ → Bytes → Option Data
 value_of line text = option_and_then reading (part_of line text)

@@ -4,12 +4,13 @@ use Rattle.serde_json.specs.Data.{Data}
 use Rattle.serde_json.specs.Find.{as_array}
 use Rattle.serde_json.specs.View.{items_of}
 use Rattle.elasticlunr_text.specs.Text.{Bytes}
-use Rattle.elasticlunr_job.specs.Objects.{Options, FailsObjects}
+use Rattle.elasticlunr_job.specs.Job.{Document}
+use Rattle.elasticlunr_job.specs.Lines.{AreLineValues, HasUnreadLine}
+use Rattle.elasticlunr_job.specs.Objects.{Options, AreDocumentsOf, FailsObjects}
 use Rattle.elasticlunr_job.specs.declared.outcome.Refusal.{Refusal}
 use Rattle.elasticlunr_job.specs.declared.objects.ObjectsError.{ObjectsError}
 use Rattle.elasticlunr_job.specs.declared.objects.ObjectsError.TheVariants as error
 use Rattle.elasticlunr_command.specs.Asked.{options_of}
-use Rattle.elasticlunr_command.specs.Lines.{AreLineValues, HasUnreadLine}
 use Rattle.elasticlunr_command.specs.Settled.{Settings, IsRefusedWith}
 use Rattle.elasticlunr_command.specs.declared.message.Trouble.{Trouble}
 use Rattle.elasticlunr_command.specs.declared.message.Trouble.TheVariants.{Refused, Memory}
@@ -30,6 +31,18 @@ FailsJob settings d = (refusal : Refusal) × IsRefusedWith settings d refusal
 -- the value is no array, or what is in it fails a check
 abbrev pub FailsArray : Settings → Data → Type 0
 FailsArray settings d = (as_array d ≡ None) ⊎ ((items : List Data) × (as_array d ≡ Some (items_of items)) × FailObjects (options_of settings items) items)
+
+-- each line has a value
+abbrev pub HaveValues : Bytes → Type 0
+HaveValues text = (items : List Data) × AreLineValues text items
+
+-- each line is a document, as it is read with these options
+abbrev pub AreDocumentLines : Options → Bytes → Type 0
+AreDocumentLines options text = (items : List Data) × (docs : List Document) × AreLineValues text items × AreDocumentsOf options items docs
+
+-- a line is not JSON, or the values of the lines fail a check of objects that are read so
+abbrev pub FailLinesOf : Options → Bytes → Type 0
+FailLinesOf options text = HasUnreadLine text ⊎ ((items : List Data) × AreLineValues text items × FailObjects options items)
 
 -- a line is not JSON, or the values of the lines fail a check
 abbrev pub FailLines : Settings → Bytes → Type 0

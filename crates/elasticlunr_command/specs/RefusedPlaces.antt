@@ -9,7 +9,8 @@ use Rattle.elasticlunr_job.specs.declared.outcome.Refusal.{Refusal}
 use Rattle.elasticlunr_command.specs.Asked.{options_of}
 use Rattle.elasticlunr_command.specs.FaultPlaces.{IsPlaceInJob, IsPlaceInObjects}
 use Rattle.elasticlunr_command.specs.Forms.{HasForm, IsNotJson}
-use Rattle.elasticlunr_command.specs.Lines.{AreLineValues, HasUnreadLine}
+use Rattle.elasticlunr_job.specs.Lines.{AreLineValues, HasUnreadLine}
+use Rattle.elasticlunr_job.specs.Objects.{Options}
 use Rattle.elasticlunr_command.specs.Members.{IsPlaceOf}
 use Rattle.elasticlunr_command.specs.Places.{IsPlaceIn}
 use Rattle.elasticlunr_command.specs.Settled.{Settings, IsRefusedWith}
@@ -33,7 +34,12 @@ abbrev pub IsArrayPlace : Settings → Bytes → Data → Place → Type 0
 IsArrayPlace settings text d place = ((as_array d ≡ None) × IsPlaceOf None [] text place)
     ⊎ ((items : List Data) × (as_array d ≡ Some (items_of items)) × IsPlaceInObjects Objects text (options_of settings items) items place)
 
--- a line is not JSON, or it is that of the first problem of the values of the lines
+-- a line is not JSON, or it is that of the first problem of the values of the lines, as they are read with these options
+abbrev pub IsPlaceInLines : Bytes → Options → Place → Type 0
+IsPlaceInLines text options place = HasUnreadLine text
+    ⊎ ((items : List Data) × AreLineValues text items × IsPlaceInObjects Lines text options items place)
+
+-- the same with these settings
 abbrev pub IsLinesPlace : Settings → Bytes → Place → Type 0
 IsLinesPlace settings text place = HasUnreadLine text
     ⊎ ((items : List Data) × AreLineValues text items × IsPlaceInObjects Lines text (options_of settings items) items place)

@@ -1,19 +1,17 @@
 //! The index of documents that are objects: an array of them, or a line for each.
-ghost use Rattle.std.specs.Prelude.{◌≡◌, ◌-◌, map, take, length, string_bytes, if◌then◌else◌, IfOk, IfErr, IfSome, Some, None};
-ghost use Rattle.elasticlunr_job.specs.Answer.{reading};
+ghost use Rattle.std.specs.Prelude.{◌≡◌, ◌-◌, map, take, length, string_bytes, if◌then◌else◌, IfOk, IfErr, IfSome};
 ghost use Rattle.elasticlunr_job.specs.Objects.{IsLineOfObjects};
 ghost use Rattle.elasticlunr_job.specs.ObjectsTold.{options_told, texts_told};
 ghost use Rattle.elasticlunr_command.specs.FaultPlaces.{is_of_member, problem_key, IsPlaceInObjects, IsPlaceOfProblem};
 ghost use Rattle.elasticlunr_command.specs.Fields.{is_field, text_keys};
-ghost use Rattle.elasticlunr_command.specs.Lines.{AreLineValues, HasUnreadLine, lines_of};
-ghost use Rattle.elasticlunr_command.specs.Refused.{IsMemoryOr, IsRefusedObjects};
+ghost use Rattle.elasticlunr_command.specs.Refused.{IsRefusedObjects};
 ghost use Rattle.elasticlunr_command.specs.RefusedPlaces.{IfPlaced};
 ghost use Rattle.serde_json.specs.View.{view};
 
 use crate::form::{Form, is_blank};
 use crate::jobs::{duplicate_field, unknown_language};
 use crate::member::{Step, place_of};
-use crate::message::{Message, Trouble, kind_words, not_json, unplaced};
+use crate::message::{Message, Trouble, kind_words, unplaced};
 use crate::notes::Notes;
 use crate::place::Place;
 use crate::tokens::Tokens;
@@ -58,7 +56,7 @@ pub(crate) fn objects_text(
 }
 
 /// What is wrong with the settings of an index of objects.
-fn settings_fault(
+pub(crate) fn settings_fault(
     alloc: Global,
     options: &Options<'_>,
     refusal: Refusal,
@@ -71,7 +69,7 @@ fn settings_fault(
 }
 
 /// The place of what is wrong with the document of this number.
-fn problem_place(
+pub(crate) fn problem_place(
     alloc: Global,
     source: Source<'_>,
     options: &Options<'_>,
@@ -93,6 +91,21 @@ fn problem_place(
             path_of(&[Step::Item(item), key], problem),
         )
     }
+}
+
+/// The line of the object with this number, from 0, and how many lines stand before it.
+pub(crate) fn line_of(text: &[u8], item: usize) -> (usize, &[u8]) {
+    let mut left = item;
+    for (before, line) in text.split(|byte| *byte == b'\n').enumerate() {
+        if is_blank(line) {
+            continue;
+        }
+        if left == 0 {
+            return (before, line);
+        }
+        left -= 1;
+    }
+    (0, text)
 }
 
 /// The steps to what a problem is about: the document, or a member of it.
@@ -119,7 +132,7 @@ fn problem_key<'a>(options: &Options<'a>, problem: Problem) -> &'a str
 }
 
 /// What is wrong with a document.
-fn problem_text(
+pub(crate) fn problem_text(
     alloc: Global,
     options: &Options<'_>,
     number: usize,
@@ -168,42 +181,8 @@ fn document_label(
     }
 }
 
-/// The values of the lines. Lines of white space are passed over.
-pub(crate) fn line_values(alloc: Global, text: &[u8]) -> Result<Vec<Value>, Trouble>
-    ensures ok { IfOk result (λ values. AreLineValues text.now (map view values.items)) }
-    ensures err { IfErr result (IsMemoryOr (HasUnreadLine text.now)) }
-{
-    let lines = lines_of(alloc, text)?;
-    let mut values = Vec::new(alloc);
-    for (before, line) in lines.iter().enumerate() {
-        if !is_blank(*line) {
-            values.push(line_value(alloc, *line, before)?)?;
-        }
-    }
-    Ok(values)
-}
-
-/// The parts of a text between line feeds.
-fn lines_of(alloc: Global, text: &[u8]) -> Result<Vec<&[u8]>, AllocError>
-    ensures { IfOk result (λ lines. map (λ line. line.now) lines.items ≡ lines_of text.now) }
-{
-    text.split(|byte| *byte == b'\n').collect(alloc)
-}
-
-/// The value of a line, before which there are so many.
-fn line_value(alloc: Global, line: &[u8], before: usize) -> Result<Value, Trouble>
-    ensures ok { IfOk result (λ value. reading line.now ≡ Some (view value)) }
-    ensures err { IfErr result (IsMemoryOr (reading line.now ≡ None)) }
-{
-    match Value::from_slice(alloc, line) {
-        Ok(value) => Ok(value),
-        Err(e) if e.is_memory() => Err(Trouble::Memory),
-        Err(e) => Err(Trouble::Refused(below(not_json(alloc, line, &e)?, before))),
-    }
-}
-
 /// The message of a line as one of the text, in which so many lines stand before it.
-fn below(message: Message, before: usize) -> Message {
+pub(crate) fn below(message: Message, before: usize) -> Message {
     Message {
         place: message.place.map(|place| place.below(before)),
         text: message.text,
@@ -247,10 +226,21 @@ pub(crate) fn note_objects(
 ) -> Result<(), AllocError> {
     let tokens = Tokens::of_language(alloc, options.language)?;
     for item in items {
-        let Ok(object) = object_of(alloc, options, item) else {
-            return Err(AllocError);
-        };
-        notes.document(&tokens, object.reference.as_str(), &object.values)?;
+        note_object(alloc, options, &tokens, item, notes)?;
     }
     notes.end(&options.fields)
+}
+
+/// Notes what is unwise in an object that is a document.
+pub(crate) fn note_object(
+    alloc: Global,
+    options: &Options<'_>,
+    tokens: &Tokens,
+    item: &Value,
+    notes: &mut Notes,
+) -> Result<(), AllocError> {
+    let Ok(object) = object_of(alloc, options, item) else {
+        return Err(AllocError);
+    };
+    notes.document(tokens, object.reference.as_str(), &object.values)
 }

@@ -1,10 +1,10 @@
 //! In which form the documents come.
 ghost use Rattle.std.specs.Prelude.{◌≡◌, ◌≢◌, IfOk, IfErr, IfSome, IfNone, Some, find, option_map};
 ghost use Rattle.elasticlunr_job.specs.Answer.{reading};
+ghost use Rattle.elasticlunr_job.specs.Lines.{is_filled, lines_of};
 ghost use Rattle.elasticlunr_text.specs.Text.{Bytes};
 ghost use Rattle.elasticlunr_command.specs.Forms.{HasForm, IsNotJson, begins_with_an_object, form_word, has, is_object_line, value_form};
 ghost use Rattle.elasticlunr_command.specs.Inputs.{IsInput, input_of};
-ghost use Rattle.elasticlunr_command.specs.Lines.{is_blank, is_filled, lines_of};
 ghost use Rattle.elasticlunr_command.specs.Places.{IsPlaceIn};
 ghost use Rattle.elasticlunr_command.specs.Refused.{IsMemoryOr};
 ghost use Rattle.elasticlunr_command.specs.RefusedPlaces.{IfPlaced};
@@ -12,6 +12,7 @@ ghost use Rattle.elasticlunr_command.specs.declared.form.Form.{Form};
 ghost use Rattle.serde_json.specs.View.{view};
 
 use crate::message::{Trouble, not_json};
+pub(crate) use elasticlunr_job::lines::is_blank;
 use serde_json::Value;
 use std::alloc::{AllocError, Global};
 
@@ -138,11 +139,4 @@ fn first_filled(text: &[u8]) -> Option<&[u8]>
 {
     text.split(|byte| *byte == b'\n')
         .find(|line| !is_blank(line))
-}
-
-/// Whether a line has no character but white space.
-pub(crate) fn is_blank(line: &[u8]) -> bool
-    ensures { result ≡ is_blank line.now }
-{
-    line.iter().all(|byte| *byte == b' ' || *byte == b'\t' || *byte == b'\r' || *byte == b'\n')
 }

@@ -11,13 +11,17 @@ ghost use Rattle.elasticlunr_command.specs.RefusedPlaces.{IfPlaced, IsArrayPlace
 ghost use Rattle.elasticlunr_command.specs.Settled.{IsLineWith, settings_told};
 ghost use Rattle.serde_json.specs.View.{view};
 
-use crate::documents::{Source, first_fields, line_values, note_objects, objects_text};
+use crate::documents::{
+    Source, first_fields, note_objects, objects_text, problem_text, settings_fault,
+};
 use crate::form::{Form, Input, read_input};
 use crate::jobs::{job_refused, job_text, note_job};
-use crate::message::{Trouble, wants};
+use crate::lines::{check_lines, first_value, note_lines};
+use crate::message::{Trouble, unplaced, wants};
 use crate::notes::Notes;
 use crate::settings::{Settings, text_or, texts_of};
-use elasticlunr_job::objects::Options;
+use elasticlunr_job::lines::lines_line;
+use elasticlunr_job::objects::{ObjectsError, Options};
 use elasticlunr_job::outcome::Stop;
 use serde_json::Value;
 use std::alloc::{AllocError, Global};
@@ -103,12 +107,25 @@ fn text_of_lines(
     ensures err { IfErr result (AreRefusedLines (settings_told settings.now) text.now) }
     ensures place { IfErr result (IfPlaced (IsLinesPlace (settings_told settings.now) text.now)) }
 {
-    let items = line_values(alloc, text)?;
-    let source = Source {
-        text,
-        form: Form::Lines,
-    };
-    text_of_objects(alloc, source, &items, settings, notes)
+    let first = first_value(alloc, text)?;
+    let options = options_of(alloc, settings, &first)?;
+    match lines_line(alloc, &options, text) {
+        Ok(line) => {
+            note_lines(alloc, text, &options, notes)?;
+            Ok(line)
+        }
+        Err(ObjectsError::Memory) => Err(Trouble::Memory),
+        Err(ObjectsError::Refused(refusal)) => {
+            check_lines(alloc, text, &options)?;
+            let said = settings_fault(alloc, &options, refusal)?;
+            Err(Trouble::Refused(unplaced(said)))
+        }
+        Err(ObjectsError::Document(number, problem)) => {
+            check_lines(alloc, text, &options)?;
+            let said = problem_text(alloc, &options, number, None, problem)?;
+            Err(Trouble::Refused(unplaced(said)))
+        }
+    }
 }
 
 /// The text of the index of objects.

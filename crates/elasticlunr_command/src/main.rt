@@ -12,6 +12,7 @@ mod index;
 mod job_fault;
 mod jobs;
 mod languages;
+mod lines;
 mod member;
 mod message;
 mod nearest;

@@ -1,9 +1,9 @@
 //! Where a value stands in a text of JSON: it is looked for, and what is found is checked.
-ghost use Rattle.std.specs.Prelude.{◌≡◌, ◌≤◌, ℕ, true, false, Some, codes, map, filter, option_map, slice_get, IfOk, IfSome};
+ghost use Rattle.std.specs.Prelude.{◌≡◌, ◌≤◌, ℕ, true, false, Some, codes, map, option_map, slice_get, IfOk, IfSome};
 ghost use Rattle.serde_json.specs.Data.{boolean, depth, null};
 ghost use Rattle.serde_json.specs.Read.{max_depth};
 ghost use Rattle.serde_json.specs.View.{view};
-ghost use Rattle.elasticlunr_command.specs.Lines.{is_filled, is_space, lines_of};
+ghost use Rattle.elasticlunr_job.specs.Lines.{filled_lines, is_space};
 ghost use Rattle.elasticlunr_command.specs.Members.{follow, move, move_told, part_of, path_told, value_of, value_at, with_word, HasValue, IsPlaceOf, StandsAt};
 
 use crate::form::is_blank;
@@ -182,7 +182,7 @@ fn part_of(alloc: Global, text: &[u8], line: Option<usize>) -> Result<Option<&[u
 
 /// The lines that are not blank.
 fn filled_lines(alloc: Global, text: &[u8]) -> Result<Vec<&[u8]>, AllocError>
-    ensures { IfOk result (λ lines. map (λ line. line.now) lines.items ≡ filter is_filled (lines_of text.now)) }
+    ensures { IfOk result (λ lines. map (λ line. line.now) lines.items ≡ filled_lines text.now) }
 {
     text.split(|byte| *byte == b'\n')
         .filter(|line| !is_blank(line))

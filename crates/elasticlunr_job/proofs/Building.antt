@@ -29,13 +29,20 @@ module _ {L P T : Type 0} where
   begun_for job language first second third e f g =
       g ∙ ap {A = Choices L (Option P) T} (λ c. record c { reference_field = job.reference_field }) (f ∙ ap {A = Choices L (Option P) T} (λ c. record c { save = job.save }) e)
 
-  -- and then the fields, as the program holds them
+  -- and then the fields
+  pub given_told : (job : Job) (language : L) (third last : Choices L (Option P) T) (names : List (Bor Bytes)) → third ≡ begun job language → map (λ name. name.now) names ≡ job.fields → last ≡ with_fields (map (λ name. name.now) names) third → last ≡ with_fields job.fields (begun job language)
+  given_told job language third last names e f g =
+      g ∙ ap {A = Choices L (Option P) T} (with_fields (map (λ name. name.now) names)) e ∙ ap (λ ns. with_fields ns (begun job language)) f
+
+  pub told_fields : (Q : List Bytes → Type 0) (job : Job) (language : L) (third : Choices L (Option P) T) (names : List (Bor Bytes)) → third ≡ begun job language → map (λ name. name.now) names ≡ job.fields → Q (third.fields ++ map (λ name. name.now) names) → Q job.fields
+  told_fields Q job language third names e f q = subst Q f (subst (λ (c : Choices L (Option P) T). Q (c.fields ++ map (λ name. name.now) names)) e q)
+
+  -- the same of the fields as the program holds them
   pub given_for : (job : held.Job) (language : L) (third last : Choices L (Option P) T) (names : List (Bor Bytes)) → third ≡ begun (job_told job) language → names ≡ job.fields.items → last ≡ with_fields (map (λ name. name.now) names) third → last ≡ with_fields (job_told job).fields (begun (job_told job) language)
-  given_for job language third last names e f g =
-      g ∙ ap {A = Choices L (Option P) T} (with_fields (map (λ name. name.now) names)) e ∙ ap (λ ns. with_fields (map (λ name. name.now) ns) (begun (job_told job) language)) f
+  given_for job language third last names e f g = given_told (job_told job) language third last names e (ap (map (λ (name : Bor Bytes). name.now)) f) g
 
   pub given_fields : (Q : List Bytes → Type 0) (job : held.Job) (language : L) (third : Choices L (Option P) T) (names : List (Bor Bytes)) → third ≡ begun (job_told job) language → names ≡ job.fields.items → Q (third.fields ++ map (λ name. name.now) names) → Q (job_told job).fields
-  given_fields Q job language third names e f q = subst (λ ns. Q (map (λ name. name.now) ns)) f (subst (λ (c : Choices L (Option P) T). Q (c.fields ++ map (λ name. name.now) names)) e q)
+  given_fields Q job language third names e f q = told_fields Q (job_told job) language third names e (ap (map (λ (name : Bor Bytes). name.now)) f) q
 
   uses_language : (job : Job) (language : L) → UsesLanguage (with_fields job.fields (begun job language))
   uses_language job language = record { no_pipeline = refl; no_tokenizer = nothing_there job.fields }

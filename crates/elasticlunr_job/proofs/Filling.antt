@@ -12,10 +12,10 @@ use Rattle.elasticlunr_job.specs.JobTold.{document_told, job_told}
 use Rattle.elasticlunr_job.specs.declared.job.Document as held
 use Rattle.elasticlunr_job.specs.declared.job.Job as held_job
 
-abbrev Makes : Type 1
+abbrev pub Makes : Type 1
 Makes = Bytes → List Bytes → Document → Type 0
 
-abbrev Standing : Type 1
+abbrev pub Standing : Type 1
 Standing = Commands → Type 0
 
 followed_by-append : (commands : Commands) (xs ys : List Command) → followed_by commands (xs ++ ys) ≡ followed_by (followed_by commands xs) ys

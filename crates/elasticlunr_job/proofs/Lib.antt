@@ -13,3 +13,5 @@ pub mod OneAnswer
 pub mod FieldTexts
 pub mod Several
 pub mod JobFaults
+pub mod FilledLines
+pub mod LineStops

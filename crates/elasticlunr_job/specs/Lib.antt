@@ -12,3 +12,5 @@ pub mod JobFaults
 pub mod FaultSteps
 pub mod Objects
 pub mod ObjectsTold
+pub mod Lines
+pub mod LinesTold

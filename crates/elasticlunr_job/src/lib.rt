@@ -11,5 +11,6 @@ pub mod job;
 pub mod key;
 pub mod kind;
 pub mod laws;
+pub mod lines;
 pub mod objects;
 pub mod outcome;

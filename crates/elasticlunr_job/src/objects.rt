@@ -13,6 +13,7 @@ use crate::answer::job_line;
 use crate::job::{Document, Job};
 use crate::kind::{Kind, kind_of};
 use crate::outcome::{Refusal, Stop};
+use elasticlunr::IndexError;
 use serde_json::Value;
 use std::alloc::{AllocError, AllocFailed, Global};
 
@@ -30,7 +31,7 @@ pub struct Options<'a> {
 /// What is wrong with a document: the first check that it fails.
 #[derive(Clone, Copy, Debug, PartialEq, Eq)]
 pub enum Problem {
-    /// Its bytes are not JSON: of a caller that reads it of bytes.
+    /// It is a line that is not JSON.
     NotJson,
     /// It is of this kind, and no object.
     NotAnObject(Kind),
@@ -100,6 +101,35 @@ impl<T: Drop> From<AllocFailed<T>> for ObjectsError {
 
     fn from(_refused: AllocFailed<T>) -> ObjectsError {
         ObjectsError::Memory
+    }
+}
+
+impl From<Stop> for ObjectsError {
+    ghost use Rattle.std.specs.Prelude.{◌≡◌};
+    ghost use Rattle.elasticlunr_job.specs.LinesTold.{error_of};
+
+    ghost from_gives = { λ stop e. e ≡ error_of stop };
+
+    fn from(stop: Stop) -> ObjectsError {
+        match stop {
+            Stop::Refused(refusal) => ObjectsError::Refused(refusal),
+            Stop::Memory => ObjectsError::Memory,
+        }
+    }
+}
+
+impl From<IndexError> for ObjectsError {
+    ghost use Rattle.std.specs.Prelude.{◌≡◌};
+    ghost use Rattle.elasticlunr_job.specs.LinesTold.{index_error_of};
+
+    ghost from_gives = { λ refused e. e ≡ index_error_of refused };
+
+    fn from(refused: IndexError) -> ObjectsError {
+        match refused {
+            IndexError::DuplicateField => ObjectsError::Refused(Refusal::DuplicateField),
+            IndexError::TooManyValues => ObjectsError::Refused(Refusal::TooManyValues),
+            _ => ObjectsError::Memory,
+        }
     }
 }
 
@@ -173,7 +203,7 @@ pub fn object_of<'a>(
 }
 
 /// How a document with this number that is not added stops all.
-fn stop_at(number: usize, e: AddError) -> ObjectsError
+pub(crate) fn stop_at(number: usize, e: AddError) -> ObjectsError
     ensures { result ≡ stop_at number e }
 {
     match e {

@@ -1,6 +1,6 @@
 use Rattle.std.proofs.Common.{sym, ◌∙◌, true≢false}
 use Rattle.elasticlunr_command.proofs.Readings.{reading_some, reading_none}
-use Rattle.elasticlunr_command.proofs.documents.line_value.Goals as goal
+use Rattle.elasticlunr_command.proofs.lines.line_value.Goals as goal
 
 pub returns-in-Ok-clause-ok : goal.returns-in-Ok-clause-ok
 returns-in-Ok-clause-ok c = reading_some _ _ c.in-Ok.ensures.ok.0 c.in-Ok.ensures.ok.1

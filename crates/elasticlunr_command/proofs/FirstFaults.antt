@@ -1,13 +1,11 @@
 -- The first field that comes twice, and the first document that is too long.
-use Rattle.std.proofs.Common.{◌≡◌, ◌<◌, ◌≤◌, ◌+◌, ◌++◌, ℕ, List, [], ◌∷◌, length, map, take, get_or, Bool, true, false, ◌||◌, Bor, Some, All, bytes_eq, option_map, refl, sym, ap, subst, ◌∙◌, arith}
+use Rattle.std.proofs.Common.{◌≡◌, ◌<◌, ◌≤◌, ◌+◌, ℕ, List, [], ◌∷◌, length, map, take, get_or, true, false, ◌||◌, Bor, Some, bytes_eq, option_map, refl, sym, ap, subst, ◌∙◌, arith}
 use Rattle.std.proofs.lemmas.List.{take_all, take-map, map_more, length-map}
 use Rattle.std.proofs.lemmas.List.Elements.{All-push}
 use Rattle.std.proofs.lemmas.Option.{slice_get-map, slice_get-get_or}
 use Rattle.std.specs.List.{list_any}
 use Rattle.elasticlunr.specs.Fields.{all_differ, borrowed, has_name}
 use Rattle.elasticlunr.proofs.Naming.{all_differ-push}
-use Rattle.elasticlunr_job.specs.Answer.{HasTooMany}
-use Rattle.elasticlunr_job.specs.Job as spec
 use Rattle.elasticlunr_job.specs.JobTold.{document_told}
 use Rattle.elasticlunr_job.specs.declared.job.Document.{Document}
 use Rattle.elasticlunr_command.specs.FirstFaults.{AllFit, IsFirstTooLong, IsFirstTwice}

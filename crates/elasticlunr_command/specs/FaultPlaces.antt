@@ -1,5 +1,5 @@
 -- Where that stands for which an input is refused.
-use Rattle.std.specs.Prelude.{◌≡◌, ◌-◌, ◌⊎◌, ⊤, ℕ, List, [], ◌∷◌, ◌++◌, Bool, true, false, Option, Some, None, slice_get, unwrap_or, codes, IfSome, if◌then◌else◌}
+use Rattle.std.specs.Prelude.{◌-◌, ◌⊎◌, ℕ, List, [], ◌∷◌, Bool, true, false, Some, None, slice_get, unwrap_or, codes, if◌then◌else◌}
 use Rattle.serde_json.specs.Data.{Data}
 use Rattle.elasticlunr_text.specs.Text.{Bytes}
 use Rattle.elasticlunr_job.specs.Job.{Job, IsJob}

@@ -264,21 +264,22 @@ def check_one_line(counts):
 
 def check_memory(counts):
     """Each request for memory refused in turn: status 1 and nothing written, or the whole answer."""
-    job = json.dumps(JOB)
     wanted = printed(JOB).decode() + "\n"
-    with Refusing() as refusing:
-        refused = wrong = number = 0
-        while wrong < 5:
-            number += 1
-            ended = refusing.run(COMMAND, job, number, ["build"])
-            was_refused = (ended.out, ended.status) == ("", 1)
-            refused += was_refused
-            if not was_refused and (ended.out, ended.status) != (wanted, 0):
-                wrong += 1
-                print(f"command, memory: request {number}: status {ended.status}, {len(ended.out)} characters")
-            if ended.requests < number:
-                break
-    counts.note("memory refused in turn", wrong == 0 and refused >= LEAST, f"{refused} refused, {wrong} wrong")
+    lines = "".join(json.dumps(it) + "\n" for it in OBJECTS)
+    for form, given, words in (("job", json.dumps(JOB), []), ("lines", lines, ["--fields", "title,body"])):
+        with Refusing() as refusing:
+            refused = wrong = number = 0
+            while wrong < 5:
+                number += 1
+                ended = refusing.run(COMMAND, given, number, ["build", *words])
+                was_refused = (ended.out, ended.status) == ("", 1)
+                refused += was_refused
+                if not was_refused and (ended.out, ended.status) != (wanted, 0):
+                    wrong += 1
+                    print(f"command, memory: {form}, request {number}: status {ended.status}, {len(ended.out)} characters")
+                if ended.requests < number:
+                    break
+        counts.note(f"memory refused in turn, {form}", wrong == 0 and refused >= LEAST, f"{refused} refused, {wrong} wrong")
 
 
 def main():

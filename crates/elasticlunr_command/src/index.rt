@@ -121,6 +121,7 @@ fn text_of_lines(
             Err(Trouble::Refused(unplaced(said)))
         }
         Err(ObjectsError::Document(number, problem)) => {
+            // It finds the line again, and says where it stands.
             check_lines(alloc, text, &options)?;
             let said = problem_text(alloc, &options, number, None, problem)?;
             Err(Trouble::Refused(unplaced(said)))

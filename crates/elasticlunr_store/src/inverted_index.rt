@@ -15,6 +15,7 @@ mod add;
 mod branch;
 mod compact;
 mod docs;
+mod few;
 mod lists;
 mod names;
 mod nodes;

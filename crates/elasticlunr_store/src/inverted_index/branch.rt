@@ -6,9 +6,9 @@ ghost use Rattle.elasticlunr_store.specs.Nodes.{children_of, SameNodes};
 ghost use Rattle.elasticlunr_store.specs.Trie.{children_at, step_of, IsTrie};
 ghost use Rattle.elasticlunr_store.specs.Branch.{IsBranch, HasBranch, GainsChild, GainsNextChild, KeepsOtherChildren, IsLocated, SameTrie, Grows, IsPlace};
 
+use super::few::Few;
 use super::nodes::{Node, Place, child, children_at, gap};
 use super::postings::Postings;
-use smallvec::SmallVec;
 use std::alloc::{AllocError, Global};
 
 // Where the longest known beginning of a token leads, and what follows it.
@@ -46,14 +46,14 @@ pub(super) fn new_branch(
     let mut branch = Vec::with_capacity(alloc, text.len() + 1)?;
     for c in text.chars() {
         branch.push(Node {
-            children: SmallVec::from_buf(alloc, [(c, number + branch.len())]),
+            children: Few::one(alloc, (c, number + branch.len())),
             postings: Postings::new(alloc),
         })?;
     }
     let mut postings = Postings::new(alloc);
     postings.set(reference, term_freq)?;
     branch.push(Node {
-        children: SmallVec::new(alloc),
+        children: Few::new(alloc),
         postings,
     })?;
     Ok(branch)
@@ -95,11 +95,11 @@ fn attach_to_node(
     ensures others { OnOk result (KeepsOtherChildren nodes.old.items nodes.new.items k) }
     ensures nodes { OnOk result (HasBranch nodes.old.items nodes.new.items branch.old.items) }
 {
-    nodes[k].children.reserve(1)?;
+    nodes.reserve(branch.len())?;
     let number = nodes.len();
-    nodes.append(branch)?;
-    let at = gap(&nodes[k].children, c);
-    nodes[k].children.insert(at, (c, number)).unwrap();
+    let at = gap(nodes[k].children.as_slice(), c);
+    nodes[k].children.insert(at, (c, number))?;
+    nodes.append(branch).unwrap();
     Ok(())
 }
 

@@ -12,11 +12,11 @@ ghost use Rattle.elasticlunr_store.specs.Trie.{IsTrie, IsIndex, HaveOneParent, s
 ghost use Rattle.elasticlunr_store.specs.Compact.{AreNumbers, kept_children, HasFrequency, HasMarked, KeepsMarked, MarksBearing};
 
 use super::InvertedIndex;
+use super::few::Few;
 use super::names::Names;
 use super::nodes::{Children, Node, Reference};
 use super::numbered::renumber;
 use elasticlunr_text::IndexError;
-use smallvec::SmallVec;
 use std::alloc::{AllocError, Global};
 
 impl InvertedIndex {
@@ -119,7 +119,7 @@ fn bears_posting(node: &Node, marks: &[bool]) -> bool
     if !node.postings.pairs().is_empty() {
         return true;
     }
-    has_marked(&node.children, marks)
+    has_marked(node.children.as_slice(), marks)
 }
 
 // Is one of the children marked?
@@ -163,7 +163,7 @@ fn keep_children(
     requires numbers { AreNumbers marks.now numbers.now }
     ensures { IfOk result (λ kept. kept.items ≡ kept_children marks.now children.now) }
 {
-    let mut kept = SmallVec::new(alloc);
+    let mut kept = Few::new(alloc);
     for &(c, k) in children {
         if !marks[k] {
             continue;
@@ -199,7 +199,7 @@ fn keep_nodes(
             continue;
         }
         let node = &nodes[i];
-        let children = keep_children(alloc, &node.children, marks, numbers)?;
+        let children = keep_children(alloc, node.children.as_slice(), marks, numbers)?;
         let postings = renumber(
             alloc,
             kept_names,

@@ -8,12 +8,12 @@ ghost use Rattle.elasticlunr_store.specs.Trie.{children_at, step_of, table_of, w
 ghost use Rattle.elasticlunr_store.specs.Table.{posting};
 ghost use Rattle.elasticlunr_store.specs.NodeTables.{found_frequencies, ArePostingsAt};
 
+use super::few::Few;
 use super::names::Names;
 use super::postings::Postings;
-use smallvec::SmallVec;
 
 // Each child under its character. One alone stands in place: most nodes have one.
-pub(super) type Children = SmallVec<(char, usize), 1>;
+pub(super) type Children = Few<(char, usize)>;
 
 #[derive(Debug, Drop)]
 pub(super) struct Node {

@@ -4,12 +4,12 @@ ghost use Rattle.std.specs.Prelude.{◌≡◌, ◌≤◌, length, insert, OnOk, 
 ghost use Rattle.elasticlunr_store.specs.Pairs.{value_of, IsStrictlySorted, IsAt, IsGapFor};
 ghost use Rattle.elasticlunr_store.specs.Frequencies.{frequencies_of};
 
-use smallvec::SmallVec;
+use super::few::Few;
 use std::alloc::{AllocError, Global};
 use std::marker::Model;
 
 // A number and a frequency. One pair alone stands in place: most postings are of one reference.
-type Pairs = SmallVec<(usize, u64), 1>;
+type Pairs = Few<(usize, u64)>;
 
 /// A finite map from numbers of references to frequencies, as pairs in the order of the numbers. A
 /// new greatest number goes to the end without a search.
@@ -39,7 +39,7 @@ impl Postings {
         ensures { result ≡ map.empty }
     {
         Postings {
-            pairs: SmallVec::new(alloc),
+            pairs: Few::new(alloc),
         }
     }
 
@@ -47,7 +47,7 @@ impl Postings {
     pub fn with_room(alloc: Global, count: usize) -> Result<Self, AllocError>
         ensures { IfOk result (λ p. p ≡ map.empty) }
     {
-        let pairs = SmallVec::with_capacity(alloc, count)?;
+        let pairs = Few::with_room(alloc, count)?;
         Ok(Postings { pairs })
     }
 
@@ -62,14 +62,14 @@ impl Postings {
     pub fn pairs(&self) -> &[(usize, u64)]
         ensures { result.now ≡ map.entries self.now }
     {
-        &self.pairs
+        self.pairs.as_slice()
     }
 
     /// The frequency of a reference, if it has a posting.
     pub fn get(&self, number: usize) -> Option<u64>
         ensures { result ≡ map.get self.now number }
     {
-        value_of(&self.pairs, number)
+        value_of(self.pairs.as_slice(), number)
     }
 
     /// Sets the posting of a reference. One alone requests no memory.
@@ -112,16 +112,6 @@ fn value_of(pairs: &[(usize, u64)], number: usize) -> Option<u64>
     }
 }
 
-// Puts a pair in its place.
-fn insert_pair(pairs: &mut Pairs, at: usize, pair: (usize, u64)) -> Result<(), AllocError>
-    requires { at ≤ length pairs.old.items }
-    ensures ok { OnOk result (pairs.new.items ≡ insert pairs.old.items at pair) }
-    ensures err { OnErr result (pairs.new.items ≡ pairs.old.items) }
-{
-    pairs.insert(at, pair)?;
-    Ok(())
-}
-
 // Sets the pair of a number.
 fn set_pair(pairs: &mut Pairs, number: usize, frequency: u64) -> Result<(), AllocError>
     requires { IsStrictlySorted pairs.old.items }
@@ -130,13 +120,13 @@ fn set_pair(pairs: &mut Pairs, number: usize, frequency: u64) -> Result<(), Allo
         ≡ map.insert (frequencies_of pairs.old.items) number frequency) }
     ensures err { OnErr result (pairs.new.items ≡ pairs.old.items) }
 {
-    match place_of(pairs, number) {
+    match place_of(pairs.as_slice(), number) {
         Ok(at) => {
-            pairs[at] = (number, frequency);
+            pairs.set(at, (number, frequency));
             Ok(())
         }
         Err(at) => {
-            insert_pair(pairs, at, (number, frequency))?;
+            pairs.insert(at, (number, frequency))?;
             Ok(())
         }
     }
@@ -148,7 +138,7 @@ fn remove_pair(pairs: &mut Pairs, number: usize)
     ensures sorted { IsStrictlySorted pairs.new.items }
     ensures removed { frequencies_of pairs.new.items ≡ map.remove (frequencies_of pairs.old.items) number }
 {
-    if let Ok(at) = place_of(pairs, number) {
+    if let Ok(at) = place_of(pairs.as_slice(), number) {
         pairs.remove(at);
     }
 }

@@ -12,12 +12,12 @@ ghost use Rattle.elasticlunr_store.specs.Reading.{borrowed_values, ReadsChildren
 ghost use Rattle.std.specs.Str.{all_scalars};
 ghost use Rattle.elasticlunr_store.specs.Trie.{IsIndex, table_of};
 
+use super::few::Few;
 use super::names::Names;
 use super::nodes::{Children, Node, Reference};
 use super::numbered::number_docs;
 use elasticlunr_text::IndexError;
 use serde_json::{Map, Value};
-use smallvec::SmallVec;
 use std::alloc::Global;
 use std::collections::BTreeMap;
 
@@ -92,7 +92,7 @@ fn read_children<'a>(
     ensures order { IfOk result (λ _. HasKeysInOrder (members_view members.now.entries)) }
     ensures foreign { IfErr result (IsRefused (HasForeignKey (members_view members.now.entries))) }
 {
-    let mut children = SmallVec::new(alloc);
+    let mut children = Few::new(alloc);
     for (key, value) in members.iter() {
         if is_own_key(key.as_str()) {
             continue;

@@ -135,7 +135,7 @@ fn root_value(
         let ranked = in_order(alloc, names, ranks, node.postings.pairs())?;
         let docs = docs_value(alloc, names, &ranked)?;
         let df = ranked.len() as u64;
-        let value = node_value(alloc, &node.children, docs, df, finished)?;
+        let value = node_value(alloc, node.children.as_slice(), docs, df, finished)?;
         set_value(finished, i, value);
     }
     let docs = Value::Object(Map::new(alloc));

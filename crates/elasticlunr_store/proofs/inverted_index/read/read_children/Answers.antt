@@ -19,7 +19,7 @@ loop-key-init c =
       done = [];
       split = from;
       sorted = subst (λ es. IsStrictlySortedBy string_cmp (keys_of es)) (sym from) c.iter-key-items.ensures.ordered;
-      reads = subst (λ es. ReadsChildren es (borrowed_values c.args.waiting.now.items) (borrowed_values c.args.waiting.now.items) (members_view [])) (sym c.new-children.ensures.items) (nothing_read (borrowed_values c.args.waiting.now.items));
+      reads = subst (λ es. ReadsChildren es (borrowed_values c.args.waiting.now.items) (borrowed_values c.args.waiting.now.items) (members_view [])) (sym c.new-children.ensures) (nothing_read (borrowed_values c.args.waiting.now.items));
     }
 
 pub loop-key-preserved-then-is_own_key : goal.loop-key-preserved-then-is_own_key

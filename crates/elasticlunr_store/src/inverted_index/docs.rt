@@ -34,7 +34,7 @@ fn copy_postings(
 // A copy of the postings of a token, if it is known.
 pub(super) fn copy_docs(
     alloc: Global,
-    root: &[(char, usize)],
+    root: &[(char, u32)],
     nodes: &[Node],
     names: &Names,
     token: &str,

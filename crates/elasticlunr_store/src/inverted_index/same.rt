@@ -57,10 +57,10 @@ fn same_postings(names: &Names, postings: &Postings, names2: &Names, postings2: 
 fn same_child(
     names: &Names,
     nodes: &[Node],
-    child: (char, usize),
+    child: (char, u32),
     names2: &Names,
     nodes2: &[Node],
-    child2: (char, usize),
+    child2: (char, u32),
 ) -> bool
     requires names { AreNames names.now }
     requires numbered { AreAllNumbered names.now nodes.now }
@@ -76,9 +76,9 @@ fn same_child(
     }
     same_postings(
         names,
-        postings_at(nodes, child.1),
+        postings_at(nodes, child.1 as usize),
         names2,
-        postings_at(nodes2, child2.1),
+        postings_at(nodes2, child2.1 as usize),
     )
 }
 
@@ -86,11 +86,11 @@ fn same_child(
 // children, and comes back to the others, so a path without branches needs no stack.
 pub(super) fn same_below(
     names: &Names,
-    root: &[(char, usize)],
+    root: &[(char, u32)],
     nodes: &[Node],
     place: Place,
     names2: &Names,
-    root2: &[(char, usize)],
+    root2: &[(char, u32)],
     nodes2: &[Node],
     place2: Place,
 ) -> bool
@@ -118,8 +118,8 @@ pub(super) fn same_below(
             if !same_child(names, nodes, children[i], names2, nodes2, children2[i]) {
                 return false;
             }
-            let below = Place::At(children[i].1);
-            let below2 = Place::At(children2[i].1);
+            let below = Place::At(children[i].1 as usize);
+            let below2 = Place::At(children2[i].1 as usize);
             if !same_below(names, root, nodes, below, names2, root2, nodes2, below2) {
                 return false;
             }
@@ -134,7 +134,7 @@ pub(super) fn same_below(
         ) {
             return false;
         }
-        here = Place::At(children[last].1);
-        here2 = Place::At(children2[last].1);
+        here = Place::At(children[last].1 as usize);
+        here2 = Place::At(children2[last].1 as usize);
     }
 }

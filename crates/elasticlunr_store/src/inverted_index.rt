@@ -20,6 +20,7 @@ mod lists;
 mod names;
 mod nodes;
 mod numbered;
+mod posting;
 mod postings;
 mod read;
 mod references;
@@ -56,8 +57,9 @@ use value::tree_value;
 /// postings stand; its name is kept once. A name may stay when its postings go, until the trie is
 /// compacted; no call shows it.
 ///
-/// A node takes 40 bytes, and more where it has several children or several postings. Its number
-/// has 32 bits: a call that would make more nodes fails as where memory is wanting.
+/// A node takes 32 bytes, and more where it has several children or several postings. A number of a
+/// node or of a reference has 32 bits: a call that would make more of them fails as where memory is
+/// wanting.
 #[derive(Debug, Drop)]
 pub struct InvertedIndex {
     root: Vec<(char, u32)>,

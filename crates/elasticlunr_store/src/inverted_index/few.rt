@@ -1,4 +1,4 @@
-//! A list that keeps one item in place. Beside an item of at least 8 bytes it takes 8 more.
+//! A list that keeps one item in place, or else the place of a vector.
 ghost use Rattle.std.specs.Mem.{FitsInMemory};
 ghost use Rattle.std.specs.Prelude.{◌≡◌, ◌<◌, ◌≤◌, [], ◌∷◌, ◌++◌, length, insert, remove, slice_set, IfOk, OnOk, OnErr};
 

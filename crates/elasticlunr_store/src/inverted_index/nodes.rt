@@ -23,7 +23,7 @@ pub(super) struct Node {
     pub postings: Postings,
 }
 
-const _: () = prove!(size_of::<Node>() == 40);
+const _: () = prove!(size_of::<Node>() == 32);
 
 #[derive(Clone, Copy)]
 pub(super) enum Place {
@@ -37,11 +37,11 @@ pub(super) struct Reference {
     pub nodes: Vec<u32>,
 }
 
-// The number of a node, as other nodes keep it. Where it has more than 32 bits, memory is wanting.
-pub(super) fn short_number(k: usize) -> Result<u32, AllocError>
-    ensures { IfOk result (λ short. short ≡ k) }
+// The number of a node or a reference, as nodes keep it. Where it has more than 32 bits, memory is wanting.
+pub(super) fn short_number(number: usize) -> Result<u32, AllocError>
+    ensures { IfOk result (λ short. short ≡ number) }
 {
-    match u32::try_from(k) {
+    match u32::try_from(number) {
         Ok(short) => Ok(short),
         Err(_) => Err(AllocError),
     }

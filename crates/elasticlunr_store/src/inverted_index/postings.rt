@@ -5,11 +5,12 @@ ghost use Rattle.elasticlunr_store.specs.Pairs.{value_of, IsStrictlySorted, IsAt
 ghost use Rattle.elasticlunr_store.specs.Frequencies.{frequencies_of};
 
 use super::few::Few;
+use super::posting::Posting;
 use std::alloc::{AllocError, Global};
 use std::marker::Model;
 
-// A number and a frequency. One pair alone stands in place: most postings are of one reference.
-type Pairs = Few<(usize, u64)>;
+// One posting alone stands in place: most tokens have one reference.
+type Pairs = Few<Posting>;
 
 /// A finite map from numbers of references to frequencies, as pairs in the order of the numbers. A
 /// new greatest number goes to the end without a search.
@@ -59,7 +60,7 @@ impl Postings {
     }
 
     /// The pairs in the order of the numbers.
-    pub fn pairs(&self) -> &[(usize, u64)]
+    pub fn pairs(&self) -> &[Posting]
         ensures { result.now ≡ map.entries self.now }
     {
         self.pairs.as_slice()
@@ -89,25 +90,28 @@ impl Postings {
 }
 
 // Where the pair of a number is, or where it would go. A number above all others is not searched for.
-fn place_of(pairs: &[(usize, u64)], number: usize) -> Result<usize, usize>
+fn place_of(pairs: &[Posting], number: usize) -> Result<usize, usize>
     requires { IsStrictlySorted pairs.now }
     ensures found { IfOk result (IsAt pairs.now number) }
     ensures absent { IfErr result (IsGapFor pairs.now number) }
 {
     let count = pairs.len();
-    if count == 0 || pairs[count - 1].0 < number {
+    if count == 0 {
+        return Err(0);
+    }
+    if pairs[count - 1].number() < number {
         return Err(count);
     }
-    pairs.binary_search_by_key(&number, |&(key, _)| key)
+    pairs.binary_search_by_key(&number, |posting| posting.number())
 }
 
 // The frequency under a number.
-fn value_of(pairs: &[(usize, u64)], number: usize) -> Option<u64>
+fn value_of(pairs: &[Posting], number: usize) -> Option<u64>
     requires { IsStrictlySorted pairs.now }
     ensures { result ≡ value_of pairs.now number }
 {
     match place_of(pairs, number) {
-        Ok(at) => Some(pairs[at].1),
+        Ok(at) => Some(pairs[at].frequency()),
         Err(_) => None,
     }
 }
@@ -120,13 +124,14 @@ fn set_pair(pairs: &mut Pairs, number: usize, frequency: u64) -> Result<(), Allo
         ≡ map.insert (frequencies_of pairs.old.items) number frequency) }
     ensures err { OnErr result (pairs.new.items ≡ pairs.old.items) }
 {
+    let posting = Posting::new(number, frequency)?;
     match place_of(pairs.as_slice(), number) {
         Ok(at) => {
-            pairs.set(at, (number, frequency));
+            pairs.set(at, posting);
             Ok(())
         }
         Err(at) => {
-            pairs.insert(at, (number, frequency))?;
+            pairs.insert(at, posting)?;
             Ok(())
         }
     }

@@ -9,6 +9,7 @@ ghost use Rattle.elasticlunr_store.specs.Same.{IsSameBelow};
 
 use super::names::Names;
 use super::nodes::{Node, Place, children_at, frequency_of, postings_at};
+use super::posting::Posting;
 use super::postings::Postings;
 
 // Has the name of a number this posting on the other side?
@@ -27,14 +28,20 @@ fn same_posting(
 }
 
 // Is each of these postings one of the others?
-fn includes(names: &Names, pairs: &[(usize, u64)], names2: &Names, postings2: &Postings) -> bool
+fn includes(names: &Names, pairs: &[Posting], names2: &Names, postings2: &Postings) -> bool
     requires names { AreNames names.now }
     requires postings { ArePostings names.now pairs.now }
     ensures { IsTrue result ↔ ((r : Bytes) → (f : ℕ) → get (named_pairs names.now pairs.now) r ≡ Some f
         → at names2.now r postings2.now ≡ Some f) }
 {
-    for &(number, frequency) in pairs {
-        if !same_posting(names, number, frequency, names2, postings2) {
+    for posting in pairs {
+        if !same_posting(
+            names,
+            posting.number(),
+            posting.frequency(),
+            names2,
+            postings2,
+        ) {
             return false;
         }
     }

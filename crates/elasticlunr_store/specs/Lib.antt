@@ -8,6 +8,8 @@ pub mod Refused
 pub mod Equal
 pub mod Pairs
 pub mod Frequencies
+pub mod Few
+pub mod Kept
 pub mod Names
 pub mod NameNumbers
 pub mod Children

@@ -15,10 +15,12 @@ mod add;
 mod branch;
 mod compact;
 mod docs;
+mod few;
 mod lists;
 mod names;
 mod nodes;
 mod numbered;
+mod posting;
 mod postings;
 mod read;
 mod references;
@@ -54,9 +56,13 @@ use value::tree_value;
 /// text is looked up by halves at each of its characters. A reference has a number, under which its
 /// postings stand; its name is kept once. A name may stay when its postings go, until the trie is
 /// compacted; no call shows it.
+///
+/// A node takes 32 bytes, and more where it has several children or several postings. A number of a
+/// node or of a reference has 32 bits: a call that would make more of them fails as where memory is
+/// wanting.
 #[derive(Debug, Drop)]
 pub struct InvertedIndex {
-    root: Vec<(char, usize)>,
+    root: Vec<(char, u32)>,
     nodes: Vec<Node>,
     names: Names,
     references: Vec<Reference>,

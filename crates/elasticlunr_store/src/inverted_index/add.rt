@@ -55,7 +55,7 @@ fn set_posting(
 // Puts a path below a place, whose end has a posting.
 fn grow(
     alloc: Global,
-    root: &mut Vec<(char, usize)>,
+    root: &mut Vec<(char, u32)>,
     nodes: &mut Vec<Node>,
     names: &mut Names,
     references: &mut Vec<Reference>,
@@ -85,7 +85,7 @@ fn grow(
 // Sets the posting of a token.
 pub(super) fn add_posting(
     alloc: Global,
-    root: &mut Vec<(char, usize)>,
+    root: &mut Vec<(char, u32)>,
     nodes: &mut Vec<Node>,
     names: &mut Names,
     references: &mut Vec<Reference>,

@@ -6,13 +6,13 @@ ghost use Rattle.elasticlunr_store.specs.Nodes.{children_of, SameNodes};
 ghost use Rattle.elasticlunr_store.specs.Trie.{children_at, step_of, IsTrie};
 ghost use Rattle.elasticlunr_store.specs.Branch.{IsBranch, HasBranch, GainsChild, GainsNextChild, KeepsOtherChildren, IsLocated, SameTrie, Grows, IsPlace};
 
-use super::nodes::{Node, Place, child, children_at, gap};
+use super::few::Few;
+use super::nodes::{Node, Place, child, children_at, gap, short_number};
 use super::postings::Postings;
-use smallvec::SmallVec;
 use std::alloc::{AllocError, Global};
 
 // Where the longest known beginning of a token leads, and what follows it.
-pub(super) fn locate<'a>(root: &[(char, usize)], nodes: &[Node], token: &'a str) -> (Place, &'a str)
+pub(super) fn locate<'a>(root: &[(char, u32)], nodes: &[Node], token: &'a str) -> (Place, &'a str)
     requires { IsTrie root.now nodes.now }
     ensures at { IsLocated (step_of root.now nodes.now) (chars token.now) result.0 (chars result.1.now) }
     ensures text { IsUtf8 result.1.now }
@@ -45,15 +45,16 @@ pub(super) fn new_branch(
 {
     let mut branch = Vec::with_capacity(alloc, text.len() + 1)?;
     for c in text.chars() {
+        let next = short_number(number + branch.len())?;
         branch.push(Node {
-            children: SmallVec::from_buf(alloc, [(c, number + branch.len())]),
+            children: Few::one(alloc, (c, next)),
             postings: Postings::new(alloc),
         })?;
     }
     let mut postings = Postings::new(alloc);
     postings.set(reference, term_freq)?;
     branch.push(Node {
-        children: SmallVec::new(alloc),
+        children: Few::new(alloc),
         postings,
     })?;
     Ok(branch)
@@ -61,7 +62,7 @@ pub(super) fn new_branch(
 
 // Puts a branch below the root.
 fn attach_to_root(
-    root: &mut Vec<(char, usize)>,
+    root: &mut Vec<(char, u32)>,
     nodes: &mut Vec<Node>,
     c: char,
     branch: &mut Vec<Node>,
@@ -72,8 +73,8 @@ fn attach_to_root(
     ensures gains { OnOk result (GainsChild root.old.items root.new.items c (length nodes.old.items)) }
     ensures nodes { OnOk result (nodes.new.items ≡ nodes.old.items ++ branch.old.items) }
 {
+    let number = short_number(nodes.len())?;
     root.reserve(1)?;
-    let number = nodes.len();
     nodes.append(branch)?;
     let at = gap(root, c);
     root.insert(at, (c, number)).unwrap();
@@ -95,17 +96,17 @@ fn attach_to_node(
     ensures others { OnOk result (KeepsOtherChildren nodes.old.items nodes.new.items k) }
     ensures nodes { OnOk result (HasBranch nodes.old.items nodes.new.items branch.old.items) }
 {
-    nodes[k].children.reserve(1)?;
-    let number = nodes.len();
-    nodes.append(branch)?;
-    let at = gap(&nodes[k].children, c);
-    nodes[k].children.insert(at, (c, number)).unwrap();
+    let number = short_number(nodes.len())?;
+    nodes.reserve(branch.len())?;
+    let at = gap(nodes[k].children.as_slice(), c);
+    nodes[k].children.insert(at, (c, number))?;
+    nodes.append(branch).unwrap();
     Ok(())
 }
 
 // Puts a branch below a place.
 pub(super) fn attach(
-    root: &mut Vec<(char, usize)>,
+    root: &mut Vec<(char, u32)>,
     nodes: &mut Vec<Node>,
     place: Place,
     c: char,

@@ -12,11 +12,11 @@ ghost use Rattle.elasticlunr_store.specs.Trie.{IsTrie, IsIndex, HaveOneParent, s
 ghost use Rattle.elasticlunr_store.specs.Compact.{AreNumbers, kept_children, HasFrequency, HasMarked, KeepsMarked, MarksBearing};
 
 use super::InvertedIndex;
+use super::few::Few;
 use super::names::Names;
-use super::nodes::{Children, Node, Reference};
+use super::nodes::{Children, Node, Reference, short_number};
 use super::numbered::renumber;
 use elasticlunr_text::IndexError;
-use smallvec::SmallVec;
 use std::alloc::{AllocError, Global};
 
 impl InvertedIndex {
@@ -49,10 +49,10 @@ impl InvertedIndex {
 // The children and the nodes from which a posting is reached, numbered anew, with the names that their postings have.
 fn compact(
     alloc: Global,
-    root: &[(char, usize)],
+    root: &[(char, u32)],
     nodes: &[Node],
     names: &Names,
-) -> Result<(Vec<(char, usize)>, Vec<Node>, Names, Vec<Reference>), AllocError>
+) -> Result<(Vec<(char, u32)>, Vec<Node>, Names, Vec<Reference>), AllocError>
     requires trie { IsTrie root.now nodes.now }
     requires parents { HaveOneParent (step_of root.now nodes.now) (length nodes.now) }
     requires names { AreNames names.now }
@@ -119,17 +119,17 @@ fn bears_posting(node: &Node, marks: &[bool]) -> bool
     if !node.postings.pairs().is_empty() {
         return true;
     }
-    has_marked(&node.children, marks)
+    has_marked(node.children.as_slice(), marks)
 }
 
 // Is one of the children marked?
-fn has_marked(children: &[(char, usize)], marks: &[bool]) -> bool
+fn has_marked(children: &[(char, u32)], marks: &[bool]) -> bool
     requires sorted { IsStrictlySorted children.now }
     requires in_range { (c : ℕ) (k : ℕ) → child children.now c ≡ Some k → k < length marks.now }
     ensures { IsTrue result ↔ HasMarked marks.now children.now }
 {
     for &(_, k) in children {
-        if marks[k] {
+        if marks[k as usize] {
             return true;
         }
     }
@@ -154,7 +154,7 @@ fn new_numbers(alloc: Global, marks: &[bool]) -> Result<Vec<usize>, AllocError>
 // The marked children, under their new numbers.
 fn keep_children(
     alloc: Global,
-    children: &[(char, usize)],
+    children: &[(char, u32)],
     marks: &[bool],
     numbers: &[usize],
 ) -> Result<Children, AllocError>
@@ -163,12 +163,12 @@ fn keep_children(
     requires numbers { AreNumbers marks.now numbers.now }
     ensures { IfOk result (λ kept. kept.items ≡ kept_children marks.now children.now) }
 {
-    let mut kept = SmallVec::new(alloc);
+    let mut kept = Few::new(alloc);
     for &(c, k) in children {
-        if !marks[k] {
+        if !marks[k as usize] {
             continue;
         }
-        kept.push((c, numbers[k]))?;
+        kept.push((c, short_number(numbers[k as usize])?))?;
     }
     Ok(kept)
 }
@@ -199,7 +199,7 @@ fn keep_nodes(
             continue;
         }
         let node = &nodes[i];
-        let children = keep_children(alloc, &node.children, marks, numbers)?;
+        let children = keep_children(alloc, node.children.as_slice(), marks, numbers)?;
         let postings = renumber(
             alloc,
             kept_names,

@@ -11,6 +11,7 @@ ghost use Rattle.elasticlunr_store.specs.Table.{postings_of};
 
 use super::names::Names;
 use super::nodes::{Node, Place, find, postings_at};
+use super::posting::Posting;
 use std::alloc::{AllocError, Global};
 use std::collections::BTreeMap;
 
@@ -18,15 +19,18 @@ use std::collections::BTreeMap;
 fn copy_postings(
     alloc: Global,
     names: &Names,
-    pairs: &[(usize, u64)],
+    pairs: &[Posting],
 ) -> Result<BTreeMap<String, u64>, AllocError>
     requires names { AreNames names.now }
     requires postings { ArePostings names.now pairs.now }
     ensures { IfOk result (λ m. postings_of m.entries ≡ named_pairs names.now pairs.now) }
 {
     let mut docs = BTreeMap::new(alloc);
-    for &(number, frequency) in pairs {
-        docs.insert(String::from_str(alloc, names.name(number))?, frequency)?;
+    for posting in pairs {
+        docs.insert(
+            String::from_str(alloc, names.name(posting.number()))?,
+            posting.frequency(),
+        )?;
     }
     Ok(docs)
 }
@@ -34,7 +38,7 @@ fn copy_postings(
 // A copy of the postings of a token, if it is known.
 pub(super) fn copy_docs(
     alloc: Global,
-    root: &[(char, usize)],
+    root: &[(char, u32)],
     nodes: &[Node],
     names: &Names,
     token: &str,
@@ -59,14 +63,15 @@ pub(super) fn copy_docs(
 fn with_ranks(
     alloc: Global,
     ranks: &[usize],
-    pairs: &[(usize, u64)],
+    pairs: &[Posting],
 ) -> Result<Vec<(usize, usize, u64)>, AllocError>
     requires { (i : ℕ) → i < length pairs.now → key_at pairs.now i < length ranks.now }
     ensures { IfOk result (λ r. r.items ≡ map (λ p. (slice_index ranks.now p.0, p.0, p.1)) pairs.now) }
 {
     let mut ranked = Vec::with_capacity(alloc, pairs.len())?;
-    for &(number, frequency) in pairs {
-        ranked.push((ranks[number], number, frequency))?;
+    for posting in pairs {
+        let number = posting.number();
+        ranked.push((ranks[number], number, posting.frequency()))?;
     }
     Ok(ranked)
 }
@@ -76,7 +81,7 @@ pub(super) fn in_order(
     alloc: Global,
     names: &Names,
     ranks: &[usize],
-    pairs: &[(usize, u64)],
+    pairs: &[Posting],
 ) -> Result<Vec<(usize, usize, u64)>, AllocError>
     requires names { AreNames names.now }
     requires ranks { AreRanks names.now ranks.now }

@@ -3,7 +3,7 @@ ghost use Rattle.std.specs.Prelude.{◌≡◌, ◌≢◌, ◌<◌, ◌++◌, ◌
 ghost use Rattle.std.specs.FinMap.{get};
 ghost use Rattle.elasticlunr_store.specs.Nodes.{list_at, has, KeepsLists, KeepsOtherNodes};
 
-use super::nodes::Reference;
+use super::nodes::{Reference, short_number};
 use super::postings::Postings;
 use std::alloc::{AllocError, Global};
 
@@ -31,7 +31,8 @@ fn push_node(references: &mut Vec<Reference>, number: usize, k: usize) -> Result
     ensures err { OnErr result (list_at references.new.items number ≡ list_at references.old.items number) }
     ensures others { (n : ℕ) → n ≢ number → list_at references.new.items n ≡ list_at references.old.items n }
 {
-    references[number].nodes.push(k)?;
+    let short = short_number(k)?;
+    references[number].nodes.push(short)?;
     Ok(())
 }
 
@@ -68,13 +69,13 @@ pub(super) fn list_node(
 }
 
 // Where a list has a node.
-fn place_in(list: &[usize], k: usize) -> Option<usize>
+fn place_in(list: &[u32], k: usize) -> Option<usize>
     ensures { IfSome result (λ i. (i < length list.now) × (slice_index list.now i ≡ k)) }
 {
     let mut i = list.len();
     while i > 0 {
         i -= 1;
-        if list[i] == k {
+        if list[i] as usize == k {
             return Some(i);
         }
     }
@@ -82,7 +83,7 @@ fn place_in(list: &[usize], k: usize) -> Option<usize>
 }
 
 // Takes a node out of a list, if it is there.
-fn forget(list: &mut Vec<usize>, k: usize)
+fn forget(list: &mut Vec<u32>, k: usize)
     ensures { (q : ℕ) → q ≢ k → IsTrue (has list.old.items q) → IsTrue (has list.new.items q) }
 {
     if let Some(at) = place_in(list, k) {

@@ -8,18 +8,22 @@ ghost use Rattle.elasticlunr_store.specs.Trie.{children_at, step_of, table_of, w
 ghost use Rattle.elasticlunr_store.specs.Table.{posting};
 ghost use Rattle.elasticlunr_store.specs.NodeTables.{found_frequencies, ArePostingsAt};
 
+use super::few::Few;
 use super::names::Names;
 use super::postings::Postings;
-use smallvec::SmallVec;
+use std::alloc::AllocError;
+use std::mem::size_of;
 
-// Each child under its character. One alone stands in place: most nodes have one.
-pub(super) type Children = SmallVec<(char, usize), 1>;
+// The number of each child under its character. One alone stands in place: most nodes have one.
+pub(super) type Children = Few<(char, u32)>;
 
 #[derive(Debug, Drop)]
 pub(super) struct Node {
     pub children: Children,
     pub postings: Postings,
 }
+
+const _: () = prove!(size_of::<Node>() == 32);
 
 #[derive(Clone, Copy)]
 pub(super) enum Place {
@@ -30,11 +34,21 @@ pub(super) enum Place {
 // What a trie keeps for the number of a reference: the nodes where it has a posting, and maybe others.
 #[derive(Debug, Drop)]
 pub(super) struct Reference {
-    pub nodes: Vec<usize>,
+    pub nodes: Vec<u32>,
+}
+
+// The number of a node or a reference, as nodes keep it. Where it has more than 32 bits, memory is wanting.
+pub(super) fn short_number(number: usize) -> Result<u32, AllocError>
+    ensures { IfOk result (λ short. short ≡ number) }
+{
+    match u32::try_from(number) {
+        Ok(short) => Ok(short),
+        Err(_) => Err(AllocError),
+    }
 }
 
 // The children of a node.
-pub(super) fn children_of(nodes: &[Node], k: usize) -> &[(char, usize)]
+pub(super) fn children_of(nodes: &[Node], k: usize) -> &[(char, u32)]
     ensures { result.now ≡ children_of (slice_get nodes.now k) }
 {
     match nodes.get(k) {
@@ -45,10 +59,10 @@ pub(super) fn children_of(nodes: &[Node], k: usize) -> &[(char, usize)]
 
 // The children of a place.
 pub(super) fn children_at<'a>(
-    root: &'a [(char, usize)],
+    root: &'a [(char, u32)],
     nodes: &'a [Node],
     place: Place,
-) -> &'a [(char, usize)]
+) -> &'a [(char, u32)]
     ensures { result.now ≡ children_at root.now nodes.now place }
 {
     match place {
@@ -58,7 +72,7 @@ pub(super) fn children_at<'a>(
 }
 
 // Where the child under a character is, or where it would go.
-fn search(children: &[(char, usize)], c: char) -> Result<usize, usize>
+fn search(children: &[(char, u32)], c: char) -> Result<usize, usize>
     requires { IsStrictlySorted children.now }
     ensures found { IfOk result (IsAt children.now c) }
     ensures absent { IfErr result (IsGapFor children.now c) }
@@ -67,18 +81,18 @@ fn search(children: &[(char, usize)], c: char) -> Result<usize, usize>
 }
 
 // The number of the child under a character.
-pub(super) fn child(children: &[(char, usize)], c: char) -> Option<usize>
+pub(super) fn child(children: &[(char, u32)], c: char) -> Option<usize>
     requires { IsStrictlySorted children.now }
     ensures { result ≡ value_of children.now c }
 {
     match search(children, c) {
-        Ok(at) => Some(children[at].1),
+        Ok(at) => Some(children[at].1 as usize),
         Err(_) => None,
     }
 }
 
 // Where the path of a token leads.
-pub(super) fn find(root: &[(char, usize)], nodes: &[Node], token: &str) -> Option<Place>
+pub(super) fn find(root: &[(char, u32)], nodes: &[Node], token: &str) -> Option<Place>
     requires { IsTrie root.now nodes.now }
     ensures { result ≡ walk (step_of root.now nodes.now) Place.Root (chars token.now) }
 {
@@ -90,7 +104,7 @@ pub(super) fn find(root: &[(char, usize)], nodes: &[Node], token: &str) -> Optio
 }
 
 // Where the child under a new character goes.
-pub(super) fn gap(children: &[(char, usize)], c: char) -> usize
+pub(super) fn gap(children: &[(char, u32)], c: char) -> usize
     requires sorted { IsStrictlySorted children.now }
     requires free { value_of children.now c ≡ None }
     ensures { IsGapFor children.now c result }
@@ -119,7 +133,7 @@ pub(super) fn frequency_of(names: &Names, postings: &Postings, doc_ref: &str) ->
 
 // The frequency of a reference at a token, if it has a posting there.
 pub(super) fn find_frequency(
-    root: &[(char, usize)],
+    root: &[(char, u32)],
     nodes: &[Node],
     names: &Names,
     token: &str,
@@ -137,7 +151,7 @@ pub(super) fn find_frequency(
 
 // The postings of a token, none where it is unknown or empty.
 pub(super) fn find_postings<'a>(
-    root: &[(char, usize)],
+    root: &[(char, u32)],
     nodes: &'a [Node],
     token: &str,
 ) -> Option<&'a Postings>

@@ -10,6 +10,7 @@ ghost use Rattle.elasticlunr_store.specs.Trie.{named};
 use super::lists::list_new;
 use super::names::Names;
 use super::nodes::Reference;
+use super::posting::Posting;
 use super::postings::Postings;
 use std::alloc::{AllocError, Global};
 use std::collections::BTreeMap;
@@ -74,7 +75,7 @@ pub(super) fn renumber(
     references: &mut Vec<Reference>,
     k: usize,
     old_names: &Names,
-    pairs: &[(usize, u64)],
+    pairs: &[Posting],
 ) -> Result<Postings, AllocError>
     requires names { AreNames names.old }
     requires old_names { AreNames old_names.now }
@@ -86,15 +87,15 @@ pub(super) fn renumber(
     ensures same { IfOk result (λ p. named names.new p ≡ named_pairs old_names.now pairs.now) }
 {
     let mut postings = Postings::with_room(alloc, pairs.len())?;
-    for &(number, frequency) in pairs {
+    for posting in pairs {
         put_posting(
             alloc,
             names,
             references,
             k,
             &mut postings,
-            old_names.name(number),
-            frequency,
+            old_names.name(posting.number()),
+            posting.frequency(),
         )?;
     }
     Ok(postings)

@@ -4,12 +4,13 @@ ghost use Rattle.std.specs.Prelude.{◌≡◌, ◌≤◌, length, insert, OnOk, 
 ghost use Rattle.elasticlunr_store.specs.Pairs.{value_of, IsStrictlySorted, IsAt, IsGapFor};
 ghost use Rattle.elasticlunr_store.specs.Frequencies.{frequencies_of};
 
-use smallvec::SmallVec;
+use super::few::Few;
+use super::posting::Posting;
 use std::alloc::{AllocError, Global};
 use std::marker::Model;
 
-// A number and a frequency. One pair alone stands in place: most postings are of one reference.
-type Pairs = SmallVec<(usize, u64), 1>;
+// One posting alone stands in place: most tokens have one reference.
+type Pairs = Few<Posting>;
 
 /// A finite map from numbers of references to frequencies, as pairs in the order of the numbers. A
 /// new greatest number goes to the end without a search.
@@ -39,7 +40,7 @@ impl Postings {
         ensures { result ≡ map.empty }
     {
         Postings {
-            pairs: SmallVec::new(alloc),
+            pairs: Few::new(alloc),
         }
     }
 
@@ -47,7 +48,7 @@ impl Postings {
     pub fn with_room(alloc: Global, count: usize) -> Result<Self, AllocError>
         ensures { IfOk result (λ p. p ≡ map.empty) }
     {
-        let pairs = SmallVec::with_capacity(alloc, count)?;
+        let pairs = Few::with_room(alloc, count)?;
         Ok(Postings { pairs })
     }
 
@@ -59,17 +60,17 @@ impl Postings {
     }
 
     /// The pairs in the order of the numbers.
-    pub fn pairs(&self) -> &[(usize, u64)]
+    pub fn pairs(&self) -> &[Posting]
         ensures { result.now ≡ map.entries self.now }
     {
-        &self.pairs
+        self.pairs.as_slice()
     }
 
     /// The frequency of a reference, if it has a posting.
     pub fn get(&self, number: usize) -> Option<u64>
         ensures { result ≡ map.get self.now number }
     {
-        value_of(&self.pairs, number)
+        value_of(self.pairs.as_slice(), number)
     }
 
     /// Sets the posting of a reference. One alone requests no memory.
@@ -89,37 +90,30 @@ impl Postings {
 }
 
 // Where the pair of a number is, or where it would go. A number above all others is not searched for.
-fn place_of(pairs: &[(usize, u64)], number: usize) -> Result<usize, usize>
+fn place_of(pairs: &[Posting], number: usize) -> Result<usize, usize>
     requires { IsStrictlySorted pairs.now }
     ensures found { IfOk result (IsAt pairs.now number) }
     ensures absent { IfErr result (IsGapFor pairs.now number) }
 {
     let count = pairs.len();
-    if count == 0 || pairs[count - 1].0 < number {
+    if count == 0 {
+        return Err(0);
+    }
+    if pairs[count - 1].number() < number {
         return Err(count);
     }
-    pairs.binary_search_by_key(&number, |&(key, _)| key)
+    pairs.binary_search_by_key(&number, |posting| posting.number())
 }
 
 // The frequency under a number.
-fn value_of(pairs: &[(usize, u64)], number: usize) -> Option<u64>
+fn value_of(pairs: &[Posting], number: usize) -> Option<u64>
     requires { IsStrictlySorted pairs.now }
     ensures { result ≡ value_of pairs.now number }
 {
     match place_of(pairs, number) {
-        Ok(at) => Some(pairs[at].1),
+        Ok(at) => Some(pairs[at].frequency()),
         Err(_) => None,
     }
-}
-
-// Puts a pair in its place.
-fn insert_pair(pairs: &mut Pairs, at: usize, pair: (usize, u64)) -> Result<(), AllocError>
-    requires { at ≤ length pairs.old.items }
-    ensures ok { OnOk result (pairs.new.items ≡ insert pairs.old.items at pair) }
-    ensures err { OnErr result (pairs.new.items ≡ pairs.old.items) }
-{
-    pairs.insert(at, pair)?;
-    Ok(())
 }
 
 // Sets the pair of a number.
@@ -130,13 +124,14 @@ fn set_pair(pairs: &mut Pairs, number: usize, frequency: u64) -> Result<(), Allo
         ≡ map.insert (frequencies_of pairs.old.items) number frequency) }
     ensures err { OnErr result (pairs.new.items ≡ pairs.old.items) }
 {
-    match place_of(pairs, number) {
+    let posting = Posting::new(number, frequency)?;
+    match place_of(pairs.as_slice(), number) {
         Ok(at) => {
-            pairs[at] = (number, frequency);
+            pairs.set(at, posting);
             Ok(())
         }
         Err(at) => {
-            insert_pair(pairs, at, (number, frequency))?;
+            pairs.insert(at, posting)?;
             Ok(())
         }
     }
@@ -148,7 +143,7 @@ fn remove_pair(pairs: &mut Pairs, number: usize)
     ensures sorted { IsStrictlySorted pairs.new.items }
     ensures removed { frequencies_of pairs.new.items ≡ map.remove (frequencies_of pairs.old.items) number }
 {
-    if let Ok(at) = place_of(pairs, number) {
+    if let Ok(at) = place_of(pairs.as_slice(), number) {
         pairs.remove(at);
     }
 }

@@ -12,12 +12,12 @@ ghost use Rattle.elasticlunr_store.specs.Reading.{borrowed_values, ReadsChildren
 ghost use Rattle.std.specs.Str.{all_scalars};
 ghost use Rattle.elasticlunr_store.specs.Trie.{IsIndex, table_of};
 
+use super::few::Few;
 use super::names::Names;
-use super::nodes::{Children, Node, Reference};
+use super::nodes::{Children, Node, Reference, short_number};
 use super::numbered::number_docs;
 use elasticlunr_text::IndexError;
 use serde_json::{Map, Value};
-use smallvec::SmallVec;
 use std::alloc::Global;
 use std::collections::BTreeMap;
 
@@ -92,7 +92,7 @@ fn read_children<'a>(
     ensures order { IfOk result (λ _. HasKeysInOrder (members_view members.now.entries)) }
     ensures foreign { IfErr result (IsRefused (HasForeignKey (members_view members.now.entries))) }
 {
-    let mut children = SmallVec::new(alloc);
+    let mut children = Few::new(alloc);
     for (key, value) in members.iter() {
         if is_own_key(key.as_str()) {
             continue;
@@ -100,7 +100,7 @@ fn read_children<'a>(
         let Some(c) = only_char(key.as_str()) else {
             return Err(IndexError::ForeignValue);
         };
-        children.push((c, waiting.len()))?;
+        children.push((c, short_number(waiting.len())?))?;
         waiting.push(value)?;
     }
     Ok(children)
@@ -146,7 +146,7 @@ pub(super) fn read_nodes(
     value: &Value,
     names: &mut Names,
     references: &mut Vec<Reference>,
-) -> Result<(Vec<(char, usize)>, Vec<Node>), IndexError>
+) -> Result<(Vec<(char, u32)>, Vec<Node>), IndexError>
     requires { names.old ≡ [] }
     ensures index { IfOk result (λ t. IsIndex t.0.items t.1.items names.new references.new.items) }
     ensures tree { IfOk result (λ t. IsTree (table_of t.0.items t.1.items names.new) [] (view value.now)) }

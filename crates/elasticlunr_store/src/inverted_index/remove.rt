@@ -20,13 +20,13 @@ fn clear_number(nodes: &mut Vec<Node>, k: usize, number: usize)
 }
 
 // Takes the postings of a reference away, at the nodes that it lists.
-fn remove_number(nodes: &mut Vec<Node>, list: &[usize], number: usize)
+fn remove_number(nodes: &mut Vec<Node>, list: &[u32], number: usize)
     requires { (k f : ℕ) → get (postings_at nodes.old.items k) number ≡ Some f → IsTrue (has list.now k) }
     ensures { LosesNumber nodes.old.items nodes.new.items number }
 {
     for k in list {
-        if *k < nodes.len() {
-            clear_number(nodes, *k, number);
+        if (*k as usize) < nodes.len() {
+            clear_number(nodes, *k as usize, number);
         }
     }
 }
@@ -55,7 +55,7 @@ pub(super) fn remove_postings(
 
 // Takes the posting of a token away.
 pub(super) fn remove_posting(
-    root: &[(char, usize)],
+    root: &[(char, u32)],
     names: &Names,
     references: &mut Vec<Reference>,
     nodes: &mut Vec<Node>,

@@ -9,6 +9,7 @@ ghost use Rattle.elasticlunr_store.specs.Same.{IsSameBelow};
 
 use super::names::Names;
 use super::nodes::{Node, Place, children_at, frequency_of, postings_at};
+use super::posting::Posting;
 use super::postings::Postings;
 
 // Has the name of a number this posting on the other side?
@@ -27,14 +28,20 @@ fn same_posting(
 }
 
 // Is each of these postings one of the others?
-fn includes(names: &Names, pairs: &[(usize, u64)], names2: &Names, postings2: &Postings) -> bool
+fn includes(names: &Names, pairs: &[Posting], names2: &Names, postings2: &Postings) -> bool
     requires names { AreNames names.now }
     requires postings { ArePostings names.now pairs.now }
     ensures { IsTrue result ↔ ((r : Bytes) → (f : ℕ) → get (named_pairs names.now pairs.now) r ≡ Some f
         → at names2.now r postings2.now ≡ Some f) }
 {
-    for &(number, frequency) in pairs {
-        if !same_posting(names, number, frequency, names2, postings2) {
+    for posting in pairs {
+        if !same_posting(
+            names,
+            posting.number(),
+            posting.frequency(),
+            names2,
+            postings2,
+        ) {
             return false;
         }
     }
@@ -57,10 +64,10 @@ fn same_postings(names: &Names, postings: &Postings, names2: &Names, postings2: 
 fn same_child(
     names: &Names,
     nodes: &[Node],
-    child: (char, usize),
+    child: (char, u32),
     names2: &Names,
     nodes2: &[Node],
-    child2: (char, usize),
+    child2: (char, u32),
 ) -> bool
     requires names { AreNames names.now }
     requires numbered { AreAllNumbered names.now nodes.now }
@@ -76,9 +83,9 @@ fn same_child(
     }
     same_postings(
         names,
-        postings_at(nodes, child.1),
+        postings_at(nodes, child.1 as usize),
         names2,
-        postings_at(nodes2, child2.1),
+        postings_at(nodes2, child2.1 as usize),
     )
 }
 
@@ -86,11 +93,11 @@ fn same_child(
 // children, and comes back to the others, so a path without branches needs no stack.
 pub(super) fn same_below(
     names: &Names,
-    root: &[(char, usize)],
+    root: &[(char, u32)],
     nodes: &[Node],
     place: Place,
     names2: &Names,
-    root2: &[(char, usize)],
+    root2: &[(char, u32)],
     nodes2: &[Node],
     place2: Place,
 ) -> bool
@@ -118,8 +125,8 @@ pub(super) fn same_below(
             if !same_child(names, nodes, children[i], names2, nodes2, children2[i]) {
                 return false;
             }
-            let below = Place::At(children[i].1);
-            let below2 = Place::At(children2[i].1);
+            let below = Place::At(children[i].1 as usize);
+            let below2 = Place::At(children2[i].1 as usize);
             if !same_below(names, root, nodes, below, names2, root2, nodes2, below2) {
                 return false;
             }
@@ -134,7 +141,7 @@ pub(super) fn same_below(
         ) {
             return false;
         }
-        here = Place::At(children[last].1);
-        here2 = Place::At(children2[last].1);
+        here = Place::At(children[last].1 as usize);
+        here2 = Place::At(children2[last].1 as usize);
     }
 }

@@ -51,7 +51,7 @@ fn docs_value(
 fn put_children(
     alloc: Global,
     members: &mut Map<String, Value>,
-    children: &[(char, usize)],
+    children: &[(char, u32)],
     finished: &mut [Value],
 ) -> Result<(), AllocError>
     requires empty { members.old.entries ≡ [] }
@@ -64,7 +64,7 @@ fn put_children(
     for &(c, k) in children {
         let mut key = String::new(alloc);
         key.push(c)?;
-        put_member(members, key, take_value(finished, k))?;
+        put_member(members, key, take_value(finished, k as usize))?;
     }
     Ok(())
 }
@@ -72,7 +72,7 @@ fn put_children(
 // The value of a node, which takes the finished values of its children.
 fn node_value(
     alloc: Global,
-    children: &[(char, usize)],
+    children: &[(char, u32)],
     docs: Value,
     df: u64,
     finished: &mut [Value],
@@ -115,7 +115,7 @@ fn set_value(values: &mut [Value], i: usize, value: Value)
 // The tree of the root, made from the last node to the first.
 fn root_value(
     alloc: Global,
-    root: &[(char, usize)],
+    root: &[(char, u32)],
     nodes: &[Node],
     names: &Names,
     ranks: &[usize],
@@ -135,7 +135,7 @@ fn root_value(
         let ranked = in_order(alloc, names, ranks, node.postings.pairs())?;
         let docs = docs_value(alloc, names, &ranked)?;
         let df = ranked.len() as u64;
-        let value = node_value(alloc, &node.children, docs, df, finished)?;
+        let value = node_value(alloc, node.children.as_slice(), docs, df, finished)?;
         set_value(finished, i, value);
     }
     let docs = Value::Object(Map::new(alloc));
@@ -146,7 +146,7 @@ fn root_value(
 // The tree of the root.
 pub(super) fn tree_value(
     alloc: Global,
-    root: &[(char, usize)],
+    root: &[(char, u32)],
     nodes: &[Node],
     names: &Names,
 ) -> Result<Value, AllocError>

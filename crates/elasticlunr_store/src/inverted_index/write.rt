@@ -24,8 +24,8 @@ use std::alloc::{AllocError, Global};
 // place.
 #[derive(Clone, Copy)]
 enum Left<'a> {
-    WithPostings(Place, &'a [(char, usize)]),
-    WithoutPostings(&'a [(char, usize)]),
+    WithPostings(Place, &'a [(char, u32)]),
+    WithoutPostings(&'a [(char, u32)]),
 }
 
 // The names of references, and for each the place of its name among the names in order.
@@ -59,7 +59,7 @@ impl InvertedIndex {
 // Writes the tree of the root under its key.
 fn write_trie<W: Tokens>(
     order: Order,
-    root: &[(char, usize)],
+    root: &[(char, u32)],
     nodes: &[Node],
     out: &mut W,
 ) -> Result<(), AllocError>
@@ -80,7 +80,7 @@ fn write_trie<W: Tokens>(
 // Writes the members of the root's tree, and the end of the object.
 fn write_members<W: Tokens>(
     order: Order,
-    root: &[(char, usize)],
+    root: &[(char, u32)],
     nodes: &[Node],
     out: &mut W,
 ) -> Result<(), AllocError>
@@ -119,7 +119,7 @@ fn write_next<'a, W: Tokens>(
         Left::WithPostings(place, children) => match children.split_first() {
             Some((&(c, k), rest)) if c <= 'd' => {
                 stack.push(Left::WithPostings(place, rest))?;
-                open_child(nodes, c, k, stack, out)?;
+                open_child(nodes, c, k as usize, stack, out)?;
                 Ok(())
             }
             _ => {
@@ -131,7 +131,7 @@ fn write_next<'a, W: Tokens>(
         Left::WithoutPostings(children) => match children.split_first() {
             Some((&(c, k), rest)) => {
                 stack.push(Left::WithoutPostings(rest))?;
-                open_child(nodes, c, k, stack, out)?;
+                open_child(nodes, c, k as usize, stack, out)?;
                 Ok(())
             }
             None => {

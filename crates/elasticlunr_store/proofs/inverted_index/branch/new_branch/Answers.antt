@@ -1,4 +1,4 @@
-use Rattle.std.proofs.Common.{sym, ap, subst, ◌∙◌, ◌++◌, ◌∷◌, [], ◌+◌}
+use Rattle.std.proofs.Common.{sym, ap, subst, ◌∙◌, ◌∷◌, [], ◌+◌}
 use Rattle.std.proofs.lemmas.Str.{IsUtf8-past_char}
 use Rattle.std.specs.Str.{chars, IsUtf8}
 use Rattle.std.specs.Str.Iter.{chars_rest}
@@ -22,7 +22,7 @@ loop-c-preserved c = record {
   utf8 = IsUtf8-past_char _ _ c.in-Some.c c.loop-c.invariant.utf8 c.in-Some.ensures.steps.0;
   split = one_more _ _ _ _ c.in-Some.c c.loop-c.invariant.utf8 c.loop-c.invariant.split c.in-Some.ensures.steps.0;
   inner = rw c.in_ok-push.ensures.items (inner_push c.args.number c.loop-c.yielded c.loop-c.branch.items c.in-Some.c _ c.loop-c.invariant.inner
-      (c.from_buf.ensures.items ∙ (λ i. (c.in-Some.c, c.args.number + (c.len.ensures ∙ c.loop-c.branch.ok.0) i) ∷ []))
+      (c.one.ensures ∙ (λ i. (c.in-Some.c, (c.in_ok-next.ensures ∙ (λ j. c.args.number + (c.len.ensures ∙ c.loop-c.branch.ok.0) j)) i) ∷ []))
       c.new.ensures);
 }
 
@@ -34,6 +34,6 @@ returns c =
       leaf = record { children = c.new-2.result; postings = c.set.new.self };
       split = c.in_ok-push-2.ensures.items;
       inner = subst (λ t. IsInner c.args.number t c.loop-c.branch.items) (sym read) c.loop-c.invariant.inner;
-      no_children = c.new-2.ensures.items;
+      no_children = c.new-2.ensures;
       posting = c.in_ok-set.ensures.ok ∙ ap (λ P. map.insert P c.args.reference c.args.term_freq) c.new-postings.ensures;
     }

@@ -8,7 +8,7 @@ returns-then-not-is_empty c = (λ _. inl (some_posting c.args.node.now.postings 
 
 pub returns : goal.returns
 returns c =
-    let found = rw c.deref.ensures at c.has_marked.ensures in (
+    let found = rw c.as_slice.ensures at c.has_marked.ensures in (
       λ h. inr (found.0 h),
       λ either. elim either [
         | inl own ↦ absurd (bare_posting c.args.node.now.postings (sym (ap length c.pairs.ensures) ∙ eqb-true (length c.pairs.result.now) 0 (sym c.is_empty.ensures ∙ c.if-not-is_empty.false)) own.0 own.1 own.2)

@@ -19,7 +19,7 @@ keep_nodes-requires-clause-trie c = below_trie c.args.root.now c.args.nodes.now 
 pub returns-clause-index : goal.returns-clause-index
 returns-clause-index c =
     let nodes = c.args.nodes.now in
-    let is = c.in_ok-kept_root.ensures.ok ∙ c.in_ok-children.ensures ∙ ap (λ m. kept_children m c.args.root.now) c.deref-2.ensures.value in
+    let is = c.in_ok-kept_root.ensures ∙ c.in_ok-children.ensures ∙ ap (λ m. kept_children m c.args.root.now) c.deref-2.ensures.value in
     let keeps = subst (λ m. KeepsBelow m c.args.names.now nodes c.keep_nodes.new.kept_names c.in_ok-kept.kept.items (length nodes)) c.deref-4.ensures.value c.in_ok-kept.ensures.kept in
     record {
       trie = compact_trie c.args.root.now c.args.nodes.now c.requires.trie c.args.names.now c.in_ok-marks.marks.items c.in_ok-marks.ensures.each c.keep_nodes.new.kept_names c.in_ok-kept_root.kept_root.items c.in_ok-kept.kept.items is keeps c.requires.names c.requires.numbered;
@@ -31,13 +31,13 @@ returns-clause-index c =
 pub returns-clause-known : goal.returns-clause-known
 returns-clause-known c =
     let nodes = c.args.nodes.now in
-    let is = c.in_ok-kept_root.ensures.ok ∙ c.in_ok-children.ensures ∙ ap (λ m. kept_children m c.args.root.now) c.deref-2.ensures.value in
+    let is = c.in_ok-kept_root.ensures ∙ c.in_ok-children.ensures ∙ ap (λ m. kept_children m c.args.root.now) c.deref-2.ensures.value in
     let keeps = subst (λ m. KeepsBelow m c.args.names.now nodes c.keep_nodes.new.kept_names c.in_ok-kept.kept.items (length nodes)) c.deref-4.ensures.value c.in_ok-kept.ensures.kept in
     compact_known c.args.root.now c.args.nodes.now c.requires.trie c.args.names.now c.in_ok-marks.marks.items c.in_ok-marks.ensures.each c.keep_nodes.new.kept_names c.in_ok-kept_root.kept_root.items c.in_ok-kept.kept.items is keeps c.requires.names c.requires.numbered
 
 pub returns-clause-postings : goal.returns-clause-postings
 returns-clause-postings c =
     let nodes = c.args.nodes.now in
-    let is = c.in_ok-kept_root.ensures.ok ∙ c.in_ok-children.ensures ∙ ap (λ m. kept_children m c.args.root.now) c.deref-2.ensures.value in
+    let is = c.in_ok-kept_root.ensures ∙ c.in_ok-children.ensures ∙ ap (λ m. kept_children m c.args.root.now) c.deref-2.ensures.value in
     let keeps = subst (λ m. KeepsBelow m c.args.names.now nodes c.keep_nodes.new.kept_names c.in_ok-kept.kept.items (length nodes)) c.deref-4.ensures.value c.in_ok-kept.ensures.kept in
     compact_postings c.args.root.now c.args.nodes.now c.requires.trie c.args.names.now c.in_ok-marks.marks.items c.in_ok-marks.ensures.each c.keep_nodes.new.kept_names c.in_ok-kept_root.kept_root.items c.in_ok-kept.kept.items is keeps c.requires.names c.requires.numbered

@@ -23,12 +23,12 @@ loop-i-init c = record {
 pub keep_children-requires-clause-sorted : goal.keep_children-requires-clause-sorted
 keep_children-requires-clause-sorted c =
     let here = get_there c.args.nodes.now c.loop-i.i c.index-nodes-i.result c.loop-i-test.true ∙ ap Some (sym c.index-nodes-i.is) in
-    subst IsStrictlySorted (sym (c.deref.ensures ∙ sym (ap children_of here))) (c.requires.trie.in_order (At c.loop-i.i))
+    subst IsStrictlySorted (sym (c.as_slice.ensures ∙ sym (ap children_of here))) (c.requires.trie.in_order (At c.loop-i.i))
 
 pub keep_children-requires-clause-in_range : goal.keep_children-requires-clause-in_range
 keep_children-requires-clause-in_range c d k e =
     let here = get_there c.args.nodes.now c.loop-i.i c.index-nodes-i.result c.loop-i-test.true ∙ ap Some (sym c.index-nodes-i.is) in
-    omega (arith, c.requires.trie.forest.is_node (At c.loop-i.i) d k (ap (λ es. child es d) (sym (c.deref.ensures ∙ sym (ap children_of here))) ∙ e), c.requires.marks)
+    omega (arith, c.requires.trie.forest.is_node (At c.loop-i.i) d k (ap (λ es. child es d) (sym (c.as_slice.ensures ∙ sym (ap children_of here))) ∙ e), c.requires.marks)
 
 pub renumber-requires-clause-postings : goal.renumber-requires-clause-postings
 renumber-requires-clause-postings c =
@@ -61,6 +61,6 @@ loop-i-preserved c =
       listed = subst (λ ns. AreListed new c.renumber.new.references.items ns) (sym items)
           (listed_behind c.loop-i.kept_names c.loop-i.references.items c.loop-i.kept.items held.listed new c.renumber.new.references.items ok.extends ok.keeps _ (subst (λ k. IsListed new c.renumber.new.references.items k c.in_ok-postings.postings) (c.len.ensures ∙ c.loop-i.kept.ok.0) ok.listed));
       kept = subst (λ ns. KeepsBelow marks names nodes new ns (c.loop-i.i + 1)) (sym items)
-          (put_behind marks names nodes c.loop-i.kept_names c.loop-i.kept.items c.loop-i.i held.kept _ marked (c.in_ok-children.ensures ∙ ap (kept_children marks) (c.deref.ensures ∙ sym (ap children_of here))) new same
+          (put_behind marks names nodes c.loop-i.kept_names c.loop-i.kept.items c.loop-i.i held.kept _ marked (c.in_ok-children.ensures ∙ ap (kept_children marks) (c.as_slice.ensures ∙ sym (ap children_of here))) new same
           (λ k. named_extended c.loop-i.kept_names new (postings_at c.loop-i.kept.items k) ok.extends (held.listed.named k)));
     }

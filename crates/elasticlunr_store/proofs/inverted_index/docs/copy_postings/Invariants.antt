@@ -6,5 +6,5 @@ use Rattle.elasticlunr_store.proofs.Gathered.{Gathered}
 use Rattle.elasticlunr_store.proofs.inverted_index.docs.copy_postings.Given as goal
 
 -- the postings so far
-abbrev pub invariant-loop-number : goal.invariant-loop-number
-invariant-loop-number l = Gathered (λ r. get (postings_of l.docs.entries) r) (under_names l.names (take l.number-index l.pairs)) (under_names l.names l.pairs)
+abbrev pub invariant-loop-posting : goal.invariant-loop-posting
+invariant-loop-posting l = Gathered (λ r. get (postings_of l.docs.entries) r) (under_names l.names (take l.posting-index l.pairs)) (under_names l.names l.pairs)

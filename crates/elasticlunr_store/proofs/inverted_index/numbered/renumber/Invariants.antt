@@ -5,12 +5,12 @@ use Rattle.elasticlunr_store.proofs.Gathered.{Gathered}
 use Rattle.elasticlunr_store.proofs.inverted_index.numbered.renumber.Given as goal
 
 -- the postings so far
-abbrev pub invariant-loop-number : goal.invariant-loop-number
-invariant-loop-number l =
+abbrev pub invariant-loop-posting : goal.invariant-loop-posting
+invariant-loop-posting l =
     record {
       names_are : AreNames l.names;
       extends : Extends l.fn.names l.names;
       keeps : KeepsLists l.fn.references.items l.references.items;
       listed : IsListed l.names l.references.items l.k l.postings;
-      gathered : Gathered (λ r. at l.names r l.postings) (under_names l.old_names (take l.number-index l.pairs)) (under_names l.old_names l.pairs);
+      gathered : Gathered (λ r. at l.names r l.postings) (under_names l.old_names (take l.posting-index l.pairs)) (under_names l.old_names l.pairs);
     }

@@ -19,7 +19,7 @@ loop-key-init c =
       done = [];
       split = from;
       sorted = subst (λ es. IsStrictlySortedBy string_cmp (keys_of es)) (sym from) c.iter-key-items.ensures.ordered;
-      reads = subst (λ es. ReadsChildren es (borrowed_values c.args.waiting.now.items) (borrowed_values c.args.waiting.now.items) (members_view [])) (sym c.new-children.ensures.items) (nothing_read (borrowed_values c.args.waiting.now.items));
+      reads = subst (λ es. ReadsChildren es (borrowed_values c.args.waiting.now.items) (borrowed_values c.args.waiting.now.items) (members_view [])) (sym c.new-children.ensures) (nothing_read (borrowed_values c.args.waiting.now.items));
     }
 
 pub loop-key-preserved-then-is_own_key : goal.loop-key-preserved-then-is_own_key
@@ -67,7 +67,7 @@ loop-key-preserved c =
     let key : encode_utf8 letter ≡ string_bytes e.0 = sym c.in-Some-only_char.ensures.found.0 ∙ c.as_str-in-loop-key.ensures.value in
     let none = not_yet children old new (members_view held.done) held.reads letter (ap (λ k. get_member k (members_view held.done)) key ∙ not_among held.done e c.next.new.self sorted) in
     let gap = goes_last children old new (members_view held.done) held.reads letter (λ q some. ap (slice_cmp nat_cmp q) key ∙ below_next held.done e c.next.new.self sorted q some) in
-    let count : c.len.result ≡ length new = c.len.ensures ∙ c.loop-key.waiting.ok.0 ∙ sym (length-borrowed c.loop-key.waiting.items) in
+    let count = c.in_ok-short_number.ensures ∙ c.len.ensures ∙ c.loop-key.waiting.ok.0 ∙ sym (length-borrowed c.loop-key.waiting.items) in
     let gains = c.in_ok-push.ensures.ok ∙ ap (λ n. children ++ (letter, n) ∷ []) count ∙ sym (insert_last children (letter, length new)) in
     let took = takes_key children old new (members_view held.done) held.reads letter (length children) e.1 none gap c.push.new.self.items gains c.in-Some-only_char.ensures.found.1 in
     let waiting : new ++ e.1 ∷ [] ≡ borrowed_values c.push-in-loop-key.new.self.items = sym (borrowed_push c.loop-key.waiting.items c.in-Some.value) ∙ ap borrowed_values (sym c.in_ok-push-2.ensures.items) in

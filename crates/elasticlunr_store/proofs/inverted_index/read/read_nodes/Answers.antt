@@ -22,7 +22,7 @@ loop-alloc-init c =
       names_are = subst AreNames (sym c.requires) (record { distinct = λ n r e. absurd (cc); texts = λ n r e. absurd (cc) });
       listed = subst (λ ns. AreListed c.args.names.now c.args.references.now.items ns) (sym c.new-nodes.ensures.items) (none_all_listed c.args.names.now c.args.references.now.items);
       read = subst (λ ns. IsRead c.args.names.now c.in_ok-root.root.items ns (view c.args.value.now) (borrowed_values c.read_node.new.waiting.items)) (sym c.new-nodes.ensures.items)
-          (subst (λ es. IsRead c.args.names.now es [] (view c.args.value.now) (borrowed_values c.read_node.new.waiting.items)) (sym c.in_ok-root.ensures.ok)
+          (subst (λ es. IsRead c.args.names.now es [] (view c.args.value.now) (borrowed_values c.read_node.new.waiting.items)) (sym c.in_ok-root.ensures)
           (root_read c.args.names.now c.in_ok-first.first.items c.in_ok-first.docs.entries (borrowed_values c.read_node.new.waiting.items) (view c.args.value.now) reads bare));
     }
 

@@ -28,7 +28,7 @@ node_value-requires-clause-sorted c =
     let i = c.loop-i.i - 1 in
     let node = c.index-nodes-i.result in
     let here = get_there nodes i node (omega (arith, c.loop-i.invariant.low)) ∙ ap Some (sym c.index-nodes-i.is) in
-    let kids = c.deref-in-loop-i.ensures ∙ sym (ap children_of here) in
+    let kids = c.as_slice.ensures ∙ sym (ap children_of here) in
     subst IsStrictlySorted (sym kids) (c.requires.trie.in_order (At i))
 
 pub node_value-requires-clause-in_range : goal.node_value-requires-clause-in_range
@@ -39,7 +39,7 @@ node_value-requires-clause-in_range c d k e =
     let i = c.loop-i.i - 1 in
     let node = c.index-nodes-i.result in
     let here = get_there nodes i node (omega (arith, c.loop-i.invariant.low)) ∙ ap Some (sym c.index-nodes-i.is) in
-    let kids = c.deref-in-loop-i.ensures ∙ sym (ap children_of here) in
+    let kids = c.as_slice.ensures ∙ sym (ap children_of here) in
     omega (arith, c.requires.trie.forest.is_node (At i) d k (ap (λ es. child es d) (sym kids) ∙ e), c.requires.one_each, c.loop-i.auto.finished)
 
 pub node_value-requires-clause-apart : goal.node_value-requires-clause-apart
@@ -50,7 +50,7 @@ node_value-requires-clause-apart c d f k e g =
     let i = c.loop-i.i - 1 in
     let node = c.index-nodes-i.result in
     let here = get_there nodes i node (omega (arith, c.loop-i.invariant.low)) ∙ ap Some (sym c.index-nodes-i.is) in
-    let kids = c.deref-in-loop-i.ensures ∙ sym (ap children_of here) in
+    let kids = c.as_slice.ensures ∙ sym (ap children_of here) in
     c.requires.trie.forest.one_character (At i) (At i) d f k (ap (λ es. child es d) (sym kids) ∙ e) (ap (λ es. child es f) (sym kids) ∙ g)
 
 pub loop-i-preserved : goal.loop-i-preserved
@@ -61,7 +61,7 @@ loop-i-preserved c =
     let i = c.loop-i.i - 1 in
     let node = c.index-nodes-i.result in
     let here = get_there nodes i node (omega (arith, c.loop-i.invariant.low)) ∙ ap Some (sym c.index-nodes-i.is) in
-    let kids = c.deref-in-loop-i.ensures ∙ sym (ap children_of here) in
+    let kids = c.as_slice.ensures ∙ sym (ap children_of here) in
     let vs = c.loop-i.finished in
     let count : length vs ≡ length nodes = c.loop-i.auto.finished ∙ c.requires.one_each in
     let up : c.loop-i.i ≡ suc i = omega arith in

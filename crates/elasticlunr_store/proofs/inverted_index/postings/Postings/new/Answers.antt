@@ -4,4 +4,4 @@ use Rattle.elasticlunr_store.proofs.Frequencies.{seen_empty}
 use Rattle.elasticlunr_store.proofs.inverted_index.postings.Postings.new.Goals as goal
 
 pub returns : goal.returns
-returns c = ap frequencies_of c.new.ensures.items ∙ seen_empty
+returns c = ap frequencies_of c.new.ensures ∙ seen_empty

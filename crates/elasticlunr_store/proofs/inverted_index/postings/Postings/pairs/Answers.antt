@@ -4,4 +4,4 @@ use Rattle.elasticlunr_store.proofs.Frequencies.{seen_entries}
 use Rattle.elasticlunr_store.proofs.inverted_index.postings.Postings.pairs.Goals as goal
 
 pub returns : goal.returns
-returns c = c.deref.ensures ∙ sym (seen_entries _ c.self.invariant) ∙ ap map.entries c.self.view_is
+returns c = c.as_slice.ensures ∙ sym (seen_entries _ c.self.invariant) ∙ ap map.entries c.self.view_is

@@ -4,4 +4,4 @@ use Rattle.elasticlunr_store.proofs.Frequencies.{seen_empty}
 use Rattle.elasticlunr_store.proofs.inverted_index.postings.Postings.with_room.Goals as goal
 
 pub returns : goal.returns
-returns c = ap frequencies_of c.in_ok-pairs.ensures.items ∙ seen_empty
+returns c = ap frequencies_of c.in_ok-pairs.ensures ∙ seen_empty

@@ -6,6 +6,7 @@ ghost use Rattle.elasticlunr_job.specs.ObjectsTold.{options_told, texts_told};
 ghost use Rattle.elasticlunr_command.specs.FaultPlaces.{is_of_member, problem_key, IsPlaceInObjects, IsPlaceOfProblem};
 ghost use Rattle.elasticlunr_command.specs.Fields.{is_field, text_keys};
 ghost use Rattle.elasticlunr_command.specs.Lines.{AreLineValues, HasUnreadLine, lines_of};
+ghost use Rattle.elasticlunr_command.specs.Places.{IsPlaceIn};
 ghost use Rattle.elasticlunr_command.specs.Refused.{IsMemoryOr, IsRefusedObjects};
 ghost use Rattle.elasticlunr_command.specs.RefusedPlaces.{IfPlaced};
 ghost use Rattle.serde_json.specs.View.{view};
@@ -13,7 +14,7 @@ ghost use Rattle.serde_json.specs.View.{view};
 use crate::form::{Form, is_blank};
 use crate::jobs::{duplicate_field, unknown_language};
 use crate::member::{Step, place_of};
-use crate::message::{Message, Trouble, kind_words, not_json, unplaced};
+use crate::message::{Message, Trouble, kind_words, unplaced, unread_line};
 use crate::notes::Notes;
 use crate::place::Place;
 use crate::tokens::Tokens;
@@ -172,12 +173,13 @@ fn document_label(
 pub(crate) fn line_values(alloc: Global, text: &[u8]) -> Result<Vec<Value>, Trouble>
     ensures ok { IfOk result (λ values. AreLineValues text.now (map view values.items)) }
     ensures err { IfErr result (IsMemoryOr (HasUnreadLine text.now)) }
+    ensures place { IfErr result (IfPlaced (IsPlaceIn text.now)) }
 {
     let lines = lines_of(alloc, text)?;
     let mut values = Vec::new(alloc);
     for (before, line) in lines.iter().enumerate() {
         if !is_blank(*line) {
-            values.push(line_value(alloc, *line, before)?)?;
+            values.push(line_value(alloc, text, *line, before)?)?;
         }
     }
     Ok(values)
@@ -190,23 +192,16 @@ fn lines_of(alloc: Global, text: &[u8]) -> Result<Vec<&[u8]>, AllocError>
     text.split(|byte| *byte == b'\n').collect(alloc)
 }
 
-/// The value of a line, before which there are so many.
-fn line_value(alloc: Global, line: &[u8], before: usize) -> Result<Value, Trouble>
+/// The value of a line of a text, before which there are so many.
+fn line_value(alloc: Global, text: &[u8], line: &[u8], before: usize) -> Result<Value, Trouble>
     ensures ok { IfOk result (λ value. reading line.now ≡ Some (view value)) }
     ensures err { IfErr result (IsMemoryOr (reading line.now ≡ None)) }
+    ensures place { IfErr result (IfPlaced (IsPlaceIn text.now)) }
 {
     match Value::from_slice(alloc, line) {
         Ok(value) => Ok(value),
         Err(e) if e.is_memory() => Err(Trouble::Memory),
-        Err(e) => Err(Trouble::Refused(below(not_json(alloc, line, &e)?, before))),
-    }
-}
-
-/// The message of a line as one of the text, in which so many lines stand before it.
-fn below(message: Message, before: usize) -> Message {
-    Message {
-        place: message.place.map(|place| place.below(before)),
-        text: message.text,
+        Err(e) => Err(Trouble::Refused(unread_line(alloc, text, line, before, &e)?)),
     }
 }
 

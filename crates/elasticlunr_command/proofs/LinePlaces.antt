@@ -8,6 +8,7 @@ use Rattle.elasticlunr_job.specs.Objects.{Options, HasProblem, IsFirstProblem}
 use Rattle.elasticlunr_job.specs.declared.objects.Problem.{Problem}
 use Rattle.elasticlunr_command.specs.Asked.{options_of}
 use Rattle.elasticlunr_command.specs.FaultPlaces.{IsPlaceInObjects, IsPlaceOfProblem}
+use Rattle.elasticlunr_command.specs.Places.{IsPlaceIn}
 use Rattle.elasticlunr_command.specs.Refused.{HaveValues, IsMemoryOr}
 use Rattle.elasticlunr_command.specs.RefusedPlaces.{IfPlaced, IsLinesPlace, IsPlaceInLines}
 use Rattle.elasticlunr_command.specs.Settled.{Settings}
@@ -30,18 +31,14 @@ pub placed_again : (P Q : Place → Type 0) {T : Type 0} (e : Trouble) (r : Resu
 placed_again P Q e (Ok x) more same is = tt
 placed_again P Q e (Err x) more same is = placed_for P Q x more (subst (IfPlaced P) (sym same) is)
 
-some_all : (Q : Place → Type 0) (o : Option Place) → ((place : Place) → Q place) → IfSome o Q
-some_all Q None all = tt
-some_all Q (Some place) all = all place
-
-placed_unread : (text : Bytes) (Q : Place → Type 0) (e : Trouble) → (HasUnreadLine text → (place : Place) → Q place) → IsMemoryOr (HasUnreadLine text) e → IfPlaced Q e
-placed_unread text Q Memory more is = tt
-placed_unread text Q (Refused message) more is = some_all Q message.place (more is)
+unread_placed : (text : Bytes) (Q : Place → Type 0) (e : Trouble) → (HasUnreadLine text → (place : Place) → IsPlaceIn text place → Q place) → IsMemoryOr (HasUnreadLine text) e → IfPlaced (IsPlaceIn text) e → IfPlaced Q e
+unread_placed text Q Memory more is placed = tt
+unread_placed text Q (Refused message) more is placed = some_for (IsPlaceIn text) Q message.place (more is) placed
 
 -- a line is not JSON
-pub unread_again : (text : Bytes) (Q : Place → Type 0) {T : Type 0} (e : Trouble) (r : Result T Trouble) → (HasUnreadLine text → (place : Place) → Q place) → IsErrAnd r (λ x. x ≡ e) → IsMemoryOr (HasUnreadLine text) e → IfErr r (IfPlaced Q)
-unread_again text Q e (Ok x) more same is = tt
-unread_again text Q e (Err x) more same is = placed_unread text Q x more (subst (IsMemoryOr (HasUnreadLine text)) (sym same) is)
+pub unread_again : (text : Bytes) (Q : Place → Type 0) {T : Type 0} (e : Trouble) (r : Result T Trouble) → (HasUnreadLine text → (place : Place) → IsPlaceIn text place → Q place) → IsErrAnd r (λ x. x ≡ e) → IsMemoryOr (HasUnreadLine text) e → IfPlaced (IsPlaceIn text) e → IfErr r (IfPlaced Q)
+unread_again text Q e (Ok x) more same is placed = tt
+unread_again text Q e (Err x) more same is placed = unread_placed text Q x more (subst (IsMemoryOr (HasUnreadLine text)) (sym same) is) (subst (IfPlaced (IsPlaceIn text)) (sym same) placed)
 
 -- the first line that is no document
 pub checked_place : (options : Options) (text rest line after : Bytes) (number : ℕ) → Checked options text rest number → filled_lines rest ≡ line ∷ filled_lines after → (d : Data) (problem : Problem) → reading line ≡ Some d → HasProblem options d problem → HaveValues text

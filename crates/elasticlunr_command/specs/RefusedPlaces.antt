@@ -34,14 +34,15 @@ abbrev pub IsArrayPlace : Settings → Bytes → Data → Place → Type 0
 IsArrayPlace settings text d place = ((as_array d ≡ None) × IsPlaceOf None [] text place)
     ⊎ ((items : List Data) × (as_array d ≡ Some (items_of items)) × IsPlaceInObjects Objects text (options_of settings items) items place)
 
--- a line is not JSON, or it is that of the first problem of the values of the lines, as they are read with these options
+-- it is in the text, a line of which is not JSON, or it is that of the first problem of the values of the lines, as
+-- they are read with these options
 abbrev pub IsPlaceInLines : Bytes → Options → Place → Type 0
-IsPlaceInLines text options place = HasUnreadLine text
+IsPlaceInLines text options place = (HasUnreadLine text × IsPlaceIn text place)
     ⊎ ((items : List Data) × AreLineValues text items × IsPlaceInObjects Lines text options items place)
 
 -- the same with these settings
 abbrev pub IsLinesPlace : Settings → Bytes → Place → Type 0
-IsLinesPlace settings text place = HasUnreadLine text
+IsLinesPlace settings text place = (HasUnreadLine text × IsPlaceIn text place)
     ⊎ ((items : List Data) × AreLineValues text items × IsPlaceInObjects Lines text (options_of settings items) items place)
 
 -- it is that of what an input of this form is refused for

@@ -181,14 +181,6 @@ fn document_label(
     }
 }
 
-/// The message of a line as one of the text, in which so many lines stand before it.
-pub(crate) fn below(message: Message, before: usize) -> Message {
-    Message {
-        place: message.place.map(|place| place.below(before)),
-        text: message.text,
-    }
-}
-
 /// The keys of the first object whose members are texts, but for that of the reference: the fields
 /// where none are named.
 pub(crate) fn first_fields<'v>(

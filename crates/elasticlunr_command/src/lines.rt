@@ -4,14 +4,15 @@ ghost use Rattle.elasticlunr_job.specs.Answer.{reading};
 ghost use Rattle.elasticlunr_job.specs.Lines.{readings, HasUnreadLine};
 ghost use Rattle.elasticlunr_job.specs.ObjectsTold.{options_told};
 ghost use Rattle.elasticlunr_command.specs.FaultPlaces.{IsPlaceOfProblem};
+ghost use Rattle.elasticlunr_command.specs.Places.{IsPlaceIn};
 ghost use Rattle.elasticlunr_command.specs.Refused.{AreDocumentLines, FailLinesOf, HaveValues, IsMemoryOr};
 ghost use Rattle.elasticlunr_command.specs.RefusedPlaces.{IfPlaced, IsPlaceInLines};
 ghost use Rattle.elasticlunr_command.specs.declared.form.Form.TheVariants as form;
 ghost use Rattle.serde_json.specs.View.{view};
 
-use crate::documents::{Source, below, line_of, note_object, problem_place, problem_text};
+use crate::documents::{Source, line_of, note_object, problem_place, problem_text};
 use crate::form::Form;
-use crate::message::{Message, Trouble, not_json};
+use crate::message::{Message, Trouble, unread_line};
 use crate::notes::Notes;
 use crate::tokens::Tokens;
 use elasticlunr_job::lines::next_filled;
@@ -23,13 +24,15 @@ use std::alloc::{AllocError, Global};
 fn line_value(alloc: Global, text: &[u8], line: &[u8], number: usize) -> Result<Value, Trouble>
     ensures ok { IfOk result (λ value. reading line.now ≡ Some (view value)) }
     ensures err { IfErr result (IsMemoryOr (reading line.now ≡ None)) }
+    ensures place { IfErr result (IfPlaced (IsPlaceIn text.now)) }
 {
     match Value::from_slice(alloc, line) {
         Ok(value) => Ok(value),
         Err(e) if e.is_memory() => Err(Trouble::Memory),
         Err(e) => {
             let (before, _) = line_of(text, number.saturating_sub(1));
-            Err(Trouble::Refused(below(not_json(alloc, line, &e)?, before)))
+            let message = unread_line(alloc, text, line, before, &e)?;
+            Err(Trouble::Refused(message))
         }
     }
 }
@@ -38,6 +41,7 @@ fn line_value(alloc: Global, text: &[u8], line: &[u8], number: usize) -> Result<
 pub(crate) fn first_value(alloc: Global, text: &[u8]) -> Result<Vec<Value>, Trouble>
     ensures ok { IfOk result (λ values. map Some (map view values.items) ≡ take 1 (readings text.now)) }
     ensures err { IfErr result (IsMemoryOr (HasUnreadLine text.now)) }
+    ensures place { IfErr result (IfPlaced (IsPlaceIn text.now)) }
 {
     let mut values = Vec::new(alloc);
     if let Some((line, _)) = next_filled(text) {
@@ -50,6 +54,7 @@ pub(crate) fn first_value(alloc: Global, text: &[u8]) -> Result<Vec<Value>, Trou
 fn check_json(alloc: Global, text: &[u8]) -> Result<(), Trouble>
     ensures ok { OnOk result (HaveValues text.now) }
     ensures err { IfErr result (IsMemoryOr (HasUnreadLine text.now)) }
+    ensures place { IfErr result (IfPlaced (IsPlaceIn text.now)) }
 {
     let mut number: usize = 0;
     let mut rest = text;

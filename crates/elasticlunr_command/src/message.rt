@@ -123,6 +123,24 @@ pub(crate) fn not_json(alloc: Global, text: &[u8], error: &Error) -> Result<Mess
     })
 }
 
+/// A message that a line of a text, before which there are so many, is not JSON.
+pub(crate) fn unread_line(
+    alloc: Global,
+    text: &[u8],
+    line: &[u8],
+    before: usize,
+    error: &Error,
+) -> Result<Message, AllocError>
+    ensures { IfOk result (λ message. IfSome message.place (IsPlaceIn text.now)) }
+{
+    let message = not_json(alloc, line, error)?;
+    let offset = offset_of(text, before.saturating_add(1), error.column());
+    Ok(Message {
+        place: Some(place_at(text, offset)),
+        text: message.text,
+    })
+}
+
 /// What keeps a text from being JSON.
 fn json_fault(text: &[u8], offset: usize, error: &Error) -> &'static str {
     if text.starts_with(&[0xef, 0xbb, 0xbf]) {

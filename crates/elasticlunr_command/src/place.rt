@@ -1,5 +1,5 @@
 //! The line and the column of a byte of a text.
-ghost use Rattle.std.specs.Prelude.{◌≡◌, ◌+◌, min};
+ghost use Rattle.std.specs.Prelude.{◌≡◌};
 ghost use Rattle.elasticlunr_command.specs.Places.{is_first, place_at, IsLineStart};
 
 /// A line and a column, both from 1. A column is a character.
@@ -7,19 +7,6 @@ ghost use Rattle.elasticlunr_command.specs.Places.{is_first, place_at, IsLineSta
 pub(crate) struct Place {
     pub line: usize,
     pub column: usize,
-}
-
-impl Place {
-    /// The place where so many more lines stand before it.
-    pub(crate) fn below(self, lines: usize) -> Place
-        ensures line { result.line ≡ min (self.line + lines) usize.MAX }
-        ensures column { result.column ≡ self.column }
-    {
-        Place {
-            line: self.line.saturating_add(lines),
-            column: self.column,
-        }
-    }
 }
 
 /// The place of the byte at an offset of a text; beyond the text, that of its end.

@@ -3,13 +3,12 @@ use Rattle.std.proofs.Common.{◌≡◌, ◌+◌, ℕ, List, ◌∷◌, ◌++◌
 use Rattle.serde_json.specs.Data.{Data}
 use Rattle.elasticlunr_text.specs.Text.{Bytes}
 use Rattle.elasticlunr_job.specs.Answer.{reading}
-use Rattle.elasticlunr_job.specs.Lines.{filled_lines, readings, HasUnreadLine}
+use Rattle.elasticlunr_job.specs.Lines.{filled_lines, readings}
 use Rattle.elasticlunr_job.specs.Objects.{Options, HasProblem, IsFirstProblem}
 use Rattle.elasticlunr_job.specs.declared.objects.Problem.{Problem}
 use Rattle.elasticlunr_command.specs.Asked.{options_of}
 use Rattle.elasticlunr_command.specs.FaultPlaces.{IsPlaceInObjects, IsPlaceOfProblem}
-use Rattle.elasticlunr_command.specs.Places.{IsPlaceIn}
-use Rattle.elasticlunr_command.specs.Refused.{HaveValues, IsMemoryOr}
+use Rattle.elasticlunr_command.specs.Refused.{HaveValues}
 use Rattle.elasticlunr_command.specs.RefusedPlaces.{IfPlaced, IsLinesPlace, IsPlaceInLines}
 use Rattle.elasticlunr_command.specs.Settled.{Settings}
 use Rattle.elasticlunr_command.specs.declared.form.Form.TheVariants as form
@@ -31,15 +30,6 @@ pub placed_again : (P Q : Place → Type 0) {T : Type 0} (e : Trouble) (r : Resu
 placed_again P Q e (Ok x) more same is = tt
 placed_again P Q e (Err x) more same is = placed_for P Q x more (subst (IfPlaced P) (sym same) is)
 
-unread_placed : (text : Bytes) (Q : Place → Type 0) (e : Trouble) → (HasUnreadLine text → (place : Place) → IsPlaceIn text place → Q place) → IsMemoryOr (HasUnreadLine text) e → IfPlaced (IsPlaceIn text) e → IfPlaced Q e
-unread_placed text Q Memory more is placed = tt
-unread_placed text Q (Refused message) more is placed = some_for (IsPlaceIn text) Q message.place (more is) placed
-
--- a line is not JSON
-pub unread_again : (text : Bytes) (Q : Place → Type 0) {T : Type 0} (e : Trouble) (r : Result T Trouble) → (HasUnreadLine text → (place : Place) → IsPlaceIn text place → Q place) → IsErrAnd r (λ x. x ≡ e) → IsMemoryOr (HasUnreadLine text) e → IfPlaced (IsPlaceIn text) e → IfErr r (IfPlaced Q)
-unread_again text Q e (Ok x) more same is placed = tt
-unread_again text Q e (Err x) more same is placed = unread_placed text Q x more (subst (IsMemoryOr (HasUnreadLine text)) (sym same) is) (subst (IfPlaced (IsPlaceIn text)) (sym same) placed)
-
 -- the first line that is no document
 pub checked_place : (options : Options) (text rest line after : Bytes) (number : ℕ) → Checked options text rest number → filled_lines rest ≡ line ∷ filled_lines after → (d : Data) (problem : Problem) → reading line ≡ Some d → HasProblem options d problem → HaveValues text
     → (place : Place) → IsPlaceOfProblem form.Lines text options (number + 1) problem place → IsPlaceInLines text options place
@@ -48,11 +38,14 @@ checked_place options text rest line after number checked split d problem is has
     inr (
       values.0,
       values.1,
-      (number + 1, problem,
+      (
+        number + 1,
+        problem,
         subst (λ n. IsFirstProblem options values.0 (n + 1) problem) (sym checked.number_is)
-          (first_among options checked.read.items values.0 checked.documents d (readings after) problem
-          (ap (λ os. map Some checked.read.items ++ os) (sym here) ∙ (checked.read.lines ∙ sym values.1)) checked.are_documents has),
-        at),
+            (first_among options checked.read.items values.0 checked.documents d (readings after) problem
+            (ap (λ os. map Some checked.read.items ++ os) (sym here) ∙ (checked.read.lines ∙ sym values.1)) checked.are_documents has),
+        at,
+      ),
     )
 
 -- with the options that the settings give for the first value

@@ -1,5 +1,5 @@
 -- Where a value stands in a text of JSON, or in a line of one.
-use Rattle.std.specs.Prelude.{◌≡◌, ◌++◌, ℕ, List, [], ◌∷◌, true, false, Option, Some, None, option_and_then, take, drop, slice_get, slice_range, filter, map, codes}
+use Rattle.std.specs.Prelude.{◌≡◌, ◌++◌, ℕ, List, [], ◌∷◌, true, false, Option, Some, None, option_and_then, take, drop, slice_get, slice_range, map, codes}
 use Rattle.serde_json.specs.Data.{Data, null, boolean}
 use Rattle.serde_json.specs.Find.{at, get}
 use Rattle.elasticlunr_text.specs.Text.{Bytes}

@@ -20,17 +20,7 @@ if [ "$status" -eq 0 ]; then
             python3 bench/build.py "$program" || status=1
         fi
     done
-    for check in check_readme check_jobs command refuse_memory refuse_calls compare_by_chance compare_search long_inputs forgeries browser; do
-        begun=$SECONDS
-        python3 "bench/$check.py" 2>&1 | tee -a "$log"
-        if [ "${PIPESTATUS[0]}" -ne 0 ]; then
-            status=1
-            echo "  $check FAILED"
-            # a check that broke off has no count of its own
-            tail -n 1 "$log" | grep -q ' passed, ' || echo "0 passed, 1 failed" | tee -a "$log"
-        fi
-        echo "  $check ($((SECONDS - begun)) s)"
-    done
+    python3 bench/checks.py "$log" || status=1
 fi
 awk '/^([a-z]+: )?[0-9]+ passed, [0-9]+ failed(, [0-9]+ skipped)?$/ {
          n = /skipped$/ ? NF - 5 : NF - 3; passed += $n; failed += $(n + 2); if (n == NF - 5) skipped += $(n + 4) }

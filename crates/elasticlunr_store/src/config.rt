@@ -39,6 +39,9 @@ pub struct SearchOptionsField {
     pub ghost small: { ForSome boost (λ n. n < 2 ^ 8) },
 }
 
+/// The options of fields, by their names.
+pub type FieldOptions = BTreeMap<String, SearchOptionsField>;
+
 /// The options of a search, for all fields and for some.
 #[derive(Debug, Drop)]
 pub struct SearchOptions {
@@ -47,7 +50,7 @@ pub struct SearchOptions {
     /// Whether tokens that go on count, too.
     pub expand: bool,
     /// What is used for some fields in place of these.
-    pub fields: BTreeMap<String, SearchOptionsField>,
+    pub fields: FieldOptions,
 }
 
 impl Default for SearchBool {

@@ -7,7 +7,7 @@ ghost use Rattle.elasticlunr_store.specs.Maps.{count};
 ghost use Rattle.elasticlunr_store.specs.Refused.{IsRefused};
 ghost use Rattle.elasticlunr_store.specs.Options.{FieldMap, field_map, bool_value, IsPart, ReadsField, ReadsFields};
 
-use super::{SearchBool, SearchOptionsField};
+use super::{FieldOptions, SearchBool, SearchOptionsField};
 use elasticlunr_text::IndexError;
 use serde_json::Value;
 use std::alloc::Global;
@@ -126,10 +126,7 @@ fn read_field(value: &Value) -> Result<SearchOptionsField, IndexError>
 }
 
 // The options of fields.
-pub(super) fn read_fields(
-    alloc: Global,
-    value: &Value,
-) -> Result<BTreeMap<String, SearchOptionsField>, IndexError>
+pub(super) fn read_fields(alloc: Global, value: &Value) -> Result<FieldOptions, IndexError>
     ensures ok { IfOk result (λ fields. ReadsFields (view value.now) (field_map fields.entries)) }
     ensures err { IfErr result (IsRefused ((fields : FieldMap) → ¬ (ReadsFields (view value.now) fields))) }
 {

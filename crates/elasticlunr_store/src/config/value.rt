@@ -6,11 +6,10 @@ ghost use Rattle.elasticlunr_store.specs.Maps.{keyed, count};
 ghost use Rattle.elasticlunr_store.specs.Options.{field_map, bool_value, field_value, options_object};
 ghost use Rattle.elasticlunr_store.specs.OptionalMembers.{put_part};
 
-use super::{SearchBool, SearchOptionsField};
+use super::{FieldOptions, SearchBool, SearchOptionsField};
 use crate::members::put_member;
 use serde_json::{Map, Value};
 use std::alloc::{AllocError, Global};
-use std::collections::BTreeMap;
 
 pub(super) fn bool_value(alloc: Global, bool: SearchBool) -> Result<Value, AllocError>
     ensures { IfOk result (λ v. view v ≡ bool_value bool) }
@@ -102,10 +101,7 @@ pub(super) fn field_value(alloc: Global, field: &SearchOptionsField) -> Result<V
 }
 
 // The value of the options of fields.
-pub(super) fn fields_value(
-    alloc: Global,
-    fields: &BTreeMap<String, SearchOptionsField>,
-) -> Result<Value, AllocError>
+pub(super) fn fields_value(alloc: Global, fields: &FieldOptions) -> Result<Value, AllocError>
     ensures { IfOk result (λ v. view v ≡ keyed field_value (field_map fields.now.entries)) }
 {
     let mut members = Map::new(alloc);

@@ -39,7 +39,8 @@ pub(super) struct Reference {
 
 // The number of a node or a reference, as nodes keep it. Where it has more than 32 bits, memory is wanting.
 pub(super) fn short_number(number: usize) -> Result<u32, AllocError>
-    ensures { IfOk result (λ short. short ≡ number) }
+    ensures ok { IfOk result (λ short. short ≡ number) }
+    ensures err { IfErr result (λ _. u32.MAX < number) }
 {
     match u32::try_from(number) {
         Ok(short) => Ok(short),

@@ -32,6 +32,6 @@ loop-c-preserved c =
     let marked = is_marked_or marks e.1 _ in_range ∙ c.if-not-marks-k.false in
     let both : Some (get_or c.args.numbers.now e.1 0) ≡ Some (new_number marks e.1) = sym (get_there c.args.numbers.now e.1 0 (omega (arith, in_range, c.requires.numbers.count))) ∙ c.requires.numbers.each e.1 in_range in
     let number : get_or c.args.numbers.now e.1 0 ≡ new_number marks e.1 = cc in
-    let short = c.in_ok-short_number.ensures ∙ number in
+    let short = c.in_ok-short_number.ensures.ok ∙ number in
     c.in_ok-push.ensures.ok ∙ (λ i. c.loop-c.invariant i ++ (e.0, short i) ∷ []) ∙ ap (λ l. kept_children marks done ++ l) (sym (kept_one marks e marked)) ∙ sym (kept_push marks done e)
     ∙ ap (kept_children marks) (sym (take_more all c.loop-c.c-index (0, 0) c.loop-c-test.true))

@@ -8,11 +8,11 @@ use Rattle.std.specs.FinMap as finite
 use Rattle.std.proofs.lemmas.Cmp.{nat_list_cmp_total}
 use Rattle.std.proofs.lemmas.Str.{IsUtf8-string_bytes}
 use Rattle.elasticlunr_text.specs.Text.{Bytes, text_cmp}
-use Rattle.elasticlunr_store.specs.Maps.{seen}
+use Rattle.elasticlunr_json.specs.Maps.{seen}
 use Rattle.elasticlunr_store.specs.Contents.{Contents, IsContents, IsConsistent, MapsTextsTo, LengthMap, contents_of, text_map, length_map, document_lengths}
 use Rattle.elasticlunr_store.specs.SmallLengths.{AreSmallLengths, HasSmallLengths}
-use Rattle.elasticlunr_store.proofs.Seen.{text_tie}
-use Rattle.elasticlunr_store.proofs.Sorted.{shown, get_all}
+use Rattle.elasticlunr_json.proofs.Texts.{text_tie}
+use Rattle.elasticlunr_json.proofs.Sorted.{shown, get_all}
 
 module _ {X Y : Type 0} (f : X → Y) where
   key_found : (es : List (String Global × X)) (key : Bytes) → IsSome (finite.find text_cmp key (shown f es)) → IsUtf8 key

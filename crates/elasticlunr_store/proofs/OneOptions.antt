@@ -3,12 +3,12 @@ use Rattle.std.proofs.Common.{◌≡◌, ◌≢◌, inl, inr, Bool, Option, Some
 use Rattle.std.specs.FinMap as map
 use Rattle.serde_json.specs.Data.{Data, null, boolean, object}
 use Rattle.serde_json.specs.Find.{get_member}
-use Rattle.elasticlunr_store.specs.Maps.{count}
+use Rattle.elasticlunr_json.specs.Maps.{count}
 use Rattle.elasticlunr_store.specs.Options.{Options, FieldMap, bool_value, IsPart, ReadsAt, ReadsField, ReadsFields, ReadsOptions}
 use Rattle.elasticlunr_store.specs.declared.config.SearchBool.{SearchBool}
 use Rattle.elasticlunr_store.specs.declared.config.SearchBool.TheVariants.{Or, And}
 use Rattle.elasticlunr_store.specs.declared.config.SearchOptionsField.{SearchOptionsField}
-use Rattle.elasticlunr_store.proofs.Seen.{same}
+use Rattle.elasticlunr_json.proofs.Seen.{same}
 use Rattle.elasticlunr_store.specs.EqualOptions.{one_field}
 use Rattle.elasticlunr_store.proofs.Values.{same_count}
 

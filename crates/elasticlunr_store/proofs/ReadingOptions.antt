@@ -1,9 +1,11 @@
 -- Reading search options.
-use Rattle.std.proofs.Common.{◌≡◌, ◌≢◌, inl, inr, List, [], ◌∷◌, ◌++◌, Option, Some, None, refl, sym, ap, subst, ◌∙◌, string_bytes, string_cmp, cond}
+use Rattle.std.proofs.Common.{◌≡◌, ◌≢◌, inl, inr, List, [], ◌∷◌, ◌++◌, Option, Some, None, refl, sym, ap, subst, ◌∙◌, string_bytes, string_cmp, cond, Greater}
 use Rattle.std.specs.List.Sorted.{IsStrictlySortedBy}
+use Rattle.std.specs.Ordering.{nat_cmp, match_ordering, ordering_reverse}
+use Rattle.std.specs.Cmp.Lexicographic.{slice_cmp}
 use Rattle.std.specs.Map.{keys_of}
 use Rattle.std.specs.FinMap as map
-use Rattle.std.proofs.lemmas.Cmp.{nat_list_cmp_total}
+use Rattle.std.proofs.lemmas.Cmp.{nat_list_cmp_total, tied_itself}
 use Rattle.serde_json.specs.Data.{Data, null, object, put}
 use Rattle.serde_json.specs.Find.{get_member}
 use Rattle.serde_json.specs.View.{view, members_view}
@@ -11,10 +13,8 @@ use Rattle.serde_json.proofs.Views.{Entry, put_last, get_member-put, get_member-
 use Rattle.elasticlunr_text.specs.Text.{Bytes}
 use Rattle.elasticlunr_store.specs.Options.{FieldMap, IsPart, ReadsAt, ReadsField, ReadsFields}
 use Rattle.elasticlunr_store.specs.declared.config.SearchOptionsField.{SearchOptionsField}
-use Rattle.elasticlunr_store.proofs.Forest.{same_or_not}
-use Rattle.elasticlunr_store.proofs.Seen.{text_tied}
-use Rattle.elasticlunr_store.proofs.Tables.{no_tie}
-use Rattle.elasticlunr_store.proofs.Reading.{found_among}
+use Rattle.elasticlunr_json.proofs.Texts.{same_or_not, text_tied, no_tie}
+use Rattle.elasticlunr_json.proofs.Sorted.{below_middle}
 
 -- a value that is none of a part's
 pub not_part : {X : Type 0} (value : X → Data) (found : Option Data) (d : Data) → found ≡ Some d → d ≢ null → (part : Option X) → ((x : X) → part ≡ Some x → d ≢ value x) → ¬ (IsPart value found part)
@@ -37,6 +37,15 @@ read_more m n done e more field sorted held is reads name =
   where
     other : name ≢ string_bytes e.0 → map.get (map.insert m (string_bytes e.0) field) name ≡ map.get m name
     other apart = map.get-insert nat_list_cmp_total m (string_bytes e.0) field name ∙ ap (λ b. cond b (Some field) (map.get m name)) (no_tie name (string_bytes e.0) apart)
+
+-- the value at a key is found
+pub found_among : (done : List Entry) (e : Entry) (more : List Entry) → IsStrictlySortedBy string_cmp (keys_of (done ++ e ∷ more)) → get_member (string_bytes e.0) (members_view (done ++ e ∷ more)) ≡ Some (view e.1)
+unfolding IsStrictlySortedBy
+found_among [] e more h = ap (λ o. match_ordering o (get_member (string_bytes e.0) (members_view more)) (Some (view e.1)) (get_member (string_bytes e.0) (members_view more))) (tied_itself nat_list_cmp_total (string_bytes e.0))
+found_among (first ∷ done) e more h =
+    let above : slice_cmp nat_cmp (string_bytes e.0) (string_bytes first.0) ≡ Greater =
+    nat_list_cmp_total.antisymm (string_bytes e.0) (string_bytes first.0) ∙ ap ordering_reverse (below_middle first done e more h.0) in
+    rw above (found_among done e more h.1)
 
 -- a member whose value gives no options
 pub foreign_field : (d : Data) (all done : List Entry) (e : Entry) (more : List Entry) → d ≡ object (members_view all) → done ++ e ∷ more ≡ all → IsStrictlySortedBy string_cmp (keys_of all) → ((field : SearchOptionsField) → ¬ (ReadsField (view e.1) field)) → (m : FieldMap) → ¬ (ReadsFields d m)

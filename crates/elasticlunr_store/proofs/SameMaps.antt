@@ -2,13 +2,13 @@
 use Rattle.std.proofs.Common.{◌≡◌, Bool, true, false, not, ◌&&◌, Option, Some, None, MatchOption, is_some, List, [], ◌∷◌, ◌++◌, length, suc, refl, sym, ap, ◌∙◌, string_cmp, String, Global, string_bytes}
 use Rattle.std.specs.Cmp.Lexicographic.{pointwise}
 use mathlib.Core.Bool.{false≢true}
-use Rattle.elasticlunr_store.specs.Equal.{both_true}
+use Rattle.elasticlunr_json.specs.EqualMaps.{both_true}
 use Rattle.elasticlunr_text.specs.Text.{Bytes}
 use Rattle.std.specs.List.Sorted.{IsStrictlySortedBy}
 use Rattle.std.specs.Map.{keys_of}
 use Rattle.std.specs.FinMap as finite
-use Rattle.elasticlunr_store.specs.Maps.{seen}
-use Rattle.elasticlunr_store.proofs.Sorted.{shown, entries_seen}
+use Rattle.elasticlunr_json.specs.Maps.{seen}
+use Rattle.elasticlunr_json.proofs.Sorted.{shown, entries_seen}
 
 falls : (a b : Bool) → false ≡ b → false ≡ (a && b)
 falls true b e = e

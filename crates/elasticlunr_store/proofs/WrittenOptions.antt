@@ -8,11 +8,11 @@ use Rattle.serde_json.specs.Data.{Data}
 use Rattle.serde_json.specs.Find.{get_member}
 use Rattle.serde_json.specs.Written.{has_float}
 use Rattle.elasticlunr_text.specs.Text.{Bytes, text_cmp}
-use Rattle.elasticlunr_store.specs.Maps.{members, keyed}
+use Rattle.elasticlunr_json.specs.Maps.{members, keyed}
 use Rattle.elasticlunr_store.specs.Options.{Options, HasSmallBoosts, bool_value, field_value, options_value, ReadsAt, ReadsField, ReadsOptions}
 use Rattle.elasticlunr_store.specs.declared.config.SearchBool.{SearchBool}
 use Rattle.elasticlunr_store.specs.declared.config.SearchBool.TheVariants.{Or, And}
-use Rattle.elasticlunr_store.proofs.Values.{bare_keyed}
+use Rattle.elasticlunr_json.proofs.Keyed.{bare_keyed}
 use Rattle.elasticlunr_store.specs.declared.config.SearchOptionsField.{SearchOptionsField}
 
 field_written : (boost : Option ℕ) (bool : Option SearchBool) (expand : Option Bool) (small : ForSome boost (λ n. n < 2 ^ 8)) → ReadsField (field_value (record { boost = boost; bool = bool; expand = expand; small = small })) (record { boost = boost; bool = bool; expand = expand; small = small })

@@ -7,7 +7,8 @@ use Rattle.std.specs.Cmp.{IsEquivalence, decided}
 use Rattle.std.specs.Coded.{le_prop}
 use Rattle.std.specs.Option.{ForSome}
 use Rattle.elasticlunr_store.specs.Options.{Options, options_of, same_bool, same_part, same_field, same_options}
-use Rattle.elasticlunr_store.specs.Equal.{both_true, bool_one, map_Decides, nat_Decides}
+use Rattle.elasticlunr_json.specs.EqualMaps.{both_true, map_Decides, nat_Decides}
+use Rattle.elasticlunr_store.specs.Equal.{bool_one}
 use Rattle.elasticlunr_store.specs.declared.config.SearchBool.{SearchBool}
 use Rattle.elasticlunr_store.specs.declared.config.SearchBool.TheVariants.{Or, And}
 use Rattle.elasticlunr_store.specs.declared.config.SearchOptionsField.{SearchOptionsField}

@@ -4,7 +4,7 @@ ghost use Rattle.std.specs.Option.{ForSome};
 ghost use Rattle.serde_json.specs.View.{view};
 ghost use Rattle.serde_json.specs.Written.{has_float};
 ghost use Rattle.elasticlunr_text.specs.declared.error.IndexError.TheVariants.{Memory};
-ghost use Rattle.elasticlunr_store.specs.Refused.{IsRefused};
+ghost use Rattle.elasticlunr_json.specs.Refused.{IsRefused};
 
 mod read;
 mod same;

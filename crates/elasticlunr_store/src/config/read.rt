@@ -3,8 +3,8 @@ ghost use Rattle.std.specs.Prelude.{◌≡◌, ◌≢◌, ◌⊎◌, ◌<◌, �
 ghost use Rattle.serde_json.specs.Data.{null, boolean};
 ghost use Rattle.serde_json.specs.Find.{get};
 ghost use Rattle.serde_json.specs.View.{view};
-ghost use Rattle.elasticlunr_store.specs.Maps.{count};
-ghost use Rattle.elasticlunr_store.specs.Refused.{IsRefused};
+ghost use Rattle.elasticlunr_json.specs.Maps.{count};
+ghost use Rattle.elasticlunr_json.specs.Refused.{IsRefused};
 ghost use Rattle.elasticlunr_store.specs.Options.{FieldMap, field_map, bool_value, IsPart, ReadsField, ReadsFields};
 
 use super::{FieldOptions, SearchBool, SearchOptionsField};

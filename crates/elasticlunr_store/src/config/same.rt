@@ -1,6 +1,6 @@
 //! Comparing the options of fields.
 ghost use Rattle.std.specs.Prelude.{◌≡◌};
-ghost use Rattle.elasticlunr_store.specs.Maps.{same_map};
+ghost use Rattle.elasticlunr_json.specs.Maps.{same_map};
 ghost use Rattle.elasticlunr_store.specs.Options.{field_map, same_field};
 
 use super::FieldOptions;

@@ -2,12 +2,12 @@
 ghost use Rattle.std.specs.Prelude.{◌≡◌, IfOk, OnOk, option_map};
 ghost use Rattle.serde_json.specs.Data.{boolean};
 ghost use Rattle.serde_json.specs.View.{view, members_view};
-ghost use Rattle.elasticlunr_store.specs.Maps.{keyed, count};
+ghost use Rattle.elasticlunr_json.specs.Maps.{keyed, count};
 ghost use Rattle.elasticlunr_store.specs.Options.{field_map, bool_value, field_value, options_object};
 ghost use Rattle.elasticlunr_store.specs.OptionalMembers.{put_part};
 
 use super::{FieldOptions, SearchBool, SearchOptionsField};
-use crate::members::put_member;
+use elasticlunr_json::put_member;
 use serde_json::{Map, Value};
 use std::alloc::{AllocError, Global};
 

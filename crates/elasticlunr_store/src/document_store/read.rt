@@ -3,10 +3,10 @@ ghost use Rattle.std.specs.Prelude.{◌≡◌, IfOk, IfErr, IfSome, IfNone, IsSo
 ghost use Rattle.std.specs.Bool.{OnTrue, OnFalse};
 ghost use Rattle.std.specs.FinMap.{FinMap, get, empty};
 ghost use Rattle.elasticlunr_text.specs.Text.{Bytes, text_cmp};
-ghost use Rattle.elasticlunr_store.specs.Refused.{IsRefused};
+ghost use Rattle.elasticlunr_json.specs.Refused.{IsRefused};
 ghost use Rattle.elasticlunr_store.specs.Contents.{TextMap, LengthMap, store_members, text_map, length_map, document_texts, document_lengths};
 ghost use Rattle.elasticlunr_store.specs.SmallLengths.{AreSmallLengths, HasSmallLengths};
-ghost use Rattle.elasticlunr_store.specs.Maps.{keyed, count};
+ghost use Rattle.elasticlunr_json.specs.Maps.{keyed, count};
 ghost use Rattle.serde_json.specs.Data.{Data, Members, member, string};
 ghost use Rattle.serde_json.specs.View.{view, members_view};
 

@@ -1,7 +1,7 @@
 //! Comparing two stores.
 ghost use Rattle.std.specs.Prelude.{◌≡◌, nat_eq};
 ghost use Rattle.std.specs.Str.{bytes_eq};
-ghost use Rattle.elasticlunr_store.specs.Maps.{same_map};
+ghost use Rattle.elasticlunr_json.specs.Maps.{same_map};
 ghost use Rattle.elasticlunr_store.specs.Contents.{text_map, length_map, document_texts, document_lengths};
 
 use std::collections::BTreeMap;

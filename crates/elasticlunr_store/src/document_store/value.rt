@@ -1,11 +1,11 @@
 //! The JSON value of a document store.
 ghost use Rattle.std.specs.Prelude.{◌≡◌, IfOk};
 ghost use Rattle.elasticlunr_store.specs.Contents.{store_object, text_map, length_map, document_texts, document_lengths};
-ghost use Rattle.elasticlunr_store.specs.Maps.{keyed, count};
+ghost use Rattle.elasticlunr_json.specs.Maps.{keyed, count};
 ghost use Rattle.serde_json.specs.Data.{string};
 ghost use Rattle.serde_json.specs.View.{view};
 
-use crate::members::put_member;
+use elasticlunr_json::put_member;
 use serde_json::{Map, Value};
 use std::alloc::{AllocError, Global};
 use std::collections::BTreeMap;

@@ -2,12 +2,12 @@
 ghost use Rattle.std.specs.Prelude.{◌≡◌, [], ◌∷◌, ◌++◌, OnOk, codes, decimal};
 ghost use Rattle.json.specs.Token.{key, number, boolean, end_object};
 ghost use Rattle.serde_json.specs.Data.{string};
-ghost use Rattle.elasticlunr_store.specs.Maps.{keyed, count};
-ghost use Rattle.elasticlunr_store.specs.Tokens.{WritesValue};
+ghost use Rattle.elasticlunr_json.specs.Maps.{keyed, count};
+ghost use Rattle.elasticlunr_json.specs.Tokens.{WritesValue};
 ghost use Rattle.elasticlunr_store.specs.Contents.{IsContents, store_value, text_map, length_map, document_texts, document_lengths};
 
 use super::DocumentStore;
-use crate::tokens::{Token, Tokens};
+use elasticlunr_json::{Token, Tokens};
 use std::alloc::AllocError;
 use std::collections::BTreeMap;
 

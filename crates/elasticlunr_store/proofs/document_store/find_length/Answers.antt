@@ -2,7 +2,7 @@ use Rattle.std.proofs.Common.{ap, sym, ◌∙◌, option_map}
 use Rattle.std.specs.Option.{option_and_then}
 use Rattle.std.specs.FinMap.{get}
 use Rattle.elasticlunr_store.specs.Contents.{length_map}
-use Rattle.elasticlunr_store.proofs.Seen.{get_seen, map_itself}
+use Rattle.elasticlunr_json.proofs.Seen.{get_seen, map_itself}
 use Rattle.elasticlunr_store.proofs.document_store.find_length.Goals as goal
 
 pub returns-in_err-get : goal.returns-in_err-get

@@ -1,6 +1,6 @@
 use Rattle.elasticlunr_store.specs.Options.{options_value, ReadsOptions}
 use Rattle.elasticlunr_store.proofs.OneOptions.{one_options}
-use Rattle.elasticlunr_store.proofs.Refusals.{read_back}
+use Rattle.elasticlunr_json.proofs.Refusals.{read_back}
 use Rattle.elasticlunr_store.proofs.WrittenOptions.{written}
 use Rattle.elasticlunr_store.proofs.laws.written_options_are_read_back.Goals as goal
 

@@ -1,4 +1,4 @@
-use Rattle.elasticlunr_store.proofs.Seen.{cloned}
+use Rattle.elasticlunr_json.proofs.Seen.{cloned}
 use Rattle.elasticlunr_store.specs.Options.{options_of}
 use Rattle.elasticlunr_store.proofs.WrittenOptions.{small_boosts}
 use Rattle.elasticlunr_store.proofs.config.SearchOptions.clone.Goals as goal

@@ -1,7 +1,7 @@
 use Rattle.std.proofs.Common.{◌≡◌, Some, sym, ◌∙◌, subst}
 use Rattle.serde_json.specs.View.{view}
 use Rattle.elasticlunr_store.specs.Options.{ReadsFields}
-use Rattle.elasticlunr_store.proofs.Refusals.{refused_again}
+use Rattle.elasticlunr_json.proofs.Refusals.{refused_again}
 use Rattle.elasticlunr_store.proofs.config.SearchOptions.from_value.Goals as goal
 
 pub returns-in_err-fields-clause-err : goal.returns-in_err-fields-clause-err

@@ -6,9 +6,9 @@ use Rattle.std.proofs.lemmas.Map.Text.{btree_map_updates_text}
 use Rattle.serde_json.specs.View.{view}
 use Rattle.elasticlunr_text.specs.Text.{text_cmp}
 use Rattle.elasticlunr_store.specs.Options.{ReadsAt, field_map}
-use Rattle.elasticlunr_store.proofs.Seen.{seen_inserted}
-use Rattle.elasticlunr_store.proofs.ReadingMaps.{object_of}
-use Rattle.elasticlunr_store.proofs.Refusals.{refused_again}
+use Rattle.elasticlunr_json.proofs.Seen.{seen_inserted}
+use Rattle.elasticlunr_json.proofs.ReadingMaps.{object_of}
+use Rattle.elasticlunr_json.proofs.Refusals.{refused_again}
 use Rattle.elasticlunr_store.proofs.ReadingOptions.{read_more, foreign_field}
 use Rattle.elasticlunr_store.proofs.config.read.read_fields.Goals as goal
 

@@ -4,9 +4,9 @@ use Rattle.std.specs.Map.{keys_of}
 use Rattle.serde_json.specs.Data.{object, put}
 use Rattle.serde_json.specs.View.{members_view}
 use Rattle.serde_json.proofs.Views.{view-Object}
-use Rattle.elasticlunr_store.specs.Maps.{members}
+use Rattle.elasticlunr_json.specs.Maps.{members}
 use Rattle.elasticlunr_store.specs.Options.{field_value}
-use Rattle.elasticlunr_store.proofs.Sorted.{shown, put_last, whole}
+use Rattle.elasticlunr_json.proofs.Sorted.{shown, put_last, whole}
 use Rattle.elasticlunr_store.proofs.config.value.fields_value.Goals as goal
 
 pub loop-name-init : goal.loop-name-init

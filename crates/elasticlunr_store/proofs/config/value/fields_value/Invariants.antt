@@ -1,9 +1,9 @@
 use Rattle.std.proofs.Common.{◌≡◌, List, ◌++◌, String, Global}
 use Rattle.serde_json.specs.View.{members_view}
-use Rattle.elasticlunr_store.specs.Maps.{members}
+use Rattle.elasticlunr_json.specs.Maps.{members}
 use Rattle.elasticlunr_store.specs.Options.{field_value}
 use Rattle.elasticlunr_store.specs.declared.config.SearchOptionsField.{SearchOptionsField}
-use Rattle.elasticlunr_store.proofs.Sorted.{shown}
+use Rattle.elasticlunr_json.proofs.Sorted.{shown}
 use Rattle.elasticlunr_store.proofs.config.value.fields_value.Given as goal
 
 -- a member for each entry that was read

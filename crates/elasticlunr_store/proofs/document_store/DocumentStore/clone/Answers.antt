@@ -1,6 +1,6 @@
 use Rattle.std.proofs.Common.{sym, subst, ◌∙◌, string_bytes}
 use Rattle.elasticlunr_store.specs.Contents.{IsContents, text_map, length_map}
-use Rattle.elasticlunr_store.proofs.Seen.{cloned}
+use Rattle.elasticlunr_json.proofs.Seen.{cloned}
 use Rattle.elasticlunr_store.proofs.document_store.DocumentStore.clone.Goals as goal
 
 pub invariant_of-result : goal.invariant_of-result

@@ -2,11 +2,11 @@ use Rattle.std.proofs.Common.{rules, ◌≢◌, IsSomeAnd, subst, ap, sym, ◌�
 use Rattle.std.specs.FinMap.{get, len, empty}
 use Rattle.serde_json.specs.Data.{object, string}
 use Rattle.elasticlunr_store.specs.Contents.{IsConsistent, contents_of, store_members, store_object, text_map, document_texts, document_lengths}
-use Rattle.elasticlunr_store.specs.Maps.{keyed, count}
+use Rattle.elasticlunr_json.specs.Maps.{keyed, count}
 use Rattle.elasticlunr_store.proofs.AreContents.{are_contents}
-use Rattle.elasticlunr_store.proofs.Sorted.{len_seen}
+use Rattle.elasticlunr_json.proofs.Sorted.{len_seen}
 use Rattle.elasticlunr_store.proofs.Values.{same_parts}
-use Rattle.elasticlunr_store.proofs.ReadingMaps.{object_of, count_of, bool_of, not_both}
+use Rattle.elasticlunr_json.proofs.ReadingMaps.{object_of, count_of, bool_of, not_both}
 use Rattle.elasticlunr_store.proofs.document_store.DocumentStore.from_value.Goals as goal
 
 pub returns-then-len-length-clause-foreign : goal.returns-then-len-length-clause-foreign

@@ -2,7 +2,7 @@ use Rattle.std.proofs.Common.{Some, ap, sym, ◌∙◌, option_map}
 use Rattle.std.specs.FinMap.{get}
 use Rattle.elasticlunr_store.specs.Contents.{text_map}
 use Rattle.std.proofs.Common.{string_bytes}
-use Rattle.elasticlunr_store.proofs.Seen.{get_seen, cloned}
+use Rattle.elasticlunr_json.proofs.Seen.{get_seen, cloned}
 use Rattle.elasticlunr_store.proofs.document_store.DocumentStore.get_doc.Goals as goal
 
 pub returns-in_ok-clone-in-Some-clause-ok : goal.returns-in_ok-clone-in-Some-clause-ok

@@ -1,7 +1,7 @@
 use Rattle.std.proofs.Common.{ap, sym, ◌∙◌, is_some}
 use Rattle.std.specs.FinMap.{contains_key}
 use Rattle.elasticlunr_store.specs.Contents.{text_map}
-use Rattle.elasticlunr_store.proofs.Seen.{get_seen, is_some_map}
+use Rattle.elasticlunr_json.proofs.Seen.{get_seen, is_some_map}
 use Rattle.elasticlunr_store.proofs.document_store.DocumentStore.has_doc.Goals as goal
 
 pub returns : goal.returns

@@ -1,7 +1,7 @@
 use Rattle.std.proofs.Common.{ap, sym, ◌∙◌}
 use Rattle.std.specs.FinMap.{len}
 use Rattle.elasticlunr_store.specs.Contents.{text_map}
-use Rattle.elasticlunr_store.proofs.Sorted.{len_seen}
+use Rattle.elasticlunr_json.proofs.Sorted.{len_seen}
 use Rattle.elasticlunr_store.proofs.document_store.DocumentStore.length.Goals as goal
 
 pub returns : goal.returns

@@ -2,11 +2,11 @@ use Rattle.std.proofs.Common.{◌++◌, sym, ap, ◌∙◌}
 use Rattle.json.specs.Tree.{json_tokens}
 use Rattle.serde_json.specs.Written.{outline}
 use Rattle.serde_json.specs.Data.{string}
-use Rattle.elasticlunr_store.specs.Maps.{keyed, count}
+use Rattle.elasticlunr_json.specs.Maps.{keyed, count}
 use Rattle.elasticlunr_store.specs.Contents.{store_object, store_value, text_map, document_texts, document_lengths}
-use Rattle.elasticlunr_store.proofs.Seen.{on_ok}
-use Rattle.elasticlunr_store.proofs.Sorted.{len_seen}
-use Rattle.elasticlunr_store.proofs.Printing.{six}
+use Rattle.elasticlunr_json.proofs.Seen.{on_ok}
+use Rattle.elasticlunr_json.proofs.Sorted.{len_seen}
+use Rattle.elasticlunr_json.proofs.Rows.{six}
 use Rattle.elasticlunr_store.proofs.document_store.DocumentStore.write.Goals as goal
 
 pub returns-clause-written : goal.returns-clause-written

@@ -2,7 +2,7 @@ use Rattle.std.proofs.Common.{◌∙◌, string_bytes}
 use Rattle.std.specs.FinMap.{insert}
 use Rattle.std.proofs.lemmas.Map.Text.{btree_map_updates_text}
 use Rattle.elasticlunr_store.specs.Contents.{length_map}
-use Rattle.elasticlunr_store.proofs.Seen.{seen_inserted}
+use Rattle.elasticlunr_json.proofs.Seen.{seen_inserted}
 use Rattle.elasticlunr_store.proofs.document_store.put.put_length.Goals as goal
 
 pub returns-clause-ok : goal.returns-clause-ok

@@ -2,7 +2,7 @@ use Rattle.std.proofs.Common.{◌≡◌, Some, None, ap, sym, ◌∙◌, option_
 use Rattle.std.specs.FinMap.{get, insert, empty}
 use Rattle.std.proofs.lemmas.Map.Text.{btree_map_updates_text}
 use Rattle.elasticlunr_store.specs.Contents.{length_map, document_lengths}
-use Rattle.elasticlunr_store.proofs.Seen.{get_seen, seen_inserted, insert_itself, on_ok, on_err_map}
+use Rattle.elasticlunr_json.proofs.Seen.{get_seen, seen_inserted, insert_itself, on_ok, on_err_map}
 use Rattle.elasticlunr_store.proofs.document_store.put.set_length.Goals as goal
 
 pub returns-in-Some-clause-ok : goal.returns-in-Some-clause-ok

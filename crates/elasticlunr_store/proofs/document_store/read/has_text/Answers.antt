@@ -3,8 +3,8 @@ use mathlib.Core.Bool.{false≢true}
 use Rattle.std.specs.List.{AllByRecursion}
 use Rattle.std.specs.FinMap.{empty}
 use Rattle.elasticlunr_store.specs.Contents.{text_map}
-use Rattle.elasticlunr_store.proofs.Seen.{bare_entries, some_entries}
-use Rattle.elasticlunr_store.proofs.Sorted.{get_entry, get_all, all_more}
+use Rattle.elasticlunr_json.proofs.Seen.{bare_entries, some_entries}
+use Rattle.elasticlunr_json.proofs.Sorted.{get_entry, get_all, all_more}
 use Rattle.elasticlunr_store.proofs.document_store.read.has_text.Goals as goal
 
 pub loop-doc_ref-init : goal.loop-doc_ref-init

@@ -4,12 +4,12 @@ use Rattle.std.specs.List.Sorted.{IsStrictlySortedBy}
 use Rattle.std.specs.Map.{keys_of}
 use Rattle.serde_json.specs.Data.{object}
 use Rattle.serde_json.specs.View.{members_view, view}
-use Rattle.elasticlunr_store.specs.Maps.{keyed, count}
+use Rattle.elasticlunr_json.specs.Maps.{keyed, count}
 use Rattle.elasticlunr_store.specs.Contents.{length_map, document_lengths}
 use Rattle.elasticlunr_store.specs.SmallLengths.{HasSmallLengths}
 use Rattle.elasticlunr_store.proofs.Kept.{small_empty, small_inserted}
-use Rattle.elasticlunr_store.proofs.ReadingMaps.{read_more, foreign_member, object_of, no_members_yet}
-use Rattle.elasticlunr_store.proofs.Refusals.{refused_again}
+use Rattle.elasticlunr_json.proofs.ReadingMaps.{read_more, foreign_member, object_of, no_members_yet}
+use Rattle.elasticlunr_json.proofs.Refusals.{refused_again}
 use Rattle.elasticlunr_store.proofs.document_store.read.read_document_lengths.Goals as goal
 
 pub loop-doc_ref-init : goal.loop-doc_ref-init

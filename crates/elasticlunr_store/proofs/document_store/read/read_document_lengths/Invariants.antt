@@ -2,7 +2,7 @@ use Rattle.std.proofs.Common.{◌≡◌, List, ◌++◌}
 use Rattle.std.specs.FinMap.{entries}
 use Rattle.serde_json.specs.View.{members_view}
 use Rattle.serde_json.proofs.Views.{Entry}
-use Rattle.elasticlunr_store.specs.Maps.{members, keyed, count}
+use Rattle.elasticlunr_json.specs.Maps.{members, keyed, count}
 use Rattle.elasticlunr_store.specs.Contents.{document_lengths}
 use Rattle.elasticlunr_store.specs.SmallLengths.{HasSmallLengths}
 use Rattle.elasticlunr_store.proofs.document_store.read.read_document_lengths.Given as goal

@@ -4,10 +4,10 @@ use Rattle.std.specs.List.Sorted.{IsStrictlySortedBy}
 use Rattle.std.specs.Map.{keys_of}
 use Rattle.serde_json.specs.Data.{object, string}
 use Rattle.serde_json.specs.View.{members_view, view}
-use Rattle.elasticlunr_store.specs.Maps.{keyed}
+use Rattle.elasticlunr_json.specs.Maps.{keyed}
 use Rattle.elasticlunr_store.specs.Contents.{text_map, document_texts}
-use Rattle.elasticlunr_store.proofs.ReadingMaps.{read_more, foreign_member, object_of, no_members_yet}
-use Rattle.elasticlunr_store.proofs.Refusals.{refused_again}
+use Rattle.elasticlunr_json.proofs.ReadingMaps.{read_more, foreign_member, object_of, no_members_yet}
+use Rattle.elasticlunr_json.proofs.Refusals.{refused_again}
 use Rattle.elasticlunr_store.proofs.document_store.read.read_document_texts.Goals as goal
 
 pub loop-doc_ref-init : goal.loop-doc_ref-init

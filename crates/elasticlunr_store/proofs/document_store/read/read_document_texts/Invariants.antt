@@ -3,7 +3,7 @@ use Rattle.std.specs.FinMap.{entries}
 use Rattle.serde_json.specs.Data.{string}
 use Rattle.serde_json.specs.View.{members_view}
 use Rattle.serde_json.proofs.Views.{Entry}
-use Rattle.elasticlunr_store.specs.Maps.{members, keyed}
+use Rattle.elasticlunr_json.specs.Maps.{members, keyed}
 use Rattle.elasticlunr_store.specs.Contents.{document_texts}
 use Rattle.elasticlunr_store.proofs.document_store.read.read_document_texts.Given as goal
 

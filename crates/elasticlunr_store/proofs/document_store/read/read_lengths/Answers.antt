@@ -5,12 +5,12 @@ use Rattle.std.specs.Map.{keys_of}
 use Rattle.std.proofs.lemmas.Map.Text.{btree_map_updates_text}
 use Rattle.serde_json.specs.Data.{object}
 use Rattle.serde_json.specs.View.{members_view, view}
-use Rattle.elasticlunr_store.specs.Maps.{count}
+use Rattle.elasticlunr_json.specs.Maps.{count}
 use Rattle.elasticlunr_store.specs.Contents.{length_map}
 use Rattle.elasticlunr_store.specs.SmallLengths.{AreSmallLengths}
 use Rattle.elasticlunr_store.proofs.Kept.{all_empty, one_more_small}
-use Rattle.elasticlunr_store.proofs.Seen.{seen_inserted}
-use Rattle.elasticlunr_store.proofs.ReadingMaps.{read_more, foreign_member, object_of, count_of, no_count, no_members_yet}
+use Rattle.elasticlunr_json.proofs.Seen.{seen_inserted}
+use Rattle.elasticlunr_json.proofs.ReadingMaps.{read_more, foreign_member, object_of, count_of, no_count, no_members_yet}
 use Rattle.elasticlunr_store.proofs.document_store.read.read_lengths.Goals as goal
 
 pub loop-field-init : goal.loop-field-init

@@ -2,7 +2,7 @@ use Rattle.std.proofs.Common.{◌≡◌, List, ◌++◌}
 use Rattle.std.specs.FinMap.{entries}
 use Rattle.serde_json.specs.View.{members_view}
 use Rattle.serde_json.proofs.Views.{Entry}
-use Rattle.elasticlunr_store.specs.Maps.{members, count}
+use Rattle.elasticlunr_json.specs.Maps.{members, count}
 use Rattle.elasticlunr_store.specs.Contents.{length_map}
 use Rattle.elasticlunr_store.specs.SmallLengths.{AreSmallLengths}
 use Rattle.elasticlunr_store.proofs.document_store.read.read_lengths.Given as goal

@@ -6,8 +6,8 @@ use Rattle.std.proofs.lemmas.Map.Text.{btree_map_updates_text}
 use Rattle.serde_json.specs.Data.{object, string}
 use Rattle.serde_json.specs.View.{members_view, view}
 use Rattle.elasticlunr_store.specs.Contents.{text_map}
-use Rattle.elasticlunr_store.proofs.Seen.{seen_inserted}
-use Rattle.elasticlunr_store.proofs.ReadingMaps.{read_more, foreign_member, object_of, string_of, no_string, no_members_yet}
+use Rattle.elasticlunr_json.proofs.Seen.{seen_inserted}
+use Rattle.elasticlunr_json.proofs.ReadingMaps.{read_more, foreign_member, object_of, string_of, no_string, no_members_yet}
 use Rattle.elasticlunr_store.proofs.document_store.read.read_texts.Goals as goal
 
 pub loop-field-init : goal.loop-field-init

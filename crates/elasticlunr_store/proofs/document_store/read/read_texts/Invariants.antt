@@ -3,7 +3,7 @@ use Rattle.std.specs.FinMap.{entries}
 use Rattle.serde_json.specs.Data.{string}
 use Rattle.serde_json.specs.View.{members_view}
 use Rattle.serde_json.proofs.Views.{Entry}
-use Rattle.elasticlunr_store.specs.Maps.{members}
+use Rattle.elasticlunr_json.specs.Maps.{members}
 use Rattle.elasticlunr_store.specs.Contents.{text_map}
 use Rattle.elasticlunr_store.proofs.document_store.read.read_texts.Given as goal
 

@@ -1,5 +1,5 @@
 use Rattle.std.proofs.Common.{◌≡◌, true, false, ◌&&◌, [], ◌++◌, ◌∷◌, sym, ap, ◌∙◌, append_assoc, string_bytes, bytes_eq}
-use Rattle.elasticlunr_store.specs.Maps.{same_map}
+use Rattle.elasticlunr_json.specs.Maps.{same_map}
 use Rattle.elasticlunr_store.specs.Contents.{text_map}
 use Rattle.elasticlunr_store.proofs.SameMaps.{rest_decides, front, first_false, second_false, so, not_so, none_left}
 use Rattle.elasticlunr_store.proofs.document_store.same.same_document_texts.Goals as goal

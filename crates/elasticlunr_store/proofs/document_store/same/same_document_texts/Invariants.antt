@@ -1,8 +1,8 @@
 use Rattle.std.proofs.Common.{◌≡◌, true, ◌&&◌, List, ◌++◌, String, Global, BTreeMap, bytes_eq}
 use Rattle.std.specs.Cmp.Lexicographic.{pointwise}
-use Rattle.elasticlunr_store.specs.Maps.{same_map}
+use Rattle.elasticlunr_json.specs.Maps.{same_map}
 use Rattle.elasticlunr_store.specs.Contents.{text_map}
-use Rattle.elasticlunr_store.proofs.Sorted.{shown}
+use Rattle.elasticlunr_json.proofs.Sorted.{shown}
 use Rattle.elasticlunr_store.proofs.document_store.same.same_document_texts.Given as goal
 
 -- the entries so far are the same

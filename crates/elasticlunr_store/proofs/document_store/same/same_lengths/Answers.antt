@@ -1,6 +1,6 @@
 use Rattle.std.proofs.Common.{◌&&◌, sym, ◌∙◌, bytes_eq, nat_eq}
 use Rattle.std.specs.Cmp.Lexicographic.{pointwise}
-use Rattle.elasticlunr_store.proofs.Sorted.{entries_seen}
+use Rattle.elasticlunr_json.proofs.Sorted.{entries_seen}
 use Rattle.elasticlunr_store.proofs.SameMaps.{pointwise_shown, apart_shown}
 use Rattle.elasticlunr_store.proofs.document_store.same.same_lengths.Goals as goal
 

@@ -4,9 +4,9 @@ use Rattle.std.specs.Map.{keys_of}
 use Rattle.serde_json.specs.Data.{object, put}
 use Rattle.serde_json.specs.View.{members_view}
 use Rattle.serde_json.proofs.Views.{view-Object}
-use Rattle.elasticlunr_store.specs.Maps.{members, keyed, count}
+use Rattle.elasticlunr_json.specs.Maps.{members, keyed, count}
 use Rattle.elasticlunr_store.specs.Contents.{length_map}
-use Rattle.elasticlunr_store.proofs.Sorted.{shown, put_last, whole}
+use Rattle.elasticlunr_json.proofs.Sorted.{shown, put_last, whole}
 use Rattle.elasticlunr_store.proofs.document_store.value.document_lengths_value.Goals as goal
 
 pub loop-doc_ref-init : goal.loop-doc_ref-init

@@ -1,8 +1,8 @@
 use Rattle.std.proofs.Common.{◌≡◌, List, ◌++◌, String, Global, BTreeMap, ℕ}
 use Rattle.serde_json.specs.View.{members_view}
-use Rattle.elasticlunr_store.specs.Maps.{members, keyed, count}
+use Rattle.elasticlunr_json.specs.Maps.{members, keyed, count}
 use Rattle.elasticlunr_store.specs.Contents.{length_map}
-use Rattle.elasticlunr_store.proofs.Sorted.{shown}
+use Rattle.elasticlunr_json.proofs.Sorted.{shown}
 use Rattle.elasticlunr_store.proofs.document_store.value.document_lengths_value.Given as goal
 
 -- a member for each entry that was read

@@ -1,7 +1,7 @@
 use Rattle.std.proofs.Common.{◌≡◌, List, ◌++◌, String, Global, ℕ}
 use Rattle.serde_json.specs.View.{members_view}
-use Rattle.elasticlunr_store.specs.Maps.{members, count}
-use Rattle.elasticlunr_store.proofs.Sorted.{shown}
+use Rattle.elasticlunr_json.specs.Maps.{members, count}
+use Rattle.elasticlunr_json.proofs.Sorted.{shown}
 use Rattle.elasticlunr_store.proofs.document_store.value.lengths_value.Given as goal
 
 -- a member for each entry that was read

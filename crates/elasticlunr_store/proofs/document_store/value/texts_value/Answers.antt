@@ -4,8 +4,8 @@ use Rattle.std.specs.Map.{keys_of}
 use Rattle.serde_json.specs.Data.{object, string, put}
 use Rattle.serde_json.specs.View.{members_view}
 use Rattle.serde_json.proofs.Views.{view-Object}
-use Rattle.elasticlunr_store.specs.Maps.{members}
-use Rattle.elasticlunr_store.proofs.Sorted.{shown, put_last, whole, view-String}
+use Rattle.elasticlunr_json.specs.Maps.{members}
+use Rattle.elasticlunr_json.proofs.Sorted.{shown, put_last, whole, view-String}
 use Rattle.elasticlunr_store.proofs.document_store.value.texts_value.Goals as goal
 
 pub loop-field-init : goal.loop-field-init

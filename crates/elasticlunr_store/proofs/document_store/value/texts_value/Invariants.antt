@@ -1,8 +1,8 @@
 use Rattle.std.proofs.Common.{◌≡◌, List, ◌++◌, String, Global, string_bytes}
 use Rattle.serde_json.specs.Data.{string}
 use Rattle.serde_json.specs.View.{members_view}
-use Rattle.elasticlunr_store.specs.Maps.{members}
-use Rattle.elasticlunr_store.proofs.Sorted.{shown}
+use Rattle.elasticlunr_json.specs.Maps.{members}
+use Rattle.elasticlunr_json.proofs.Sorted.{shown}
 use Rattle.elasticlunr_store.proofs.document_store.value.texts_value.Given as goal
 
 -- a member for each entry that was read

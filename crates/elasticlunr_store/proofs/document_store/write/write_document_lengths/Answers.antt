@@ -1,10 +1,10 @@
 use Rattle.std.proofs.Common.{◌∷◌, ◌++◌, sym, ap, ◌∙◌, append_assoc}
 use Rattle.json.specs.Token.{Token}
-use Rattle.elasticlunr_store.specs.Maps.{members, keyed, count}
+use Rattle.elasticlunr_json.specs.Maps.{members, keyed, count}
 use Rattle.elasticlunr_store.specs.Contents.{length_map}
-use Rattle.elasticlunr_store.specs.Printed.{tokens_of}
-use Rattle.elasticlunr_store.proofs.Seen.{on_ok}
-use Rattle.elasticlunr_store.proofs.Sorted.{shown, entries_seen}
+use Rattle.elasticlunr_json.specs.Tokens.{tokens_of}
+use Rattle.elasticlunr_json.proofs.Seen.{on_ok}
+use Rattle.elasticlunr_json.proofs.Sorted.{shown, entries_seen}
 use Rattle.elasticlunr_store.proofs.document_store.write.write_document_lengths.Goals as goal
 
 pub returns : goal.returns

@@ -1,8 +1,8 @@
 use Rattle.std.proofs.Common.{◌≡◌, ◌++◌}
-use Rattle.elasticlunr_store.specs.Maps.{members, keyed, count}
+use Rattle.elasticlunr_json.specs.Maps.{members, keyed, count}
 use Rattle.elasticlunr_store.specs.Contents.{length_map}
-use Rattle.elasticlunr_store.specs.Printed.{tokens_of}
-use Rattle.elasticlunr_store.proofs.Sorted.{shown}
+use Rattle.elasticlunr_json.specs.Tokens.{tokens_of}
+use Rattle.elasticlunr_json.proofs.Sorted.{shown}
 use Rattle.elasticlunr_store.proofs.document_store.write.write_document_lengths.Given as goal
 
 -- what was written, and the entries that are left

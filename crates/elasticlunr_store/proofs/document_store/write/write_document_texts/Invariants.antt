@@ -1,9 +1,9 @@
 use Rattle.std.proofs.Common.{◌≡◌, ◌++◌}
 use Rattle.serde_json.specs.Data.{string}
-use Rattle.elasticlunr_store.specs.Maps.{members, keyed}
+use Rattle.elasticlunr_json.specs.Maps.{members, keyed}
 use Rattle.elasticlunr_store.specs.Contents.{text_map}
-use Rattle.elasticlunr_store.specs.Printed.{tokens_of}
-use Rattle.elasticlunr_store.proofs.Sorted.{shown}
+use Rattle.elasticlunr_json.specs.Tokens.{tokens_of}
+use Rattle.elasticlunr_json.proofs.Sorted.{shown}
 use Rattle.elasticlunr_store.proofs.document_store.write.write_document_texts.Given as goal
 
 -- what was written, and the entries that are left

@@ -1,5 +1,5 @@
-use Rattle.elasticlunr_store.proofs.Printing.{five}
-use Rattle.elasticlunr_store.proofs.Seen.{on_ok}
+use Rattle.elasticlunr_json.proofs.Rows.{five}
+use Rattle.elasticlunr_json.proofs.Seen.{on_ok}
 use Rattle.elasticlunr_store.proofs.document_store.write.write_last_members.Goals as goal
 
 pub returns : goal.returns

@@ -1,10 +1,10 @@
 use Rattle.std.proofs.Common.{◌∷◌, ◌++◌, sym, ap, ◌∙◌, append_assoc, string_bytes}
 use Rattle.json.specs.Token.{Token}
 use Rattle.serde_json.specs.Data.{string}
-use Rattle.elasticlunr_store.specs.Maps.{members}
-use Rattle.elasticlunr_store.specs.Printed.{tokens_of}
-use Rattle.elasticlunr_store.proofs.Seen.{on_ok}
-use Rattle.elasticlunr_store.proofs.Sorted.{shown, entries_seen}
+use Rattle.elasticlunr_json.specs.Maps.{members}
+use Rattle.elasticlunr_json.specs.Tokens.{tokens_of}
+use Rattle.elasticlunr_json.proofs.Seen.{on_ok}
+use Rattle.elasticlunr_json.proofs.Sorted.{shown, entries_seen}
 use Rattle.elasticlunr_store.proofs.document_store.write.write_texts.Goals as goal
 
 pub returns : goal.returns

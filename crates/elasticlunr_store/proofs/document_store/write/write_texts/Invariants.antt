@@ -1,8 +1,8 @@
 use Rattle.std.proofs.Common.{◌≡◌, ◌++◌, string_bytes}
 use Rattle.serde_json.specs.Data.{string}
-use Rattle.elasticlunr_store.specs.Maps.{members}
-use Rattle.elasticlunr_store.specs.Printed.{tokens_of}
-use Rattle.elasticlunr_store.proofs.Sorted.{shown}
+use Rattle.elasticlunr_json.specs.Maps.{members}
+use Rattle.elasticlunr_json.specs.Tokens.{tokens_of}
+use Rattle.elasticlunr_json.proofs.Sorted.{shown}
 use Rattle.elasticlunr_store.proofs.document_store.write.write_texts.Given as goal
 
 -- what was written, and the entries that are left

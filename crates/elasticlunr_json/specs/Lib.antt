@@ -1,0 +1,4 @@
+pub mod Maps
+pub mod EqualMaps
+pub mod Tokens
+pub mod Refused

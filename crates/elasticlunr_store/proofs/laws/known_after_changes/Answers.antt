@@ -1,5 +1,0 @@
-use Rattle.elasticlunr_store.proofs.Changes.{known_after_new}
-use Rattle.elasticlunr_store.proofs.laws.known_after_changes.Goals as goal
-
-pub returns : goal.returns
-returns c changes T is s = known_after_new changes T is s

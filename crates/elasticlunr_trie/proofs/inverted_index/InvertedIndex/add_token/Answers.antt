@@ -1,0 +1,28 @@
+use Rattle.std.proofs.Common.{Result, Ok, Err, OnErr, sym, ◌∙◌, length}
+use Rattle.std.proofs.lemmas.Bool.{eqb-true, eq-eqb}
+use mathlib.Core.Bool.{false≢true}
+use Rattle.elasticlunr_trie.proofs.Letters.{some_character, no_character}
+use Rattle.elasticlunr_trie.proofs.inverted_index.InvertedIndex.add_token.Goals as goal
+
+on_err : {T E : Type 0} (r : Result T E) (P : Type 0) → P → OnErr r P
+on_err (Ok x) P p = tt
+on_err (Err e) P p = p
+
+pub returns-then-is_empty-clause-ok : goal.returns-then-is_empty-clause-ok
+returns-then-is_empty-clause-ok c some = absurd (some (no_character _ (eqb-true _ 0 (sym c.if-is_empty.ensures))))
+
+-- a token that is not empty has a character
+pub add_posting-requires-clause-not_empty : goal.add_posting-requires-clause-not_empty
+add_posting-requires-clause-not_empty c none =
+    absurd (false≢true (c.if-is_empty.ensures ∙ eq-eqb (length c.args.token.now) 0 (some_character c.args.token.now c.utf8.token none)))
+
+pub returns-in_err-add_posting-clause-empty_token : goal.returns-in_err-add_posting-clause-empty_token
+returns-in_err-add_posting-clause-empty_token c none =
+    absurd (false≢true (c.if-is_empty.ensures ∙ eq-eqb (length c.args.token.now) 0 (some_character c.args.token.now c.utf8.token none)))
+
+pub returns-in_err-add_posting-clause-err : goal.returns-in_err-add_posting-clause-err
+returns-in_err-add_posting-clause-err c = on_err c.from_residual.result _ (c.in_err-add_posting.ensures.err ∙ c.self.view_is)
+
+pub returns-clause-empty_token : goal.returns-clause-empty_token
+returns-clause-empty_token c none =
+    absurd (false≢true (c.if-is_empty.ensures ∙ eq-eqb (length c.args.token.now) 0 (some_character c.args.token.now c.utf8.token none)))

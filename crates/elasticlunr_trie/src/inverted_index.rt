@@ -1,0 +1,292 @@
+//! Tries of tokens, each with the frequency of each reference that has it.
+ghost use Rattle.std.specs.FinMap.{get as get_postings, len};
+ghost use Rattle.std.specs.Prelude.{◌≡◌, ◌↔◌, [], None, IsTrue, IfOk, IfErr, IsOk, OnOk, OnErr, IsOkUnless, false, unwrap_or, is_some, ◌≢◌};
+ghost use Rattle.std.specs.Str.{chars};
+ghost use Rattle.elasticlunr_text.specs.Text.{Text, Bytes};
+ghost use Rattle.elasticlunr_trie.specs.Table.{Table, new_table, knows, posting, postings, IsTable, AddsToken, RemovesToken, same_tables};
+ghost use Rattle.elasticlunr_trie.specs.Copied.{copied_postings};
+ghost use Rattle.serde_json.specs.View.{view};
+ghost use Rattle.elasticlunr_json.specs.Refused.{IsRefused};
+ghost use Rattle.elasticlunr_text.specs.declared.error.IndexError.TheVariants.{Memory};
+ghost use Rattle.serde_json.specs.Written.{has_float};
+ghost use Rattle.elasticlunr_trie.specs.Tree.{IsTrieValue};
+
+mod add;
+mod branch;
+mod compact;
+mod docs;
+mod few;
+mod lists;
+mod names;
+mod nodes;
+mod numbered;
+mod posting;
+mod postings;
+mod read;
+mod references;
+mod remove;
+mod same;
+mod value;
+mod write;
+
+use add::add_posting;
+use docs::copy_docs;
+use elasticlunr_json::put_member;
+use elasticlunr_text::IndexError;
+use names::Names;
+use nodes::{Node, Place, Reference, find, find_frequency, find_postings};
+use read::{only_member, read_nodes};
+use remove::{remove_posting, remove_postings};
+use same::same_below;
+use serde_json::{Map, Value};
+use std::alloc::Global;
+use std::collections::BTreeMap;
+use std::marker::Model;
+use value::tree_value;
+
+/// The tokens of a field, each with the references of the documents that have it, and how often
+/// they do.
+///
+/// It stands for a table: the known texts, among them the empty one and each beginning of a known
+/// one, and for some pairs of a known token and a reference a frequency. Known texts stay known
+/// when their postings go, until the trie is compacted.
+///
+/// The nodes stand in one vector, and name their children by number. Each is the child of exactly
+/// one: of the root, or of a node of a lower number. So a trie is dropped without recursion, and a
+/// text is looked up by halves at each of its characters. A reference has a number, under which its
+/// postings stand; its name is kept once. A name may stay when its postings go, until the trie is
+/// compacted; no call shows it.
+///
+/// A node takes 32 bytes, and more where it has several children or several postings. A number of a
+/// node or of a reference has 32 bits: a call that would make more of them fails as where memory is
+/// wanting.
+#[derive(Debug, Drop)]
+pub struct InvertedIndex {
+    root: Vec<(char, u32)>,
+    nodes: Vec<Node>,
+    names: Names,
+    references: Vec<Reference>,
+}
+
+impl Model for InvertedIndex {
+    ghost use Rattle.std.specs.FinMap as map;
+    ghost use Rattle.std.specs.Coded.{coded_ℕ, coded_list};
+    ghost use Rattle.elasticlunr_trie.specs.Table.{Table};
+
+    ghost Value = { Table };
+
+    ghost coded = { map.code (coded_list coded_ℕ) (map.code (coded_list coded_ℕ) coded_ℕ) };
+
+    ghost use Rattle.elasticlunr_trie.specs.Trie.{table_of, IsIndex};
+
+    ghost view = { λ a. table_of a.root.items a.nodes.items a.names };
+
+    ghost invariant = { λ a. IsIndex a.root.items a.nodes.items a.names a.references.items };
+}
+
+impl InvertedIndex {
+    /// A trie that knows the empty text alone. It requests no memory; later calls take it from this
+    /// allocator.
+    pub fn new(alloc: Global) -> Self
+        ensures new { result ≡ new_table }
+        ensures table { IsTable result }
+    {
+        InvertedIndex {
+            root: Vec::new(alloc),
+            nodes: Vec::new(alloc),
+            names: Names::new(alloc),
+            references: Vec::new(alloc),
+        }
+    }
+
+    /// Sets the posting of a token, which makes its beginnings known. The empty token changes
+    /// nothing.
+    ///
+    /// Where memory is wanting, the table stays as it was. The work is in proportion to the token;
+    /// the reference is looked up among all names unless it is the newest one, and by halves among
+    /// the postings of the token.
+    pub fn add_token(
+        &mut self,
+        doc_ref: &str,
+        token: &str,
+        term_freq: u64,
+    ) -> Result<(), IndexError>
+        ensures ok { OnOk result (chars token.now ≢ []
+            → AddsToken self.old self.new (chars token.now) doc_ref.now term_freq) }
+        ensures empty_token { chars token.now ≡ [] → IsOk result × (self.new ≡ self.old) }
+        ensures memory { IsOkUnless result Memory }
+        ensures err { OnErr result (self.new ≡ self.old) }
+    {
+        if token.is_empty() {
+            return Ok(());
+        }
+        let alloc = *self.nodes.allocator();
+        add_posting(
+            alloc,
+            &mut self.root,
+            &mut self.nodes,
+            &mut self.names,
+            &mut self.references,
+            doc_ref,
+            token,
+            term_freq,
+        )?;
+        Ok(())
+    }
+
+    /// Takes every posting of a reference away. The known texts stay. It visits the nodes where the
+    /// reference has or had a posting, and no others; an unknown reference is looked up and costs
+    /// no more. Requests no memory.
+    pub fn remove_doc(&mut self, doc_ref: &str)
+        ensures known { (t : Text) → knows self.new t ≡ knows self.old t }
+        ensures gone { (t : Text) → posting self.new t doc_ref.now ≡ None }
+        ensures others { (t : Text) (r : Bytes) → r ≢ doc_ref.now → posting self.new t r ≡ posting self.old t r }
+    {
+        let alloc = *self.nodes.allocator();
+        remove_postings(
+            alloc,
+            &self.names,
+            &mut self.references,
+            &mut self.nodes,
+            doc_ref,
+        );
+    }
+
+    /// Takes a posting away if it is there. The known texts stay. The work is in proportion to the
+    /// token and to the postings of the reference. Requests no memory.
+    pub fn remove_token(&mut self, doc_ref: &str, token: &str)
+        ensures { RemovesToken self.old self.new (chars token.now) doc_ref.now }
+    {
+        remove_posting(
+            &self.root,
+            &self.names,
+            &mut self.references,
+            &mut self.nodes,
+            doc_ref,
+            token,
+        );
+    }
+
+    /// A copy of the postings of a token, `None` where it is unknown. The work is in proportion to
+    /// the token and its postings.
+    pub fn get_docs(&self, token: &str) -> Result<Option<BTreeMap<String, u64>>, IndexError>
+        ensures ok { IfOk result (λ docs. copied_postings docs ≡ get_postings self.now (chars token.now)) }
+        ensures memory { IsOkUnless result Memory }
+    {
+        let alloc = *self.nodes.allocator();
+        let docs = copy_docs(alloc, &self.root, &self.nodes, &self.names, token)?;
+        Ok(docs)
+    }
+
+    /// The frequency of a reference at a token, 0 where it has no posting. A step for each
+    /// character of the token, and a look-up of the reference; requests no memory.
+    pub fn get_term_frequency(&self, doc_ref: &str, token: &str) -> u64
+        ensures { result ≡ unwrap_or (posting self.now (chars token.now) doc_ref.now) 0 }
+    {
+        find_frequency(&self.root, &self.nodes, &self.names, token, doc_ref).unwrap_or(0)
+    }
+
+    /// Has a reference a posting at a token? A step for each character of the token, and a look-up
+    /// of the reference; requests no memory.
+    pub fn has_posting(&self, doc_ref: &str, token: &str) -> bool
+        ensures { result ≡ is_some (posting self.now (chars token.now) doc_ref.now) }
+    {
+        find_frequency(&self.root, &self.nodes, &self.names, token, doc_ref).is_some()
+    }
+
+    /// How many references have a posting at a token. A step for each character of the token;
+    /// requests no memory.
+    pub fn get_doc_frequency(&self, token: &str) -> u64
+        ensures { result ≡ len (postings self.now (chars token.now)) }
+    {
+        match find_postings(&self.root, &self.nodes, token) {
+            Some(postings) => postings.len() as u64,
+            None => 0,
+        }
+    }
+
+    /// The JSON value of the trie: an object with the key `root`, under which each node has `docs`,
+    /// `df` and a key for each of its children's characters.
+    ///
+    /// It takes more than a thousand bytes a posting: to print, use `write`. A value is dropped by
+    /// the machine's stack, a step for each character of a token: 8 MB are enough for tokens of
+    /// 20,000 characters.
+    pub fn to_value(&self) -> Result<Value, IndexError>
+        ensures tree { IfOk result (λ v. IsTrieValue self.now (view v)) }
+        ensures table { IsTable self.now }
+        ensures only { IfOk result (λ v. (U : Table) → IsTable U → IsTrieValue U (view v) → U ≡ self.now) }
+        ensures whole { IfOk result (λ v. has_float (view v) ≡ false) }
+        ensures memory { IsOkUnless result Memory }
+    {
+        let alloc = *self.nodes.allocator();
+        let root = tree_value(alloc, &self.root, &self.nodes, &self.names)?;
+        let mut members = Map::new(alloc);
+        put_member(&mut members, String::from_str(alloc, "root")?, root)?;
+        Ok(Value::Object(members))
+    }
+
+    /// The trie whose JSON value this is. Refuses other keys, missing ones, a `df` that is not the
+    /// number of references, and a root with postings.
+    ///
+    /// The value may nest as deep as it likes.
+    pub fn from_value(alloc: Global, value: &Value) -> Result<Self, IndexError>
+        ensures ok { IfOk result (λ t. IsTrieValue t (view value.now)) }
+        ensures table { IfOk result (λ t. IsTable t) }
+        ensures foreign { IfErr result (IsRefused ((T : Table) → IsTable T → ¬ (IsTrieValue T (view value.now)))) }
+    {
+        let Some(root) = only_member(value, "root") else {
+            return Err(IndexError::ForeignValue);
+        };
+        let mut names = Names::new(alloc);
+        let mut references = Vec::new(alloc);
+        let (root, nodes) = read_nodes(alloc, root, &mut names, &mut references)?;
+        Ok(InvertedIndex {
+            root,
+            nodes,
+            names,
+            references,
+        })
+    }
+
+    /// Is this text known, as a token or as the beginning of one? A step for each of its
+    /// characters.
+    pub fn has_token(&self, token: &str) -> bool
+        ensures { result ≡ knows self.now (chars token.now) }
+    {
+        find(&self.root, &self.nodes, token).is_some()
+    }
+}
+
+impl PartialEq for InvertedIndex {
+    ghost use Rattle.elasticlunr_trie.specs.Table.{same_tables};
+    ghost use Rattle.elasticlunr_trie.specs.EqualTables.{tables_equivalence};
+    ghost use Rattle.std.specs.Cmp.{partial_equiv_from_equiv};
+
+    ghost eq = { same_tables };
+
+    ghost laws = { partial_equiv_from_equiv tables_equivalence };
+
+    /// Do both stand for the same table? The numbers of their nodes and references make no
+    /// difference. Requests no memory. A path without branches takes no stack.
+    fn eq(&self, other: &InvertedIndex) -> bool
+        ensures test { result ≡ same_tables self.now other.now }
+        ensures equal { IsTrue result ↔ (self.now ≡ other.now) }
+    {
+        same_below(
+            &self.names,
+            &self.root,
+            &self.nodes,
+            Place::Root,
+            &other.names,
+            &other.root,
+            &other.nodes,
+            Place::Root,
+        )
+    }
+}
+
+impl Eq for InvertedIndex {
+    ghost use Rattle.elasticlunr_trie.specs.EqualTables.{tables_equivalence};
+
+    ghost laws = { tables_equivalence };
+}

@@ -1,0 +1,214 @@
+//! A trie without the paths that lead to no posting.
+ghost use Rattle.std.specs.Prelude.{◌≡◌, ◌↔◌, ◌⊎◌, ℕ, ◌<◌, [], length, Some, IsTrue, IfOk, IsOkUnless};
+ghost use Rattle.elasticlunr_text.specs.declared.error.IndexError.TheVariants.{Memory};
+ghost use Rattle.elasticlunr_trie.specs.Table.{IsTable};
+ghost use Rattle.elasticlunr_trie.specs.Compacted.{KeepsPostings, KnowsWhatLeads};
+ghost use Rattle.elasticlunr_trie.specs.NodeTables.{node_table};
+ghost use Rattle.elasticlunr_trie.specs.Pairs.{IsStrictlySorted};
+ghost use Rattle.elasticlunr_trie.specs.Names.{AreNames};
+ghost use Rattle.elasticlunr_trie.specs.Children.{child};
+ghost use Rattle.elasticlunr_trie.specs.Nodes.{AreAllNumbered, AreListed};
+ghost use Rattle.elasticlunr_trie.specs.Trie.{IsTrie, IsIndex, HaveOneParent, step_of, table_of};
+ghost use Rattle.elasticlunr_trie.specs.Compact.{AreNumbers, kept_children, HasFrequency, HasMarked, KeepsMarked, MarksBearing};
+
+use super::InvertedIndex;
+use super::few::Few;
+use super::names::Names;
+use super::nodes::{Children, Node, Reference, short_number};
+use super::numbered::renumber;
+use elasticlunr_text::IndexError;
+use std::alloc::{AllocError, Global};
+
+impl InvertedIndex {
+    /// A new trie with the same postings, in which only the beginnings of their tokens are known,
+    /// and the empty text. This one stays as it is.
+    ///
+    /// Visits each node twice, with no recursion.
+    pub fn compacted(&self) -> Result<Self, IndexError>
+        ensures known { IfOk result (λ new. KnowsWhatLeads self.now new) }
+        ensures postings { IfOk result (λ new. KeepsPostings self.now new) }
+        ensures table { IfOk result (λ new. IsTable new) }
+        ensures memory { IsOkUnless result Memory }
+    {
+        let alloc = *self.nodes.allocator();
+        let (root, nodes, names, references) = compact(
+            alloc,
+            &self.root,
+            &self.nodes,
+            &self.names,
+        )?;
+        Ok(InvertedIndex {
+            root,
+            nodes,
+            names,
+            references,
+        })
+    }
+}
+
+// The children and the nodes from which a posting is reached, numbered anew, with the names that their postings have.
+fn compact(
+    alloc: Global,
+    root: &[(char, u32)],
+    nodes: &[Node],
+    names: &Names,
+) -> Result<(Vec<(char, u32)>, Vec<Node>, Names, Vec<Reference>), AllocError>
+    requires trie { IsTrie root.now nodes.now }
+    requires parents { HaveOneParent (step_of root.now nodes.now) (length nodes.now) }
+    requires names { AreNames names.now }
+    requires numbered { AreAllNumbered names.now nodes.now }
+    ensures index { IfOk result (λ t. IsIndex t.0.items t.1.items t.2 t.3.items) }
+    ensures known { IfOk result (λ t. KnowsWhatLeads (table_of root.now nodes.now names.now)
+        (node_table t.0 t.1 t.2)) }
+    ensures postings { IfOk result (λ t. KeepsPostings (table_of root.now nodes.now names.now)
+        (node_table t.0 t.1 t.2)) }
+{
+    let marks = bearing(alloc, nodes)?;
+    let numbers = new_numbers(alloc, &marks)?;
+    let children = keep_children(alloc, root, &marks, &numbers)?;
+    let kept_root = children.into_vec()?;
+    let mut kept_names = Names::new(alloc);
+    let mut references = Vec::new(alloc);
+    let kept = keep_nodes(
+        alloc,
+        nodes,
+        names,
+        &marks,
+        &numbers,
+        &mut kept_names,
+        &mut references,
+    )?;
+    Ok((kept_root, kept, kept_names, references))
+}
+
+// For each node, whether a posting is reached from it.
+fn bearing(alloc: Global, nodes: &[Node]) -> Result<Vec<bool>, AllocError>
+    requires { IsTrie [] nodes.now }
+    ensures count { IfOk result (λ marks. length marks.items ≡ length nodes.now) }
+    ensures each { IfOk result (λ marks. MarksBearing nodes.now marks.items) }
+{
+    let mut marks = Vec::new(alloc);
+    for _ in nodes {
+        marks.push(false)?;
+    }
+    mark(nodes, &mut marks);
+    Ok(marks)
+}
+
+// Marks the nodes from which a posting is reached, from the last to the first.
+fn mark(nodes: &[Node], marks: &mut [bool])
+    requires trie { IsTrie [] nodes.now }
+    requires one_each { length marks.old ≡ length nodes.now }
+    ensures count { length marks.new ≡ length nodes.now }
+    ensures each { MarksBearing nodes.now marks.new }
+{
+    let mut i = nodes.len();
+    while i > 0 {
+        i -= 1;
+        let bears = bears_posting(&nodes[i], marks);
+        marks[i] = bears;
+    }
+}
+
+// Has the node a posting, or a marked child?
+fn bears_posting(node: &Node, marks: &[bool]) -> bool
+    requires sorted { IsStrictlySorted node.now.children.items }
+    requires in_range { (c : ℕ) (k : ℕ) → child node.now.children.items c ≡ Some k → k < length marks.now }
+    ensures { IsTrue result ↔ (HasFrequency node.now.postings ⊎ HasMarked marks.now node.now.children.items) }
+{
+    if !node.postings.pairs().is_empty() {
+        return true;
+    }
+    has_marked(node.children.as_slice(), marks)
+}
+
+// Is one of the children marked?
+fn has_marked(children: &[(char, u32)], marks: &[bool]) -> bool
+    requires sorted { IsStrictlySorted children.now }
+    requires in_range { (c : ℕ) (k : ℕ) → child children.now c ≡ Some k → k < length marks.now }
+    ensures { IsTrue result ↔ HasMarked marks.now children.now }
+{
+    for &(_, k) in children {
+        if marks[k as usize] {
+            return true;
+        }
+    }
+    false
+}
+
+// How many marked nodes stand before each node. That is its new number, if it is marked.
+fn new_numbers(alloc: Global, marks: &[bool]) -> Result<Vec<usize>, AllocError>
+    ensures { IfOk result (λ numbers. AreNumbers marks.now numbers.items) }
+{
+    let mut numbers = Vec::new(alloc);
+    let mut count = 0;
+    for &marked in marks {
+        numbers.push(count)?;
+        if marked {
+            count += 1;
+        }
+    }
+    Ok(numbers)
+}
+
+// The marked children, under their new numbers.
+fn keep_children(
+    alloc: Global,
+    children: &[(char, u32)],
+    marks: &[bool],
+    numbers: &[usize],
+) -> Result<Children, AllocError>
+    requires sorted { IsStrictlySorted children.now }
+    requires in_range { (c : ℕ) (k : ℕ) → child children.now c ≡ Some k → k < length marks.now }
+    requires numbers { AreNumbers marks.now numbers.now }
+    ensures { IfOk result (λ kept. kept.items ≡ kept_children marks.now children.now) }
+{
+    let mut kept = Few::new(alloc);
+    for &(c, k) in children {
+        if !marks[k as usize] {
+            continue;
+        }
+        kept.push((c, short_number(numbers[k as usize])?))?;
+    }
+    Ok(kept)
+}
+
+// The marked nodes, in order.
+fn keep_nodes(
+    alloc: Global,
+    nodes: &[Node],
+    names: &Names,
+    marks: &[bool],
+    numbers: &[usize],
+    kept_names: &mut Names,
+    references: &mut Vec<Reference>,
+) -> Result<Vec<Node>, AllocError>
+    requires trie { IsTrie [] nodes.now }
+    requires names { AreNames names.now }
+    requires numbered { AreAllNumbered names.now nodes.now }
+    requires marks { length marks.now ≡ length nodes.now }
+    requires numbers { AreNumbers marks.now numbers.now }
+    requires no_names { kept_names.old ≡ [] }
+    ensures names { IfOk result (λ _. AreNames kept_names.new) }
+    ensures listed { IfOk result (λ kept. AreListed kept_names.new references.new.items kept.items) }
+    ensures kept { IfOk result (λ kept. KeepsMarked marks.now names.now nodes.now kept_names.new kept.items) }
+{
+    let mut kept = Vec::new(alloc);
+    for i in 0..nodes.len() {
+        if !marks[i] {
+            continue;
+        }
+        let node = &nodes[i];
+        let children = keep_children(alloc, node.children.as_slice(), marks, numbers)?;
+        let postings = renumber(
+            alloc,
+            kept_names,
+            references,
+            kept.len(),
+            names,
+            node.postings.pairs(),
+        )?;
+        kept.push(Node { children, postings })?;
+    }
+    Ok(kept)
+}

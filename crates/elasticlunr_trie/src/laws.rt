@@ -1,0 +1,48 @@
+//! Laws of the tables that a trie stands for.
+ghost use Rattle.std.specs.Prelude.{◌≡◌, ◌⊎◌, ◌↔◌, [], List, Result, IfOk, IfErr, IsTrue, unwrap_or, option_map};
+ghost use Rattle.std.specs.Bool.{Decides};
+ghost use Rattle.std.specs.FinMap.{get, len};
+ghost use Rattle.serde_json.specs.Data.{Data};
+ghost use Rattle.elasticlunr_text.specs.Text.{Text};
+ghost use Rattle.elasticlunr_text.specs.declared.error.IndexError.{IndexError};
+ghost use Rattle.elasticlunr_json.specs.Refused.{IsRefused, IsAnswer};
+ghost use Rattle.elasticlunr_trie.specs.Table.{Table, new_table, knows, postings, same_tables, IsPrefix, IsTable, Change, AreChanged, IsAdded};
+ghost use Rattle.elasticlunr_trie.specs.Tree.{IsTrieValue};
+
+/// A value is the trie value of one table at most.
+pub fn one_table_a_value()
+    ensures { (T : Table) (U : Table) (v : Data)
+        → IsTable T → IsTable U → IsTrieValue T v → IsTrieValue U v → T ≡ U }
+{}
+
+/// A table has one trie value at most.
+pub fn one_value_a_table()
+    ensures { (T : Table) (v : Data) (w : Data) → IsTrieValue T v → IsTrieValue T w → v ≡ w }
+{}
+
+/// An answer that keeps the contract of `InvertedIndex::from_value` on the trie value of a table is
+/// that table, or want of memory.
+pub fn trie_values_are_read_back()
+    ensures { (T : Table) (v : Data) (answer : Result Table IndexError)
+        → IsTable T → IsTrieValue T v
+        → IfOk answer (λ U. IsTable U × IsTrieValue U v)
+        → IfErr answer (IsRefused ((U : Table) → IsTable U → ¬ (IsTrieValue U v)))
+        → IsAnswer T answer }
+{}
+
+/// Whatever was added and removed, known are the empty text and the beginnings of the tokens that
+/// were added.
+pub fn known_after_changes()
+    ensures { (changes : List Change) (T : Table) → AreChanged changes new_table T → (s : Text)
+        → IsTrue (knows T s) ↔ ((s ≡ []) ⊎ ((t : Text) × IsAdded t changes × IsPrefix s t)) }
+{}
+
+/// The document frequency of a token is the number of its postings, and 0 where it is unknown.
+pub fn frequency_counts_postings()
+    ensures { (T : Table) (t : Text) → len (postings T t) ≡ unwrap_or (option_map len (get T t)) 0 }
+{}
+
+/// Two tries are `==` exactly if their tables are equal.
+pub fn equal_tries()
+    ensures { (T : Table) (U : Table) → Decides (same_tables T U) (T ≡ U) }
+{}

@@ -15,7 +15,7 @@ use Rattle.std.proofs.lemmas.Map.Text.{is_eq-slice_cmp}
 use Rattle.std.proofs.lemmas.Map.Entries.{lookup_from_place, place_from_lookup}
 use Rattle.std.proofs.lemmas.Map.Keys.{IsDistinct-from_sorted}
 use Rattle.elasticlunr_text.specs.Text.{Text, Bytes, text_of, texts_of}
-use Rattle.elasticlunr_store.specs.Table.{Table, knows, posting, IsPrefix, AddsToken}
+use Rattle.elasticlunr_trie.specs.Table.{Table, knows, posting, IsPrefix, AddsToken}
 use Rattle.elasticlunr.specs.Root.{IsRoot}
 use Rattle.elasticlunr.specs.Standing.{IsPosting}
 use Rattle.elasticlunr.specs.Entered.{BeginsOne, ReplacesPostings}

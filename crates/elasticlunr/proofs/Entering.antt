@@ -9,7 +9,7 @@ use Rattle.std.proofs.lemmas.Map.Text.{is_eq-slice_cmp}
 use Rattle.std.proofs.lemmas.Option.{slice_get_past}
 use Rattle.std.specs.Option.{is_some}
 use Rattle.elasticlunr_text.specs.Text.{Text, Bytes, text_cmp}
-use Rattle.elasticlunr_store.specs.Table.{Table, posting}
+use Rattle.elasticlunr_trie.specs.Table.{Table, posting}
 use Rattle.elasticlunr_store.specs.Contents.{Contents, TextMap, IsConsistent, length_at, with_document, with_length, without}
 use Rattle.elasticlunr.specs.Fields.{has_name, all_differ}
 use Rattle.elasticlunr.specs.History.{Given, Document, add, Commands, ◌▸◌}

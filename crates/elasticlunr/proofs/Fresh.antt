@@ -2,7 +2,7 @@
 use Rattle.std.proofs.Common.{◌≡◌, ◌↔◌, ◌⊎◌, inl, inr, List, Bool, true, false, cond, Option, None, Some, bytes_eq, refl, sym, ap, ◌∙◌}
 use Rattle.std.proofs.lemmas.Slice.Eq.{bytes_eq-Decides}
 use Rattle.elasticlunr_text.specs.Text.{Bytes}
-use Rattle.elasticlunr_store.specs.Table.{Table}
+use Rattle.elasticlunr_trie.specs.Table.{Table}
 use Rattle.elasticlunr_store.specs.Contents.{Contents}
 use Rattle.elasticlunr.specs.History.{Document, add, remove, compact, Commands, none, ◌▸◌, now, EndsCompacted, AddsEachOnce, IsFresh}
 use Rattle.elasticlunr.specs.Standing.{Plan, Counts, Holds}

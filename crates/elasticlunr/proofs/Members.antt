@@ -5,9 +5,9 @@ use Rattle.std.specs.Ordering.{match_ordering, ordering_reverse}
 use Rattle.elasticlunr_text.specs.Text.{Bytes, text_cmp}
 use Rattle.serde_json.specs.Data.{Data, Members, no_members, member, put}
 use Rattle.serde_json.specs.Find.{get_member}
-use Rattle.elasticlunr_store.specs.Tree.{IsBelow, HasKeysInOrder}
-use Rattle.elasticlunr_store.proofs.OneValue.{further}
-use Rattle.elasticlunr_store.proofs.Printed.{get_here}
+use Rattle.elasticlunr_trie.specs.Tree.{IsBelow, HasKeysInOrder}
+use Rattle.elasticlunr_trie.proofs.OneValue.{further}
+use Rattle.elasticlunr_trie.proofs.Printed.{get_here}
 
 pub turned : (k l : Bytes) → text_cmp k l ≡ Less → text_cmp l k ≡ Greater
 turned k l e = nat_list_cmp_total.antisymm l k ∙ ap ordering_reverse e

@@ -5,8 +5,8 @@ use Rattle.std.specs.Ordering.{match_ordering, is_lt}
 use Rattle.std.specs.FinMap as map
 use Rattle.std.specs.FinMap.Entries.{below_all, is_sorted}
 use Rattle.elasticlunr_text.specs.Text.{Bytes, text_cmp}
-use Rattle.elasticlunr_store.specs.Maps.{members, keyed}
-use Rattle.elasticlunr_store.specs.Tree.{IsBelow, HasKeysInOrder}
+use Rattle.elasticlunr_json.specs.Maps.{members, keyed}
+use Rattle.elasticlunr_trie.specs.Tree.{IsBelow, HasKeysInOrder}
 use Rattle.serde_json.specs.Data.{Num, unsigned, negative, float, Data, null, boolean, number, string, array, object, Items, no_items, item, Members, no_members, member, put}
 use Rattle.serde_json.specs.Written.{has_float, items_have_float, members_have_float}
 use Rattle.elasticlunr.specs.Printed.{members_after, object_of}

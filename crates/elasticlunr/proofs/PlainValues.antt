@@ -3,10 +3,10 @@ use Rattle.std.proofs.Common.{◌≡◌, inl, inr, List, [], ◌∷◌, ◌++◌
 use Rattle.std.specs.List.{zip}
 use Rattle.std.specs.FinMap as map
 use Rattle.elasticlunr_text.specs.Text.{Text, Bytes}
-use Rattle.elasticlunr_store.specs.Table.{Table, Postings, postings}
-use Rattle.elasticlunr_store.specs.Tree.{IsTree, AreParts, IsTrieValue, frequency, frequencies}
+use Rattle.elasticlunr_trie.specs.Table.{Table, Postings, postings}
+use Rattle.elasticlunr_trie.specs.Tree.{IsTree, AreParts, IsTrieValue, frequency, frequencies}
 use Rattle.elasticlunr_store.specs.Contents.{Contents, store_value}
-use Rattle.elasticlunr_store.specs.Maps.{keyed, count}
+use Rattle.elasticlunr_json.specs.Maps.{keyed, count}
 use Rattle.serde_json.specs.Data.{Data, null, boolean, number, string, array, object, unsigned, Members, no_members, member}
 use Rattle.serde_json.specs.Find.{get_member}
 use Rattle.elasticlunr.specs.Standing.{Plan}

@@ -11,9 +11,9 @@ use Rattle.json.specs.Tree.{json_tokens, items_tokens, members_tokens}
 use Rattle.json.proofs.Printed.Trees.{value-json_tokens}
 use Rattle.elasticlunr_text.specs.Text.{Bytes, text_cmp}
 use Rattle.elasticlunr_store.specs.Contents.{Contents}
-use Rattle.elasticlunr_store.specs.Table.{Table}
-use Rattle.elasticlunr_store.specs.Tokens.{IsSmallToken}
-use Rattle.elasticlunr_store.specs.Tree.{IsBelow, HasKeysInOrder}
+use Rattle.elasticlunr_trie.specs.Table.{Table}
+use Rattle.elasticlunr_json.specs.Tokens.{IsSmallToken}
+use Rattle.elasticlunr_trie.specs.Tree.{IsBelow, HasKeysInOrder}
 use Rattle.serde_json.specs.Data.{Data, null, boolean, number, string, array, object, unsigned, negative, float, Items, no_items, item, Members, no_members, member, put, depth, items_depth, members_depth}
 use Rattle.serde_json.specs.Read.{number_of, of_json, of_items, of_members, max_depth}
 use Rattle.serde_json.specs.Written.{outline, items_outline, members_outline}

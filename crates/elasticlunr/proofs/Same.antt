@@ -6,7 +6,7 @@ use Rattle.std.specs.Option.{option_map_or}
 use Rattle.std.specs.FinMap as map
 use Rattle.std.specs.Cmp.Lexicographic.{nat_list_cmp_total}
 use Rattle.elasticlunr_text.specs.Text.{Text, Bytes, text_cmp}
-use Rattle.elasticlunr_store.specs.Table.{Table, posting}
+use Rattle.elasticlunr_trie.specs.Table.{Table, posting}
 use Rattle.elasticlunr_store.specs.Contents.{Contents, LengthMap}
 use Rattle.elasticlunr.specs.Root.{IsRoot}
 use Rattle.elasticlunr.specs.History.{Commands, now}

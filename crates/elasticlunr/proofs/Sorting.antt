@@ -9,16 +9,16 @@ use Rattle.std.specs.Map.{keys_of, lookup}
 use Rattle.std.specs.BTreeMap.{is_at}
 use Rattle.std.specs.Ordering.{match_ordering, is_eq}
 use Rattle.elasticlunr_text.specs.Text.{Bytes, text_cmp}
-use Rattle.elasticlunr_store.specs.Table.{Table, IsTable}
-use Rattle.elasticlunr_store.specs.Tree.{IsTrieValue, IsBelow, HasKeysInOrder}
+use Rattle.elasticlunr_trie.specs.Table.{Table, IsTable}
+use Rattle.elasticlunr_trie.specs.Tree.{IsTrieValue, IsBelow, HasKeysInOrder}
 use Rattle.serde_json.specs.Data.{Data, Members, no_members, member, put}
 use Rattle.serde_json.specs.Find.{get_member}
 use Rattle.serde_json.proofs.Views.{get_member-put, get_member-put_other}
 use Rattle.elasticlunr.specs.Fields.{has_name, all_differ}
 use Rattle.elasticlunr.specs.Printed.{members_after, AreTrieValues, no_tries, trie}
 use Rattle.elasticlunr.specs.Sorted.{last_under, AreMembersOf}
-use Rattle.elasticlunr_store.proofs.Forest.{same_or_not}
-use Rattle.elasticlunr_store.proofs.OneValue.{same_by_get}
+use Rattle.elasticlunr_json.proofs.Texts.{same_or_not}
+use Rattle.elasticlunr_trie.proofs.OneValue.{same_by_get}
 use Rattle.elasticlunr.proofs.Members.{order_put}
 
 abbrev pub Entries : Type 0

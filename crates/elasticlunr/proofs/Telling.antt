@@ -4,8 +4,8 @@ use Rattle.std.proofs.lemmas.Slice.Eq.{bytes_eq-Decides}
 use Rattle.std.specs.Prelude.{All}
 use Rattle.std.specs.List.{zip}
 use Rattle.elasticlunr_text.specs.Text.{Bytes}
-use Rattle.elasticlunr_store.specs.Table.{Table, IsTable}
-use Rattle.elasticlunr_store.specs.Tree.{IsTrieValue}
+use Rattle.elasticlunr_trie.specs.Table.{Table, IsTable}
+use Rattle.elasticlunr_trie.specs.Tree.{IsTrieValue}
 use Rattle.elasticlunr_store.specs.Contents.{Contents, IsStoreValue}
 use Rattle.serde_json.specs.Data.{Data, string, array, object, Items, Members, no_members, member, put}
 use Rattle.serde_json.specs.Find.{get_member}

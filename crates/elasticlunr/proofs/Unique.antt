@@ -3,8 +3,8 @@ use Rattle.std.proofs.Common.{◌≡◌, ℕ, zero, suc, List, [], ◌∷◌, le
 use Rattle.std.specs.List.{slice_get}
 use Rattle.std.specs.FinMap as map
 use Rattle.elasticlunr_text.specs.Text.{Text}
-use Rattle.elasticlunr_store.specs.Table.{Table, Postings}
-use Rattle.elasticlunr_store.specs.Tree.{IsTrieValue}
+use Rattle.elasticlunr_trie.specs.Table.{Table, Postings}
+use Rattle.elasticlunr_trie.specs.Tree.{IsTrieValue}
 use Rattle.elasticlunr_store.specs.Contents.{Contents}
 use Rattle.serde_json.specs.Data.{Data}
 use Rattle.elasticlunr.specs.History.{Commands, Agree}

@@ -16,12 +16,12 @@ use Rattle.serde_json.specs.Find.{get_member}
 use Rattle.serde_json.proofs.Views.{get_member-put, get_member-put_other}
 use Rattle.elasticlunr_text.specs.Text.{Text, Bytes, text_cmp}
 use Rattle.elasticlunr_store.specs.Contents.{Contents, TextMap, LengthMap, store_value, store_object}
-use Rattle.elasticlunr_store.specs.Maps.{members, keyed, count}
-use Rattle.elasticlunr_store.specs.Table.{Table, knows, postings, posting, IsPrefix}
-use Rattle.elasticlunr_store.specs.Tree.{frequencies, IsTree, AreParts, HasKeysInOrder, IsTrieValue}
-use Rattle.elasticlunr_store.proofs.Finishing.{letters_same, not_letter}
-use Rattle.elasticlunr_store.proofs.Tables.{text_tie}
-use Rattle.elasticlunr_store.proofs.Printed.{get_other}
+use Rattle.elasticlunr_json.specs.Maps.{members, keyed, count}
+use Rattle.elasticlunr_trie.specs.Table.{Table, knows, postings, posting, IsPrefix}
+use Rattle.elasticlunr_trie.specs.Tree.{frequencies, IsTree, AreParts, HasKeysInOrder, IsTrieValue}
+use Rattle.elasticlunr_trie.proofs.Finishing.{letters_same, not_letter}
+use Rattle.elasticlunr_json.proofs.Texts.{text_tie}
+use Rattle.elasticlunr_trie.proofs.Printed.{get_other}
 use Rattle.elasticlunr.specs.History.{Given, Document, Command, add, remove, compact, Commands, none, ◌▸◌}
 use Rattle.elasticlunr.specs.Calls.{adding, followed_by, IsCommandOf}
 use Rattle.elasticlunr.specs.Current.{IsPrintedAfter}

@@ -4,7 +4,7 @@ use Rattle.std.specs.BTreeMap.{BTreeMap, get_by_text}
 use Rattle.std.specs.Str.{bytes_eq}
 use Rattle.std.specs.declared.alloc.Global.{Global}
 use Rattle.elasticlunr_text.specs.Text.{Text, Bytes, text_of}
-use Rattle.elasticlunr_store.specs.Table.{Table, knows, posting, IsPrefix}
+use Rattle.elasticlunr_trie.specs.Table.{Table, knows, posting, IsPrefix}
 use Rattle.elasticlunr.specs.Root.{IsRoot}
 
 -- it stands in the list

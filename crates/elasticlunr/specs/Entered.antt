@@ -4,7 +4,7 @@ use Rattle.std.specs.Option.{option_map_or}
 use Rattle.std.specs.Str.{bytes_eq}
 use Rattle.std.specs.FinMap as map
 use Rattle.elasticlunr_text.specs.Text.{Text, Bytes}
-use Rattle.elasticlunr_store.specs.Table.{Table, knows, posting, IsPrefix}
+use Rattle.elasticlunr_trie.specs.Table.{Table, knows, posting, IsPrefix}
 use Rattle.elasticlunr_store.specs.Contents.{Contents, IsConsistent, length_at}
 use Rattle.elasticlunr.specs.Fields.{all_differ}
 use Rattle.elasticlunr.specs.History.{Document, Commands, ◌▸◌, add}

@@ -2,8 +2,8 @@
 use Rattle.std.specs.Prelude.{◌≡◌, List, Some, IsSomeAnd, codes}
 use Rattle.std.specs.List.{AllZip}
 use Rattle.elasticlunr_text.specs.Text.{Bytes}
-use Rattle.elasticlunr_store.specs.Table.{Table, IsTable}
-use Rattle.elasticlunr_store.specs.Tree.{IsTrieValue}
+use Rattle.elasticlunr_trie.specs.Table.{Table, IsTable}
+use Rattle.elasticlunr_trie.specs.Tree.{IsTrieValue}
 use Rattle.elasticlunr_store.specs.Contents.{Contents, IsStoreValue}
 use Rattle.serde_json.specs.Data.{Data, string, array}
 use Rattle.serde_json.specs.Find.{get}

@@ -9,8 +9,8 @@ use Rattle.json.specs.Tree.{json_tokens}
 use Rattle.serde_json.specs.Data.{object, Members, no_members, member}
 use Rattle.serde_json.specs.Written.{outline}
 use Rattle.elasticlunr_text.specs.Text.{Bytes, text_cmp}
-use Rattle.elasticlunr_store.specs.Table.{Table, IsTable}
-use Rattle.elasticlunr_store.specs.Tree.{IsTrieValue}
+use Rattle.elasticlunr_trie.specs.Table.{Table, IsTable}
+use Rattle.elasticlunr_trie.specs.Tree.{IsTrieValue}
 
 -- the last table under the name in these pairs, and else the one that is given
 abbrev pub last_under : Bytes → Option Table → List (Bytes × Table) → Option Table

@@ -5,7 +5,7 @@ use Rattle.std.specs.List.{zip}
 use Rattle.std.specs.Str.{bytes_eq}
 use Rattle.std.specs.FinMap as map
 use Rattle.elasticlunr_text.specs.Text.{Text, Bytes}
-use Rattle.elasticlunr_store.specs.Table.{Table, knows, posting, IsPrefix}
+use Rattle.elasticlunr_trie.specs.Table.{Table, knows, posting, IsPrefix}
 use Rattle.elasticlunr_store.specs.Contents.{Contents, TextMap, IsConsistent, length_at}
 use Rattle.elasticlunr.specs.Root.{IsRoot}
 use Rattle.elasticlunr.specs.History.{Given, Document, add, remove, compact, Commands, none, ◌▸◌, now}

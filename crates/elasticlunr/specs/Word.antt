@@ -4,8 +4,8 @@ use Rattle.std.specs.FinMap.{put as put_entry}
 use Rattle.serde_json.specs.Data.{Data, number, string, object, unsigned, no_members, member, put}
 use Rattle.elasticlunr_text.specs.Text.{Text, Bytes, text_cmp}
 use Rattle.elasticlunr_store.specs.Contents.{store_object}
-use Rattle.elasticlunr_store.specs.Maps.{members, count}
-use Rattle.elasticlunr_store.specs.Tree.{frequencies}
+use Rattle.elasticlunr_json.specs.Maps.{members, count}
+use Rattle.elasticlunr_trie.specs.Tree.{frequencies}
 use Rattle.elasticlunr_lang.specs.declared.any.AnyLanguage.{AnyLanguage}
 use Rattle.elasticlunr.specs.Calls.{adding}
 use Rattle.elasticlunr.specs.Kept.{IsKeptPrint}

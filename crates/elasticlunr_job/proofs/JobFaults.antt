@@ -4,7 +4,7 @@ use Rattle.std.proofs.lemmas.Bool.{cases_lt}
 use Rattle.std.proofs.lemmas.List.{map-append, map_more, take-map, take_all}
 use Rattle.std.proofs.lemmas.Option.{slice_get-map, slice_get-get_or}
 use Rattle.std.specs.List.{slice_get}
-use Rattle.elasticlunr_store.proofs.ReadingMaps.{array_of}
+use Rattle.elasticlunr_json.proofs.ReadingMaps.{array_of}
 use Rattle.serde_json.specs.Data.{Data, null, boolean, number, string, array, object, no_items}
 use Rattle.serde_json.specs.Find.{as_array, as_bool, as_object, as_str, get}
 use Rattle.serde_json.specs.View.{view, items_of, items_view}

@@ -2,7 +2,7 @@
 use Rattle.std.proofs.Common.{◌≡◌, ◌≢◌, ◌<◌, ◌≤◌, ℕ, zero, suc, List, [], ◌∷◌, length, map, take, get_or, Any, Bor, Option, Some, None, IfSome, IsSomeAnd, unwrap_or, refl, sym, ap, subst, ◌∙◌, ◌==◌, false, true≢false, arith}
 use Rattle.std.specs.List.{remove}
 use Rattle.std.proofs.lemmas.List.{take_all, length-map, get_or-map}
-use Rattle.elasticlunr_store.proofs.ReadingMaps.{array_of}
+use Rattle.elasticlunr_json.proofs.ReadingMaps.{array_of}
 use Rattle.serde_json.specs.Data.{Data, string, array, Items, no_items, item}
 use Rattle.serde_json.specs.Find.{as_array}
 use Rattle.serde_json.specs.View.{view, items_of, items_view}

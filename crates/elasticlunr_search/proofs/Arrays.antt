@@ -6,8 +6,8 @@ use Rattle.serde_json.specs.Find.{as_array, as_str}
 use Rattle.serde_json.specs.View.{view, items_view}
 use Rattle.serde_json.specs.declared.value.Value.{Value}
 use Rattle.elasticlunr_text.specs.Text.{Bytes, bytes_of}
-use Rattle.elasticlunr_store.proofs.Keys.{bytes_behind}
-use Rattle.elasticlunr_store.proofs.ReadingMaps.{array_of, string_of}
+use Rattle.elasticlunr_trie.proofs.Keys.{bytes_behind}
+use Rattle.elasticlunr_json.proofs.ReadingMaps.{array_of, string_of}
 use Rattle.elasticlunr.specs.Printed.{texts}
 use Rattle.elasticlunr.proofs.Values.{texts_push}
 

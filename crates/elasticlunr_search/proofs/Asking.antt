@@ -4,7 +4,7 @@ use Rattle.std.specs.Prelude.{IsSome}
 use Rattle.std.specs.List.{filter}
 use Rattle.elasticlunr_text.specs.Text.{Text, Bytes, text_of, texts_of, is_not_empty}
 use Rattle.elasticlunr_text.proofs.TextLemmas.{is_not_empty-text_of}
-use Rattle.elasticlunr_store.specs.Table.{Table, posting}
+use Rattle.elasticlunr_trie.specs.Table.{Table, posting}
 use Rattle.elasticlunr.specs.Found.{Matches, FindsAny, FindsAll}
 use Rattle.elasticlunr.specs.History.{Commands}
 use Rattle.elasticlunr.specs.Standing.{IsTableOf}

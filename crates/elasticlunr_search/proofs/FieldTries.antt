@@ -4,7 +4,7 @@ use Rattle.std.specs.Prelude.{IsSomeAnd}
 use Rattle.std.specs.List.{AllZip}
 use Rattle.std.proofs.lemmas.List.{take_all, take_more, map-append}
 use Rattle.elasticlunr_text.specs.Text.{Bytes, bytes_of}
-use Rattle.elasticlunr_store.specs.Table.{Table}
+use Rattle.elasticlunr_trie.specs.Table.{Table}
 use Rattle.serde_json.specs.Data.{Data}
 use Rattle.serde_json.specs.Find.{get}
 use Rattle.elasticlunr.specs.Shape.{HasTrie, HasTries}

@@ -4,7 +4,7 @@ use Rattle.std.proofs.lemmas.Slice.Eq.{bytes_eq-Decides}
 use Rattle.serde_json.specs.Data.{Data, string}
 use Rattle.serde_json.specs.Find.{get, as_str}
 use Rattle.elasticlunr_text.specs.Text.{Bytes}
-use Rattle.elasticlunr_store.proofs.ReadingMaps.{no_string, string_of}
+use Rattle.elasticlunr_json.proofs.ReadingMaps.{no_string, string_of}
 use Rattle.elasticlunr_search.specs.Refusal.{NamesOther}
 
 -- a value without a language, or without a text there, names no other

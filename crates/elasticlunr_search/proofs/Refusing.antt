@@ -5,7 +5,7 @@ use Rattle.serde_json.specs.Data.{Data, depth}
 use Rattle.serde_json.specs.Read.{read, max_depth}
 use Rattle.elasticlunr_text.specs.Text.{Bytes}
 use Rattle.elasticlunr_store.specs.Contents.{Contents, IsConsistent}
-use Rattle.elasticlunr_store.specs.Table.{Table}
+use Rattle.elasticlunr_trie.specs.Table.{Table}
 use Rattle.elasticlunr.specs.History.{Commands}
 use Rattle.elasticlunr.specs.Printed.{IsPrintOf}
 use Rattle.elasticlunr.specs.Shape.{HasLanguage, HasParts}

@@ -10,8 +10,8 @@ use Rattle.std.proofs.lemmas.List.Sums.{AllPass-from_list_all, list_all-from_All
 use Rattle.std.proofs.lemmas.Map.Views.{Contains-from_any, list_any-from_Contains}
 use Rattle.std.proofs.lemmas.Slice.Eq.{bytes_eq-Decides}
 use Rattle.elasticlunr_text.specs.Text.{Text, Bytes, text_cmp, is_listed}
-use Rattle.elasticlunr_store.specs.Table.{Table, posting}
-use Rattle.elasticlunr_store.proofs.Keys.{no_keys_sorted}
+use Rattle.elasticlunr_trie.specs.Table.{Table, posting}
+use Rattle.elasticlunr_trie.proofs.Keys.{no_keys_sorted}
 use Rattle.elasticlunr.specs.Found.{AreThose}
 use Rattle.elasticlunr_search.specs.Tries.{HaveAny, HaveAll}
 

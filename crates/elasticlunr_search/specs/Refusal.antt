@@ -1,7 +1,7 @@
 -- Why a text is refused.
 use Rattle.std.specs.Prelude.{◌≡◌, ◌≢◌, ◌<◌, ◌⊎◌, ℕ, List, Some, None}
 use Rattle.elasticlunr_text.specs.Text.{Bytes}
-use Rattle.elasticlunr_store.specs.Table.{Table}
+use Rattle.elasticlunr_trie.specs.Table.{Table}
 use Rattle.elasticlunr_store.specs.Contents.{Contents, IsConsistent}
 use Rattle.elasticlunr.specs.History.{Commands}
 use Rattle.elasticlunr.specs.Printed.{IsPrintOf}

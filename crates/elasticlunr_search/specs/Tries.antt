@@ -1,7 +1,7 @@
 -- What a search of one trie answers.
 use Rattle.std.specs.Prelude.{◌≢◌, List, [], IsSome, Contains}
 use Rattle.elasticlunr_text.specs.Text.{Text, Bytes}
-use Rattle.elasticlunr_store.specs.Table.{Table, posting}
+use Rattle.elasticlunr_trie.specs.Table.{Table, posting}
 use Rattle.elasticlunr.specs.Found.{AreThose}
 
 -- the references that have a posting at one of the tokens

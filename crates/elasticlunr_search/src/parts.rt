@@ -1,7 +1,7 @@
 //! The parts of a printed index, out of its value.
 ghost use Rattle.std.specs.Prelude.{◌≡◌, ◌≢◌, ◌↔◌, List, IsTrue, Some, None, IfOk, IfErr};
 ghost use Rattle.elasticlunr_text.specs.Text.{Bytes, bytes_of};
-ghost use Rattle.elasticlunr_store.specs.Table.{Table};
+ghost use Rattle.elasticlunr_trie.specs.Table.{Table};
 ghost use Rattle.elasticlunr_store.specs.Contents.{Contents, IsConsistent};
 ghost use Rattle.elasticlunr.specs.Printed.{texts};
 ghost use Rattle.elasticlunr.specs.Shape.{HasFields, HasTrie, HasTries, HasStore};
@@ -12,8 +12,9 @@ ghost use Rattle.serde_json.specs.Read.{read};
 ghost use Rattle.serde_json.specs.View.{view};
 
 use crate::error::SearchError;
-use elasticlunr_store::{DocumentStore, InvertedIndex};
+use elasticlunr_store::DocumentStore;
 use elasticlunr_text::IndexError;
+use elasticlunr_trie::InvertedIndex;
 use serde_json::Value;
 use std::alloc::Global;
 

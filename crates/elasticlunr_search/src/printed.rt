@@ -8,7 +8,8 @@ ghost use Rattle.serde_json.specs.View.{view};
 use crate::error::SearchError;
 use crate::parts::{fields_of, store_of, tries_of};
 use elasticlunr::laws::values::a_value_has_its_parts_once;
-use elasticlunr_store::{DocumentStore, InvertedIndex};
+use elasticlunr_store::DocumentStore;
+use elasticlunr_trie::InvertedIndex;
 use serde_json::Value;
 use std::alloc::Global;
 

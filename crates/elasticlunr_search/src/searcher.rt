@@ -25,8 +25,8 @@ use elasticlunr::laws::found::{documents_have_the_tokens_of_their_values, postin
 use elasticlunr::laws::reading::a_language_reads_what_its_pipeline_leaves;
 use elasticlunr::laws::values::{a_value_has_its_parts_once, printed_texts_have_their_parts};
 use elasticlunr_lang::Language;
-use elasticlunr_store::InvertedIndex;
 use elasticlunr_text::pipeline::Pipeline;
+use elasticlunr_trie::InvertedIndex;
 use serde_json::Value;
 use std::alloc::{AllocError, Global};
 use std::collections::BTreeMap;

@@ -3,10 +3,10 @@ ghost use Rattle.std.specs.Prelude.{◌≡◌, IfOk, is_some};
 ghost use Rattle.std.specs.List.Sorted.{IsStrictlySortedBy};
 ghost use Rattle.std.specs.Str.{chars};
 ghost use Rattle.elasticlunr_text.specs.Text.{Bytes, texts_of, bytes_of, text_cmp, is_listed};
-ghost use Rattle.elasticlunr_store.specs.Table.{posting};
+ghost use Rattle.elasticlunr_trie.specs.Table.{posting};
 ghost use Rattle.elasticlunr_search.specs.Tries.{HaveAny, HaveAll};
 
-use elasticlunr_store::InvertedIndex;
+use elasticlunr_trie::InvertedIndex;
 use std::alloc::{AllocError, Global};
 use std::collections::BTreeSet;
 

@@ -5,8 +5,8 @@ ghost use Rattle.elasticlunr_text.specs.declared.error.IndexError.TheVariants.{M
 ghost use Rattle.elasticlunr.specs.Counted.{AreCounts, counted_texts, Posts};
 
 use crate::rooted::root;
-use elasticlunr_store::InvertedIndex;
 use elasticlunr_text::IndexError;
+use elasticlunr_trie::InvertedIndex;
 use std::alloc::Global;
 use std::collections::BTreeMap;
 

@@ -1,7 +1,7 @@
 //! Laws of removals and compactions: they leave what a new index with the current documents has.
 ghost use Rattle.std.specs.Prelude.{◌≡◌, ◌↔◌, ℕ, List, None, Some, slice_get};
 ghost use Rattle.elasticlunr_text.specs.Text.{Text, Bytes};
-ghost use Rattle.elasticlunr_store.specs.Table.{Table, posting};
+ghost use Rattle.elasticlunr_trie.specs.Table.{Table, posting};
 ghost use Rattle.elasticlunr_store.specs.Contents.{Contents};
 ghost use Rattle.elasticlunr.specs.History.{Commands, ◌▸◌, remove, now, EndsCompacted, IsFresh};
 ghost use Rattle.elasticlunr.specs.Standing.{Plan, Holds};

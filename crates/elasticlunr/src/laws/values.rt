@@ -2,9 +2,9 @@
 ghost use Rattle.std.specs.Prelude.{◌≡◌, ℕ, List, false, length, IsTrue, IsSomeAnd, Some, codes};
 ghost use Rattle.std.specs.List.{AllZip};
 ghost use Rattle.elasticlunr_text.specs.Text.{Bytes};
-ghost use Rattle.elasticlunr_store.specs.Table.{Table};
+ghost use Rattle.elasticlunr_trie.specs.Table.{Table};
 ghost use Rattle.elasticlunr_store.specs.Contents.{Contents, store_value};
-ghost use Rattle.elasticlunr_store.specs.Tree.{IsTrieValue};
+ghost use Rattle.elasticlunr_trie.specs.Tree.{IsTrieValue};
 ghost use Rattle.elasticlunr.specs.Fields.{all_differ};
 ghost use Rattle.elasticlunr.specs.History.{Commands, Agree};
 ghost use Rattle.elasticlunr.specs.Standing.{Plan};
@@ -15,7 +15,8 @@ ghost use Rattle.serde_json.specs.Find.{get};
 ghost use Rattle.serde_json.specs.Read.{read};
 ghost use Rattle.serde_json.specs.Written.{has_float};
 
-use elasticlunr_store::laws::{one_contents_a_value, one_table_a_value, one_value_a_table};
+use elasticlunr_store::laws::one_contents_a_value;
+use elasticlunr_trie::laws::{one_table_a_value, one_value_a_table};
 
 /// The value of settings and commands is one.
 pub fn settings_and_commands_have_one_value()

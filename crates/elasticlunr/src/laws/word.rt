@@ -5,7 +5,7 @@ ghost use Rattle.elasticlunr_lang.specs.declared.any.AnyLanguage.{AnyLanguage};
 ghost use Rattle.elasticlunr.specs.Kept.{ReadsOneToken};
 ghost use Rattle.elasticlunr.specs.Word.{one_field_plan, PrintsPath};
 
-use elasticlunr_store::laws::one_value_a_table;
+use elasticlunr_trie::laws::one_value_a_table;
 
 /// An index of one document, in whose one field the language reads one token, prints this value:
 /// a path of the token's characters, and at its end the root of 1 for the reference.

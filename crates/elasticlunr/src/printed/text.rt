@@ -7,7 +7,7 @@ ghost use Rattle.serde_json.specs.Written.{compact_text};
 
 use super::Parts;
 use super::write::write_index;
-use elasticlunr_store::{CompactText, PrettyText};
+use elasticlunr_json::{CompactText, PrettyText};
 use elasticlunr_text::IndexError;
 use std::alloc::Global;
 

@@ -1,7 +1,7 @@
 //! The JSON value of an index.
 ghost use Rattle.std.specs.Prelude.{◌≡◌, List, false, map, length, string_bytes, IfOk, OnOk, IsOkUnless};
 ghost use Rattle.std.specs.List.{zip, All};
-ghost use Rattle.elasticlunr_store.specs.Table.{IsTable};
+ghost use Rattle.elasticlunr_trie.specs.Table.{IsTable};
 ghost use Rattle.elasticlunr_text.specs.declared.error.IndexError.TheVariants.{Memory};
 ghost use Rattle.elasticlunr.specs.Printed.{texts, object_of, AreTrieValues};
 ghost use Rattle.elasticlunr.specs.Parts.{IsPrinted};
@@ -10,8 +10,9 @@ ghost use Rattle.serde_json.specs.View.{view};
 ghost use Rattle.serde_json.specs.Written.{has_float};
 
 use super::{ELASTICLUNR_VERSION, Parts};
-use elasticlunr_store::{InvertedIndex, put_member};
+use elasticlunr_json::put_member;
 use elasticlunr_text::IndexError;
+use elasticlunr_trie::InvertedIndex;
 use serde_json::{Map, Value};
 use std::alloc::{AllocError, Global};
 

@@ -3,13 +3,14 @@ ghost use Rattle.std.specs.Prelude.{◌≡◌, ◌++◌, map, length, string_byt
 ghost use Rattle.json.specs.Tree.{members_tokens};
 ghost use Rattle.serde_json.specs.Data.{Data, array};
 ghost use Rattle.serde_json.specs.Written.{members_outline};
-ghost use Rattle.elasticlunr_store.specs.Tokens.{WritesValue};
+ghost use Rattle.elasticlunr_json.specs.Tokens.{WritesValue};
 ghost use Rattle.elasticlunr.specs.Printed.{texts};
 ghost use Rattle.elasticlunr.specs.Parts.{IsPrinted, plan_of_parts, settings_members};
 ghost use Rattle.elasticlunr.specs.Sorted.{IsByName, WritesTries};
 
 use super::{ELASTICLUNR_VERSION, Parts};
-use elasticlunr_store::{InvertedIndex, Token, Tokens};
+use elasticlunr_json::{Token, Tokens};
+use elasticlunr_trie::InvertedIndex;
 use std::alloc::{AllocError, Global};
 use std::collections::BTreeMap;
 

@@ -1,6 +1,6 @@
 use Rattle.std.proofs.Common.{inr, refl, arith}
 use Rattle.elasticlunr_text.specs.Text.{bytes_of}
-use Rattle.elasticlunr_store.proofs.ReadingMaps.{no_string}
+use Rattle.elasticlunr_json.proofs.ReadingMaps.{no_string}
 use Rattle.elasticlunr_search.proofs.Arrays.{all_names, not_all_names, next_name}
 use Rattle.elasticlunr_search.proofs.parts.names_of.Goals as goal
 

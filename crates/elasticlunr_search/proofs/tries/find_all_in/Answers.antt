@@ -4,7 +4,7 @@ use Rattle.std.proofs.lemmas.List.Kept.{IsStrictlySortedBy-filter}
 use Rattle.std.specs.List.Sorted.{IsStrictlySortedBy}
 use Rattle.std.specs.Str.{chars}
 use Rattle.elasticlunr_text.specs.Text.{Bytes, bytes_of, text_of, text_cmp, texts_of, is_listed}
-use Rattle.elasticlunr_store.specs.Table.{posting}
+use Rattle.elasticlunr_trie.specs.Table.{posting}
 use Rattle.elasticlunr_search.specs.Tries.{HaveAll}
 use Rattle.elasticlunr_search.proofs.Steps.{step_all, all_taken, no_strings, map-filter, kept_listed}
 use Rattle.elasticlunr_search.proofs.Those.{have_all, have_none}

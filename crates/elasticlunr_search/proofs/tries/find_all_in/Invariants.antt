@@ -2,7 +2,7 @@ use Rattle.std.proofs.Common.{◌≡◌, suc, is_some, take}
 use Rattle.std.specs.List.{list_all}
 use Rattle.std.specs.List.Sorted.{IsStrictlySortedBy}
 use Rattle.elasticlunr_text.specs.Text.{Bytes, texts_of, bytes_of, text_cmp, is_listed}
-use Rattle.elasticlunr_store.specs.Table.{posting}
+use Rattle.elasticlunr_trie.specs.Table.{posting}
 use Rattle.elasticlunr_search.proofs.tries.find_all_in.Given as goal
 
 -- those that have a posting at each token so far, in order

@@ -6,8 +6,8 @@ use Rattle.std.proofs.lemmas.List.{length-map, take_all}
 use Rattle.std.proofs.lemmas.Result.{IfOk-at_ok}
 use Rattle.std.specs.List.{list_any}
 use Rattle.elasticlunr_text.specs.Text.{Bytes, bytes_of, text_of, texts_of, is_listed}
-use Rattle.elasticlunr_store.specs.Table.{posting}
-use Rattle.elasticlunr_store.proofs.Keys.{keys_sorted}
+use Rattle.elasticlunr_trie.specs.Table.{posting}
+use Rattle.elasticlunr_trie.proofs.Keys.{keys_sorted}
 use Rattle.elasticlunr_search.specs.Tries.{HaveAny}
 use Rattle.elasticlunr_search.proofs.Sets.{union_with}
 use Rattle.elasticlunr_search.proofs.Steps.{step_any}

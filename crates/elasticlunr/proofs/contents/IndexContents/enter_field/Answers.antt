@@ -4,7 +4,7 @@ use Rattle.std.specs.List.{slice_get}
 use Rattle.std.proofs.lemmas.Result.{on_ok_weaker}
 use Rattle.std.proofs.lemmas.Option.{slice_get_read}
 use Rattle.elasticlunr_text.specs.Text.{Text}
-use Rattle.elasticlunr_store.specs.Table.{Table, posting}
+use Rattle.elasticlunr_trie.specs.Table.{Table, posting}
 use Rattle.elasticlunr.specs.Entered.{ReplacesPostings}
 use Rattle.elasticlunr.specs.Texts.{texts_left}
 use Rattle.elasticlunr.proofs.Pairing.{set_elsewhere}

@@ -4,7 +4,7 @@ use Rattle.std.proofs.lemmas.List.{map-append}
 use Rattle.std.proofs.lemmas.Simd.{map-map}
 use Rattle.std.proofs.lemmas.Iterator.Consumers.{YieldsList-from_rest, YieldsList-end}
 use Rattle.elasticlunr_text.specs.Text.{text_of}
-use Rattle.elasticlunr_store.specs.Table.{AddsToken}
+use Rattle.elasticlunr_trie.specs.Table.{AddsToken}
 use Rattle.elasticlunr.specs.Counted.{Posts, counted_texts}
 use Rattle.elasticlunr.proofs.Counting.{posts_none, posts_more}
 use Rattle.elasticlunr.proofs.contents.counts.add_postings.Goals as goal

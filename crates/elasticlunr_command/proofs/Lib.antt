@@ -1,4 +1,3 @@
-pub mod Readings
 pub mod FieldKeys
 pub mod LineLemmas
 pub mod LinePlaces
@@ -8,5 +7,3 @@ pub mod Scripts
 pub mod Called
 pub mod IndexLemmas
 pub mod FirstFaults
-pub mod Members
-pub mod Depths

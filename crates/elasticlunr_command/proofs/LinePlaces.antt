@@ -14,7 +14,7 @@ use Rattle.elasticlunr_command.specs.Settled.{Settings}
 use Rattle.elasticlunr_command.specs.declared.form.Form.TheVariants as form
 use Rattle.elasticlunr_command.specs.declared.message.Trouble.{Trouble}
 use Rattle.elasticlunr_command.specs.declared.message.Trouble.TheVariants.{Refused, Memory}
-use Rattle.elasticlunr_command.specs.declared.place.Place.{Place}
+use Rattle.elasticlunr_place.specs.declared.place.Place.{Place}
 use Rattle.elasticlunr_command.proofs.LineLemmas.{Checked, first_among, first_options}
 
 some_for : (P Q : Place → Type 0) (o : Option Place) → ((place : Place) → P place → Q place) → IfSome o P → IfSome o Q

@@ -17,10 +17,10 @@ use Rattle.elasticlunr_job.specs.declared.objects.Problem.TheVariants as problem
 use Rattle.elasticlunr_job.specs.declared.outcome.Refusal.{Refusal}
 use Rattle.elasticlunr_job.specs.declared.outcome.Refusal.TheVariants.{UnknownLanguage, DuplicateField, TooManyValues}
 use Rattle.elasticlunr_command.specs.FirstFaults.{IsFirstTooLong, IsFirstTwice}
-use Rattle.elasticlunr_command.specs.Members.{Move, item, under, IsPlaceOf}
+use Rattle.elasticlunr_place.specs.Members.{Move, item, under, IsPlaceOf}
 use Rattle.elasticlunr_command.specs.declared.form.Form.{Form}
 use Rattle.elasticlunr_command.specs.declared.form.Form.TheVariants as form
-use Rattle.elasticlunr_command.specs.declared.place.Place.{Place}
+use Rattle.elasticlunr_place.specs.declared.place.Place.{Place}
 
 -- from a value that is no document to what is wrong in it
 abbrev pub document_fault_path : DocumentFault → List Move

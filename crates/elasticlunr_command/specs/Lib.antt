@@ -5,8 +5,6 @@ pub mod Script
 pub mod Fields
 pub mod Asked
 pub mod Lines
-pub mod Places
-pub mod Members
 pub mod Refused
 pub mod Forms
 pub mod Inputs

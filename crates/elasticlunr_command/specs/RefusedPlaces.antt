@@ -11,14 +11,14 @@ use Rattle.elasticlunr_command.specs.FaultPlaces.{IsPlaceInJob, IsPlaceInObjects
 use Rattle.elasticlunr_command.specs.Forms.{HasForm, IsNotJson}
 use Rattle.elasticlunr_job.specs.Lines.{AreLineValues, HasUnreadLine}
 use Rattle.elasticlunr_job.specs.Objects.{Options}
-use Rattle.elasticlunr_command.specs.Members.{IsPlaceOf}
-use Rattle.elasticlunr_command.specs.Places.{IsPlaceIn}
+use Rattle.elasticlunr_place.specs.Members.{IsPlaceOf}
+use Rattle.elasticlunr_place.specs.Places.{IsPlaceIn}
 use Rattle.elasticlunr_command.specs.Settled.{Settings, IsRefusedWith}
 use Rattle.elasticlunr_command.specs.declared.form.Form.{Form}
 use Rattle.elasticlunr_command.specs.declared.form.Form.TheVariants.{Job, Objects, Lines}
 use Rattle.elasticlunr_command.specs.declared.message.Trouble.{Trouble}
 use Rattle.elasticlunr_command.specs.declared.message.Trouble.TheVariants.{Refused, Memory}
-use Rattle.elasticlunr_command.specs.declared.place.Place.{Place}
+use Rattle.elasticlunr_place.specs.declared.place.Place.{Place}
 
 -- the place of a refusal is so, where its message has one
 abbrev pub IfPlaced : (Place → Type 0) → Trouble → Type 0

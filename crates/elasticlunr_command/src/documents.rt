@@ -10,13 +10,13 @@ ghost use Rattle.serde_json.specs.View.{view};
 
 use crate::form::{Form, is_blank};
 use crate::jobs::{duplicate_field, unknown_language};
-use crate::member::{Step, place_of};
 use crate::message::{Message, Trouble, kind_words, unplaced};
 use crate::notes::Notes;
-use crate::place::Place;
 use crate::tokens::Tokens;
 use elasticlunr_job::objects::{ObjectsError, Options, Problem, object_of, objects_line};
 use elasticlunr_job::outcome::Refusal;
+use elasticlunr_place::member::{Step, place_of};
+use elasticlunr_place::place::Place;
 use serde_json::Value;
 use std::alloc::{AllocError, Global};
 

@@ -5,7 +5,7 @@ ghost use Rattle.elasticlunr_job.specs.Lines.{is_filled, lines_of};
 ghost use Rattle.elasticlunr_text.specs.Text.{Bytes};
 ghost use Rattle.elasticlunr_command.specs.Forms.{HasForm, IsNotJson, begins_with_an_object, form_word, has, is_object_line, value_form};
 ghost use Rattle.elasticlunr_command.specs.Inputs.{IsInput, input_of};
-ghost use Rattle.elasticlunr_command.specs.Places.{IsPlaceIn};
+ghost use Rattle.elasticlunr_place.specs.Places.{IsPlaceIn};
 ghost use Rattle.elasticlunr_command.specs.Refused.{IsMemoryOr};
 ghost use Rattle.elasticlunr_command.specs.RefusedPlaces.{IfPlaced};
 ghost use Rattle.elasticlunr_command.specs.declared.form.Form.{Form};

@@ -2,14 +2,14 @@
 ghost use Rattle.std.specs.Prelude.{None, [], ◌∷◌, IfOk, IfSome};
 ghost use Rattle.elasticlunr_job.specs.JobKeys.{key_name};
 ghost use Rattle.elasticlunr_command.specs.FaultPlaces.{document_fault_path, fault_path};
-ghost use Rattle.elasticlunr_command.specs.Members.{item, under, IsPlaceOf};
+ghost use Rattle.elasticlunr_place.specs.Members.{item, under, IsPlaceOf};
 
-use crate::member::Step;
 use crate::message::{Message, message_at, unfit};
 use crate::nearest::nearest;
 use elasticlunr_job::fault::{DocumentFault, Fault, MemberFault};
 use elasticlunr_job::key::{Key, Wanted, job_keys};
 use elasticlunr_job::kind::Kind;
+use elasticlunr_place::member::Step;
 use serde_json::Value;
 use std::alloc::{AllocError, Global};
 

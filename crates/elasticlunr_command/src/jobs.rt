@@ -10,7 +10,6 @@ ghost use Rattle.elasticlunr_command.specs.Settled.{IsLineWith, IsRefusedWith, s
 ghost use Rattle.serde_json.specs.View.{view};
 
 use crate::job_fault::fault_message;
-use crate::member::Step;
 use crate::message::{Message, Trouble, message_at, unplaced};
 use crate::nearest::nearest;
 use crate::notes::Notes;
@@ -20,6 +19,7 @@ use elasticlunr_job::answer::job_line;
 use elasticlunr_job::fault::first_fault;
 use elasticlunr_job::job::{Document, Job, parse};
 use elasticlunr_job::outcome::{Refusal, Stop};
+use elasticlunr_place::member::Step;
 use serde_json::Value;
 use std::alloc::{AllocError, Global};
 

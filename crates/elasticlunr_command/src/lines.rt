@@ -4,7 +4,7 @@ ghost use Rattle.elasticlunr_job.specs.Answer.{reading};
 ghost use Rattle.elasticlunr_job.specs.Lines.{readings, HasUnreadLine};
 ghost use Rattle.elasticlunr_job.specs.ObjectsTold.{options_told};
 ghost use Rattle.elasticlunr_command.specs.FaultPlaces.{IsPlaceOfProblem};
-ghost use Rattle.elasticlunr_command.specs.Places.{IsPlaceIn};
+ghost use Rattle.elasticlunr_place.specs.Places.{IsPlaceIn};
 ghost use Rattle.elasticlunr_command.specs.Refused.{AreDocumentLines, FailLinesOf, HaveValues, IsMemoryOr};
 ghost use Rattle.elasticlunr_command.specs.RefusedPlaces.{IfPlaced, IsPlaceInLines};
 ghost use Rattle.elasticlunr_command.specs.declared.form.Form.TheVariants as form;

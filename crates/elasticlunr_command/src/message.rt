@@ -1,12 +1,12 @@
 //! What is wrong in an input: where, what, and what to do.
 ghost use Rattle.std.specs.Prelude.{◌≡◌, None, IfOk, IfSome};
-ghost use Rattle.elasticlunr_command.specs.Members.{path_told, IsPlaceOf};
-ghost use Rattle.elasticlunr_command.specs.Places.{IsOffsetOf, IsPlaceIn};
+ghost use Rattle.elasticlunr_place.specs.Members.{path_told, IsPlaceOf};
+ghost use Rattle.elasticlunr_place.specs.Places.{IsOffsetOf, IsPlaceIn};
 
 use crate::form::is_blank;
-use crate::member::{Step, place_of};
-use crate::place::{Place, line_start, place_at};
 use elasticlunr_job::kind::{Kind, kind_of};
+use elasticlunr_place::member::{Step, place_of};
+use elasticlunr_place::place::{Place, line_start, place_at};
 use serde_json::{Error, Value};
 use std::alloc::{AllocError, AllocFailed, Global};
 

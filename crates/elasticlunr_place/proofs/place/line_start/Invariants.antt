@@ -1,6 +1,6 @@
 use Rattle.std.proofs.Common.{◌≡◌, ◌<◌, ℕ}
-use Rattle.elasticlunr_command.specs.Places.{line_at}
-use Rattle.elasticlunr_command.proofs.place.line_start.Given as goal
+use Rattle.elasticlunr_place.specs.Places.{line_at}
+use Rattle.elasticlunr_place.proofs.place.line_start.Given as goal
 
 -- the line so far, and no offset before is in the one that is asked for
 abbrev pub invariant-loop-at : goal.invariant-loop-at

@@ -2,7 +2,7 @@
 use Rattle.std.specs.Prelude.{◌≡◌, ◌+◌, ◌-◌, ◌<◌, ◌≤◌, ◌==◌, ◌⊎◌, ℕ, Bool, not, take, length, min, count_by, bit_and}
 use Rattle.std.specs.List.{after_last}
 use Rattle.elasticlunr_text.specs.Text.{Bytes}
-use Rattle.elasticlunr_command.specs.declared.place.Place.{Place}
+use Rattle.elasticlunr_place.specs.declared.place.Place.{Place}
 
 abbrev pub is_line_feed : ℕ → Bool
 is_line_feed b = b == 10

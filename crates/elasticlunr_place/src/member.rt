@@ -4,24 +4,26 @@ ghost use Rattle.serde_json.specs.Data.{boolean, depth, null};
 ghost use Rattle.serde_json.specs.Read.{max_depth};
 ghost use Rattle.serde_json.specs.View.{view};
 ghost use Rattle.elasticlunr_job.specs.Lines.{filled_lines, is_space};
-ghost use Rattle.elasticlunr_command.specs.Members.{follow, move, move_told, part_of, path_told, value_of, value_at, with_word, HasValue, IsPlaceOf, StandsAt};
+ghost use Rattle.elasticlunr_place.specs.Members.{follow, move, move_told, part_of, path_told, value_of, value_at, with_word, HasValue, IsPlaceOf, StandsAt};
 
-use crate::form::is_blank;
 use crate::place::{Place, place_at};
 use crate::seek::{Span, seek};
+use elasticlunr_job::lines::is_blank;
 use serde_json::Value;
 use std::alloc::{AllocError, Global};
 
 /// A step from a value to a member of it.
 #[derive(Clone, Copy, Debug, PartialEq, Eq)]
-pub(crate) enum Step<'a> {
+pub enum Step<'a> {
+    /// To the member under a key.
     Key(&'a str),
+    /// To the item with a number, from 0.
     Item(usize),
 }
 
 /// The place of the value that a path leads to in a text, or in the line with this number, from 0,
 /// of those that are not blank. Reads the text three times again.
-pub(crate) fn place_of(
+pub fn place_of(
     alloc: Global,
     text: &[u8],
     line: Option<usize>,

@@ -1,8 +1,8 @@
 //! Looking for a value in a text of JSON. What is found is still to be checked.
 ghost use Rattle.std.specs.Prelude.{◌<◌, length, OnOk};
 
-use crate::form::is_blank;
 use crate::member::Step;
+use elasticlunr_job::lines::is_blank;
 use json::{Invalid, MAX_DEPTH, Reader, Scratch, Token};
 use std::alloc::{AllocError, Global};
 

@@ -7,9 +7,9 @@ use Rattle.serde_json.specs.Read.{max_depth, read}
 use Rattle.serde_json.proofs.Nesting.{depth-read}
 use Rattle.elasticlunr_text.specs.Text.{Bytes}
 use Rattle.elasticlunr_job.specs.Answer.{reading}
-use Rattle.elasticlunr_command.specs.Members.{Move, follow, move, move_told, part_of, path_told, value_of, HasValue}
-use Rattle.elasticlunr_command.specs.declared.member.Step.{Step}
-use Rattle.elasticlunr_command.proofs.Depths.{depth-follow}
+use Rattle.elasticlunr_place.specs.Members.{Move, follow, move, move_told, part_of, path_told, value_of, HasValue}
+use Rattle.elasticlunr_place.specs.declared.member.Step.{Step}
+use Rattle.elasticlunr_place.proofs.Depths.{depth-follow}
 
 -- what a part is read as is the value of the text
 pub value_is : (line : Option ℕ) (text bytes : Bytes) (r : Option Data) → Some bytes ≡ part_of line text → reading bytes ≡ r → r ≡ value_of line text

@@ -5,10 +5,10 @@ use Rattle.serde_json.specs.Find.{at, get}
 use Rattle.elasticlunr_text.specs.Text.{Bytes}
 use Rattle.elasticlunr_job.specs.Answer.{reading}
 use Rattle.elasticlunr_job.specs.Lines.{is_space, filled_lines}
-use Rattle.elasticlunr_command.specs.Places.{place_at}
-use Rattle.elasticlunr_command.specs.declared.place.Place.{Place}
-use Rattle.elasticlunr_command.specs.declared.member.Step.{Step}
-use Rattle.elasticlunr_command.specs.declared.member.Step.TheVariants as declared
+use Rattle.elasticlunr_place.specs.Places.{place_at}
+use Rattle.elasticlunr_place.specs.declared.place.Place.{Place}
+use Rattle.elasticlunr_place.specs.declared.member.Step.{Step}
+use Rattle.elasticlunr_place.specs.declared.member.Step.TheVariants as declared
 
 -- a step from a value to one in it: to the member under a key, or to the item with a number, from 0
 pub data Move : Type 0 where

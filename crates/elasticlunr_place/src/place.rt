@@ -1,16 +1,18 @@
 //! The line and the column of a byte of a text.
 ghost use Rattle.std.specs.Prelude.{◌≡◌};
-ghost use Rattle.elasticlunr_command.specs.Places.{is_first, place_at, IsLineStart};
+ghost use Rattle.elasticlunr_place.specs.Places.{is_first, place_at, IsLineStart};
 
 /// A line and a column, both from 1. A column is a character.
 #[derive(Clone, Copy, Debug, PartialEq, Eq)]
-pub(crate) struct Place {
+pub struct Place {
+    /// The line.
     pub line: usize,
+    /// The column.
     pub column: usize,
 }
 
 /// The place of the byte at an offset of a text; beyond the text, that of its end.
-pub(crate) fn place_at(text: &[u8], offset: usize) -> Place
+pub fn place_at(text: &[u8], offset: usize) -> Place
     ensures { result ≡ place_at text.now offset }
 {
     let before = &text[..offset.min(text.len())];
@@ -28,7 +30,7 @@ pub(crate) fn place_at(text: &[u8], offset: usize) -> Place
 }
 
 /// The offset at which a line begins, from 1; the end of the text where it has fewer lines.
-pub(crate) fn line_start(text: &[u8], line: usize) -> usize
+pub fn line_start(text: &[u8], line: usize) -> usize
     ensures { IsLineStart text.now line result }
 {
     let mut here = 1;

@@ -1,6 +1,6 @@
 use Rattle.std.proofs.Common.{◌≡◌}
-use Rattle.elasticlunr_command.specs.Places.{column_at, line_at}
-use Rattle.elasticlunr_command.proofs.place.place_at.Given as goal
+use Rattle.elasticlunr_place.specs.Places.{column_at, line_at}
+use Rattle.elasticlunr_place.proofs.place.place_at.Given as goal
 
 -- the place of the bytes so far
 abbrev pub invariant-loop-byte : goal.invariant-loop-byte

@@ -1,5 +1,5 @@
 use Rattle.std.proofs.Common.{◌-◌}
-use Rattle.elasticlunr_command.proofs.seek.trimmed.Given as goal
+use Rattle.elasticlunr_place.proofs.seek.trimmed.Given as goal
 
 abbrev pub decreases-loop-start : goal.decreases-loop-start
 decreases-loop-start l = l.end - l.start

@@ -1,8 +1,8 @@
 use Rattle.std.proofs.Common.{option_map, sym, ap, ◌∙◌}
 use Rattle.serde_json.specs.View.{view}
-use Rattle.elasticlunr_command.specs.Members.{path_told}
-use Rattle.elasticlunr_command.proofs.Members.{has_value}
-use Rattle.elasticlunr_command.proofs.member.has_value.Goals as goal
+use Rattle.elasticlunr_place.specs.Members.{path_told}
+use Rattle.elasticlunr_place.proofs.Members.{has_value}
+use Rattle.elasticlunr_place.proofs.member.has_value.Goals as goal
 
 pub returns-in-Some-follow : goal.returns-in-Some-follow
 returns-in-Some-follow c =

@@ -4,22 +4,12 @@
 #![tactic(auto)]
 
 mod build;
-mod documents;
 mod ended;
 mod files;
-mod form;
-mod index;
-mod job_fault;
-mod jobs;
+mod given;
 mod languages;
-mod lines;
-mod message;
-mod nearest;
-mod notes;
 mod search;
-mod settings;
 mod tell;
-mod tokens;
 mod words;
 
 use crate::build::{Use, build};

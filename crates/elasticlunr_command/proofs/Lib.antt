@@ -1,12 +1,1 @@
-pub mod Readings
-pub mod FieldKeys
-pub mod LineLemmas
-pub mod LinePlaces
-pub mod FormLemmas
-pub mod Refusals
 pub mod Scripts
-pub mod Called
-pub mod IndexLemmas
-pub mod FirstFaults
-pub mod Members
-pub mod Depths

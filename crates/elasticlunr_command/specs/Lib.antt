@@ -1,15 +1,3 @@
 pub mod Status
-pub mod Settled
 pub mod Words
 pub mod Script
-pub mod Fields
-pub mod Asked
-pub mod Lines
-pub mod Places
-pub mod Members
-pub mod Refused
-pub mod Forms
-pub mod Inputs
-pub mod FirstFaults
-pub mod FaultPlaces
-pub mod RefusedPlaces

@@ -1,29 +1,14 @@
 -- What the words of the command line say.
-use Rattle.std.specs.Prelude.{◌≡◌, ◌==◌, ◌||◌, List, Bool, true, false, Option, Some, None, map, codes, bytes_eq, find, option_map}
-use Rattle.std.specs.Char.{to_ascii_lowercase}
+use Rattle.std.specs.Prelude.{◌≡◌, ◌==◌, List, Bool, true, false, Option, Some, None, codes, option_map}
 use Rattle.std.specs.List.{slice_split}
 use Rattle.clap.specs.Words.{found_of, first_value, one_text}
 use Rattle.clap.specs.declared.parser.matches.ArgMatches.{ArgMatches}
 use Rattle.elasticlunr_text.specs.Text.{Bytes}
-use Rattle.elasticlunr_lang.specs.Known.{all_languages, language_name, language_code}
-use Rattle.elasticlunr_lang.specs.declared.any.AnyLanguage.{AnyLanguage}
-use Rattle.elasticlunr_command.specs.Settled.{Settings}
+use Rattle.elasticlunr_input.specs.Settled.{Settings}
 
 -- the names in a text with commas between them
 abbrev pub names_in : Bytes → List Bytes
 names_in text = slice_split (λ b. b == 44) text
-
--- the texts are equal but for the case of ASCII letters
-abbrev pub same_but_for_case : Bytes → Bytes → Bool
-same_but_for_case text other = bytes_eq (map to_ascii_lowercase text) (map to_ascii_lowercase other)
-
--- the language has this name or code, but for the case of ASCII letters
-abbrev pub is_called : Bytes → AnyLanguage → Bool
-is_called asked language = same_but_for_case (language_name language) asked || same_but_for_case (language_code language) asked
-
--- the name of the first language that is called so
-abbrev pub name_asked : Bytes → Option Bytes
-name_asked asked = option_map language_name (find (is_called asked) all_languages)
 
 -- whether a flag was given: clap keeps that as a text
 pub record IsFlag (words : ArgMatches) (id : Bytes) (given : Bool) : Type 0 where

@@ -4,13 +4,14 @@ ghost use Rattle.elasticlunr_command.specs.Script.{IsScript, IsWithoutFeed};
 
 use crate::ended::Ended;
 use crate::files::{input_name, read_input, write_output};
-use crate::form::form_of;
-use crate::index::index_text;
-use crate::jobs::unknown_language;
-use crate::notes::Notes;
-use crate::settings::{Settings, language_name};
+use crate::given::settings_given;
 use crate::tell::{failed, troubled, warn};
 use clap::ArgMatches;
+use elasticlunr_input::form::form_of;
+use elasticlunr_input::index::index_text;
+use elasticlunr_input::language::{language_name, unknown_language};
+use elasticlunr_input::notes::Notes;
+use elasticlunr_input::settings::Settings;
 use std::alloc::{AllocError, Global};
 use std::io::{self, IsTerminal};
 use std::time::Instant;
@@ -76,7 +77,7 @@ fn build_from(
     task: &Task<'_, '_>,
     language: Option<String>,
 ) -> io::Result<Ended> {
-    let settings = Settings::of_words(rt.alloc(), task.given, language)?;
+    let settings = settings_given(rt.alloc(), task.given, language)?;
     let file = task.given.get_str("file");
     match read_input(rt, file) {
         Ok(bytes) => {

@@ -4,25 +4,12 @@
 #![tactic(auto)]
 
 mod build;
-mod documents;
 mod ended;
 mod files;
-mod form;
-mod index;
-mod job_fault;
-mod jobs;
+mod given;
 mod languages;
-mod lines;
-mod member;
-mod message;
-mod nearest;
-mod notes;
-mod place;
 mod search;
-mod seek;
-mod settings;
 mod tell;
-mod tokens;
 mod words;
 
 use crate::build::{Use, build};

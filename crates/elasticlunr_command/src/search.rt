@@ -2,10 +2,10 @@
 
 use crate::ended::Ended;
 use crate::files::{input_name, read_input};
-use crate::message::{Trouble, not_json, unplaced};
-use crate::nearest::nearest;
 use crate::tell::{failed, troubled};
 use clap::ArgMatches;
+use elasticlunr_input::message::{Trouble, not_json, unplaced};
+use elasticlunr_input::nearest::nearest;
 use elasticlunr_lang::{AnyLanguage, from_name};
 use elasticlunr_search::{Join, SearchError, Searcher};
 use serde_json::Value;

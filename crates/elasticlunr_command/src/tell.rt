@@ -1,7 +1,7 @@
 //! What goes to the error stream.
 
 use crate::ended::Ended;
-use crate::message::{Message, Trouble};
+use elasticlunr_input::message::{Message, Trouble};
 use std::io;
 
 /// How many warnings have a line; the others are counted.

@@ -1,0 +1,42 @@
+use Rattle.std.proofs.Common.{subst, inl}
+use Rattle.elasticlunr_input.specs.Forms.{FailsInput, IsNotJson}
+use Rattle.elasticlunr_input.specs.Inputs.{IsInput}
+use Rattle.elasticlunr_input.specs.Settled.{settings_told}
+use Rattle.elasticlunr_input.proofs.IndexLemmas.{job_line, array_line, lines_line, job_refused, array_refused, lines_refused}
+use Rattle.elasticlunr_input.proofs.Refusals.{refused_again}
+use Rattle.elasticlunr_input.proofs.index.index_text.Goals as goal
+
+pub returns-in_err-value-clause-err : goal.returns-in_err-value-clause-err
+returns-in_err-value-clause-err c =
+    refused_again (IsNotJson c.args.form c.args.text.now) (FailsInput c.args.form (settings_told c.args.settings.now) c.args.text.now) c.in_err-value.field-0.0 c.from_residual.result
+    (λ unread. inl unread) c.from_residual.ensures.1 c.in_err-value.ensures.err
+
+pub returns-in-Job-clause-ok : goal.returns-in-Job-clause-ok
+returns-in-Job-clause-ok c =
+    job_line c.args.form (settings_told c.args.settings.now) c.args.text.now c.in-Job.value c.text_of_job.result
+    (subst (IsInput c.args.form c.args.text.now) c.in-Job.is c.in_ok-value.ensures.ok) c.text_of_job.ensures.ok
+
+pub returns-in-Job-clause-err : goal.returns-in-Job-clause-err
+returns-in-Job-clause-err c =
+    job_refused c.args.form (settings_told c.args.settings.now) c.args.text.now c.in-Job.value c.text_of_job.result
+    (subst (IsInput c.args.form c.args.text.now) c.in-Job.is c.in_ok-value.ensures.ok) c.text_of_job.ensures.err
+
+pub returns-in-Objects-clause-ok : goal.returns-in-Objects-clause-ok
+returns-in-Objects-clause-ok c =
+    array_line c.args.form (settings_told c.args.settings.now) c.args.text.now c.in-Objects.value c.text_of_array.result
+    (subst (IsInput c.args.form c.args.text.now) c.in-Objects.is c.in_ok-value.ensures.ok) c.text_of_array.ensures.ok
+
+pub returns-in-Objects-clause-err : goal.returns-in-Objects-clause-err
+returns-in-Objects-clause-err c =
+    array_refused c.args.form (settings_told c.args.settings.now) c.args.text.now c.in-Objects.value c.text_of_array.result
+    (subst (IsInput c.args.form c.args.text.now) c.in-Objects.is c.in_ok-value.ensures.ok) c.text_of_array.ensures.err
+
+pub returns-in-Lines-clause-ok : goal.returns-in-Lines-clause-ok
+returns-in-Lines-clause-ok c =
+    lines_line c.args.form (settings_told c.args.settings.now) c.args.text.now c.text_of_lines.result
+    (subst (IsInput c.args.form c.args.text.now) c.in-Lines.is c.in_ok-value.ensures.ok) c.text_of_lines.ensures.ok
+
+pub returns-in-Lines-clause-err : goal.returns-in-Lines-clause-err
+returns-in-Lines-clause-err c =
+    lines_refused c.args.form (settings_told c.args.settings.now) c.args.text.now c.text_of_lines.result
+    (subst (IsInput c.args.form c.args.text.now) c.in-Lines.is c.in_ok-value.ensures.ok) c.text_of_lines.ensures.err

@@ -1,0 +1,78 @@
+-- Where that stands for which an input is refused.
+use Rattle.std.specs.Prelude.{◌-◌, ◌⊎◌, ℕ, List, [], ◌∷◌, Bool, true, false, Some, None, slice_get, unwrap_or, codes, if◌then◌else◌}
+use Rattle.serde_json.specs.Data.{Data}
+use Rattle.elasticlunr_text.specs.Text.{Bytes}
+use Rattle.elasticlunr_job.specs.Job.{Job, IsJob}
+use Rattle.elasticlunr_job.specs.JobFaults.{HasFirstFault}
+use Rattle.elasticlunr_job.specs.JobKeys.{key_name}
+use Rattle.elasticlunr_job.specs.Objects.{Options, IsFirstProblem}
+use Rattle.elasticlunr_job.specs.declared.fault.DocumentFault.{DocumentFault}
+use Rattle.elasticlunr_job.specs.declared.fault.DocumentFault.TheVariants as doc
+use Rattle.elasticlunr_job.specs.declared.fault.Fault.{Fault}
+use Rattle.elasticlunr_job.specs.declared.fault.Fault.TheVariants.{NotAnObject, UnknownKey, Member, Missing}
+use Rattle.elasticlunr_job.specs.declared.fault.MemberFault.{MemberFault}
+use Rattle.elasticlunr_job.specs.declared.fault.MemberFault.TheVariants.{Other, Item, Document}
+use Rattle.elasticlunr_job.specs.declared.objects.Problem.{Problem}
+use Rattle.elasticlunr_job.specs.declared.objects.Problem.TheVariants as problem
+use Rattle.elasticlunr_job.specs.declared.outcome.Refusal.{Refusal}
+use Rattle.elasticlunr_job.specs.declared.outcome.Refusal.TheVariants.{UnknownLanguage, DuplicateField, TooManyValues}
+use Rattle.elasticlunr_input.specs.FirstFaults.{IsFirstTooLong, IsFirstTwice}
+use Rattle.elasticlunr_place.specs.Members.{Move, item, under, IsPlaceOf}
+use Rattle.elasticlunr_input.specs.declared.form.Form.{Form}
+use Rattle.elasticlunr_input.specs.declared.form.Form.TheVariants as form
+use Rattle.elasticlunr_place.specs.declared.place.Place.{Place}
+
+-- from a value that is no document to what is wrong in it
+abbrev pub document_fault_path : DocumentFault → List Move
+document_fault_path (doc.NotAList _) = []
+document_fault_path doc.Empty = []
+document_fault_path (doc.Item number _) = item number ∷ []
+
+-- from a member to what is wrong in it
+abbrev pub member_fault_path : MemberFault → List Move
+member_fault_path (Other _) = []
+member_fault_path (Item number _) = item number ∷ []
+member_fault_path (Document number fault) = item number ∷ document_fault_path fault
+
+-- from a value that is no job to what has the fault: itself, the member under a key, or an item in that
+abbrev pub fault_path : Fault → List Move
+fault_path (NotAnObject _) = []
+fault_path (UnknownKey key) = under key.now ∷ []
+fault_path (Member key fault) = under (key_name key) ∷ member_fault_path fault
+fault_path (Missing _) = []
+
+-- the place is that of what a job fails a check for: its language, the second field of a name, the first document that is too long
+abbrev pub IsPlaceOfRefusal : Bytes → Job → Refusal → Place → Type 0
+IsPlaceOfRefusal text job UnknownLanguage place = IsPlaceOf None (under (codes "lang") ∷ []) text place
+IsPlaceOfRefusal text job DuplicateField place = (i : ℕ) × IsFirstTwice job.fields i × IsPlaceOf None (under (codes "fields") ∷ item i ∷ []) text place
+IsPlaceOfRefusal text job TooManyValues place = (i : ℕ) × IsFirstTooLong job.fields job.docs i × IsPlaceOf None (under (codes "docs") ∷ item i ∷ []) text place
+IsPlaceOfRefusal text job _ place = ⊥
+
+-- the place is that of the first fault of a value that is no job, or of what its job fails a check for
+abbrev pub IsPlaceInJob : Bytes → Data → Refusal → Place → Type 0
+IsPlaceInJob text d refusal place = ((fault : Fault) × HasFirstFault d fault × IsPlaceOf None (fault_path fault) text place)
+    ⊎ ((job : Job) × IsJob d job × IsPlaceOfRefusal text job refusal place)
+
+-- the problem is that of a member, and not of the object
+abbrev pub is_of_member : Problem → Bool
+is_of_member (problem.NotAReference _) = true
+is_of_member (problem.NotAText _ _) = true
+is_of_member _ = false
+
+-- the key of that member
+abbrev pub problem_key : Options → Problem → Bytes
+problem_key options (problem.NotAText number _) = unwrap_or (slice_get options.fields number) []
+problem_key options _ = options.reference_key
+
+-- from an object to what has the problem
+abbrev pub problem_path : Options → Problem → List Move
+problem_path options problem = if is_of_member problem then under (problem_key options problem) ∷ [] else []
+
+-- the place is that of a problem of the object with this number, from 1: in its line, or in the array
+abbrev pub IsPlaceOfProblem : Form → Bytes → Options → ℕ → Problem → Place → Type 0
+IsPlaceOfProblem form.Lines text options number problem place = IsPlaceOf (Some (number - 1)) (problem_path options problem) text place
+IsPlaceOfProblem _ text options number problem place = IsPlaceOf None (item (number - 1) ∷ problem_path options problem) text place
+
+-- the place is that of the first problem of these objects, which stand in the text
+abbrev pub IsPlaceInObjects : Form → Bytes → Options → List Data → Place → Type 0
+IsPlaceInObjects form text options items place = (number : ℕ) × (problem : Problem) × IsFirstProblem options items number problem × IsPlaceOfProblem form text options number problem place

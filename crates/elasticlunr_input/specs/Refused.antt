@@ -1,0 +1,61 @@
+-- Why no index of the documents is printed.
+use Rattle.std.specs.Prelude.{◌≡◌, ◌⊎◌, ⊤, List, Some, None}
+use Rattle.serde_json.specs.Data.{Data}
+use Rattle.serde_json.specs.Find.{as_array}
+use Rattle.serde_json.specs.View.{items_of}
+use Rattle.elasticlunr_text.specs.Text.{Bytes}
+use Rattle.elasticlunr_job.specs.Job.{Document}
+use Rattle.elasticlunr_job.specs.Lines.{AreLineValues, HasUnreadLine}
+use Rattle.elasticlunr_job.specs.Objects.{Options, AreDocumentsOf, FailsObjects}
+use Rattle.elasticlunr_job.specs.declared.outcome.Refusal.{Refusal}
+use Rattle.elasticlunr_job.specs.declared.objects.ObjectsError.{ObjectsError}
+use Rattle.elasticlunr_job.specs.declared.objects.ObjectsError.TheVariants as error
+use Rattle.elasticlunr_input.specs.Asked.{options_of}
+use Rattle.elasticlunr_input.specs.Settled.{Settings, IsRefusedWith}
+use Rattle.elasticlunr_input.specs.declared.message.Trouble.{Trouble}
+use Rattle.elasticlunr_input.specs.declared.message.Trouble.TheVariants.{Refused, Memory}
+
+-- memory is wanting, or it is refused for this reason
+abbrev pub IsMemoryOr : Type 0 → Trouble → Type 0
+IsMemoryOr reason Memory = ⊤
+IsMemoryOr reason (Refused _) = reason
+
+-- the values fail a check of objects that are read so
+abbrev pub FailObjects : Options → List Data → Type 0
+FailObjects options items = (e : ObjectsError) × (¬ (e ≡ error.Memory)) × FailsObjects options items e
+
+-- the value fails a check of a job with these settings
+abbrev pub FailsJob : Settings → Data → Type 0
+FailsJob settings d = (refusal : Refusal) × IsRefusedWith settings d refusal
+
+-- the value is no array, or what is in it fails a check
+abbrev pub FailsArray : Settings → Data → Type 0
+FailsArray settings d = (as_array d ≡ None) ⊎ ((items : List Data) × (as_array d ≡ Some (items_of items)) × FailObjects (options_of settings items) items)
+
+-- each line has a value
+abbrev pub HaveValues : Bytes → Type 0
+HaveValues text = (items : List Data) × AreLineValues text items
+
+-- each line is a document, as it is read with these options
+abbrev pub AreDocumentLines : Options → Bytes → Type 0
+AreDocumentLines options text = (items : List Data) × (docs : List Document) × AreLineValues text items × AreDocumentsOf options items docs
+
+-- a line is not JSON, or the values of the lines fail a check of objects that are read so
+abbrev pub FailLinesOf : Options → Bytes → Type 0
+FailLinesOf options text = HasUnreadLine text ⊎ ((items : List Data) × AreLineValues text items × FailObjects options items)
+
+-- a line is not JSON, or the values of the lines fail a check
+abbrev pub FailLines : Settings → Bytes → Type 0
+FailLines settings text = HasUnreadLine text ⊎ ((items : List Data) × AreLineValues text items × FailObjects (options_of settings items) items)
+
+abbrev pub IsRefusedObjects : Options → List Data → Trouble → Type 0
+IsRefusedObjects options items = IsMemoryOr (FailObjects options items)
+
+abbrev pub IsRefusedJob : Settings → Data → Trouble → Type 0
+IsRefusedJob settings d = IsMemoryOr (FailsJob settings d)
+
+abbrev pub IsRefusedArray : Settings → Data → Trouble → Type 0
+IsRefusedArray settings d = IsMemoryOr (FailsArray settings d)
+
+abbrev pub AreRefusedLines : Settings → Bytes → Trouble → Type 0
+AreRefusedLines settings text = IsMemoryOr (FailLines settings text)

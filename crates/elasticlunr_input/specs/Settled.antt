@@ -1,0 +1,47 @@
+-- A job with the settings in the place of what it says itself.
+use Rattle.std.specs.Prelude.{List, Bool, true, false, Option, option_map, unwrap_or, string_bytes, if◌then◌else◌}
+use Rattle.serde_json.specs.Data.{Data}
+use Rattle.elasticlunr_text.specs.Text.{Bytes, bytes_of}
+use Rattle.elasticlunr_job.specs.Answer.{IsLineOf, IsNoJob, FailsAt}
+use Rattle.elasticlunr_job.specs.Job.{Job, IsJob}
+use Rattle.elasticlunr_job.specs.declared.outcome.Refusal.{Refusal}
+use Rattle.elasticlunr_job.specs.declared.outcome.Refusal.TheVariants.{NotJson, NotAJob}
+use Rattle.elasticlunr_input.specs.declared.settings.Settings as declared
+
+-- what is said of an index beside its input
+pub record Settings : Type 0 where
+  pub fields : Option (List Bytes)
+  pub reference : Option Bytes
+  pub language : Option Bytes
+  pub drops_texts : Bool
+  pub pretty : Bool
+
+-- the settings that the program holds, as their texts
+abbrev pub settings_told : declared.Settings → Settings
+settings_told s = record {
+  fields = option_map (λ names. bytes_of names.items) s.fields;
+  reference = option_map string_bytes s.reference;
+  language = option_map string_bytes s.language;
+  drops_texts = s.drops_texts;
+  pretty = s.pretty;
+}
+
+-- each setting that is given stands in the place of the job's
+abbrev pub settled : Settings → Job → Job
+settled settings job = record job {
+  fields = unwrap_or settings.fields job.fields;
+  reference_field = unwrap_or settings.reference job.reference_field;
+  language = unwrap_or settings.language job.language;
+  save = if settings.drops_texts then false else job.save;
+  pretty = if settings.pretty then true else job.pretty;
+}
+
+-- the text of the index of the job that a value is, with these settings, and a line feed
+abbrev pub IsLineWith : Settings → Data → Bytes → Type 0
+IsLineWith settings d text = (job : Job) × IsJob d job × IsLineOf (settled settings job) text
+
+-- the check that a value fails first: that it is a job, or one of the job with these settings
+abbrev pub IsRefusedWith : Settings → Data → Refusal → Type 0
+IsRefusedWith settings d NotJson = ⊥
+IsRefusedWith settings d NotAJob = IsNoJob d
+IsRefusedWith settings d refusal = (job : Job) × IsJob d job × FailsAt (settled settings job) refusal

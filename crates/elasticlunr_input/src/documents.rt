@@ -1,0 +1,240 @@
+//! The index of documents that are objects: an array of them, or a line for each.
+ghost use Rattle.std.specs.Prelude.{◌≡◌, ◌-◌, map, take, length, string_bytes, if◌then◌else◌, IfOk, IfErr, IfSome};
+ghost use Rattle.elasticlunr_job.specs.Objects.{IsLineOfObjects};
+ghost use Rattle.elasticlunr_job.specs.ObjectsTold.{options_told, texts_told};
+ghost use Rattle.elasticlunr_input.specs.FaultPlaces.{is_of_member, problem_key, IsPlaceInObjects, IsPlaceOfProblem};
+ghost use Rattle.elasticlunr_input.specs.Fields.{is_field, text_keys};
+ghost use Rattle.elasticlunr_input.specs.Refused.{IsRefusedObjects};
+ghost use Rattle.elasticlunr_input.specs.RefusedPlaces.{IfPlaced};
+ghost use Rattle.serde_json.specs.View.{view};
+
+use crate::form::Form;
+use crate::jobs::duplicate_field;
+use crate::language::unknown_language;
+use crate::message::{Message, Trouble, kind_words, unplaced};
+use crate::notes::Notes;
+use crate::tokens::Tokens;
+use elasticlunr_job::lines::is_blank;
+use elasticlunr_job::objects::{ObjectsError, Options, Problem, object_of, objects_line};
+use elasticlunr_job::outcome::Refusal;
+use elasticlunr_place::member::{Step, place_of};
+use elasticlunr_place::place::Place;
+use serde_json::Value;
+use std::alloc::{AllocError, Global};
+
+/// The text that objects were read of: an array, or a line for each.
+#[derive(Clone, Copy, Debug, PartialEq, Eq)]
+pub(crate) struct Source<'a> {
+    pub text: &'a [u8],
+    pub form: Form,
+}
+
+/// The text of the index of objects, and a line feed.
+pub(crate) fn objects_text(
+    alloc: Global,
+    source: Source<'_>,
+    items: &[Value],
+    options: &Options<'_>,
+) -> Result<String, Trouble>
+    ensures ok { IfOk result (λ line.
+        IsLineOfObjects (options_told options.now) (map view items.now) (string_bytes line)) }
+    ensures err { IfErr result (IsRefusedObjects (options_told options.now) (map view items.now)) }
+    ensures place { IfErr result (IfPlaced (IsPlaceInObjects source.entry.form source.entry.text.now
+        (options_told options.now) (map view items.now))) }
+{
+    match objects_line(alloc, options, items) {
+        Ok(line) => Ok(line),
+        Err(ObjectsError::Memory) => Err(Trouble::Memory),
+        Err(ObjectsError::Refused(refusal)) => {
+            Err(Trouble::Refused(unplaced(settings_fault(alloc, options, refusal)?)))
+        }
+        Err(ObjectsError::Document(number, problem)) => {
+            let item = items.get(number.saturating_sub(1));
+            let text = problem_text(alloc, options, number, item, problem)?;
+            let place = problem_place(alloc, source, options, number, problem)?;
+            Err(Trouble::Refused(Message { place, text }))
+        }
+    }
+}
+
+/// What is wrong with the settings of an index of objects.
+pub(crate) fn settings_fault(
+    alloc: Global,
+    options: &Options<'_>,
+    refusal: Refusal,
+) -> Result<String, AllocError> {
+    match refusal {
+        Refusal::DuplicateField => duplicate_field(alloc, &options.fields),
+        Refusal::UnknownLanguage => unknown_language(alloc, options.language),
+        _ => String::from_str(alloc, "not objects"),
+    }
+}
+
+/// The place of what is wrong with the document of this number.
+pub(crate) fn problem_place(
+    alloc: Global,
+    source: Source<'_>,
+    options: &Options<'_>,
+    number: usize,
+    problem: Problem,
+) -> Result<Option<Place>, AllocError>
+    ensures { IfOk result (λ place. IfSome place
+        (IsPlaceOfProblem source.entry.form source.entry.text.now (options_told options.now) number problem)) }
+{
+    let item = number.saturating_sub(1);
+    let key = Step::Key(problem_key(options, problem));
+    if source.form == Form::Lines {
+        place_of(alloc, source.text, Some(item), path_of(&[key], problem))
+    } else {
+        place_of(
+            alloc,
+            source.text,
+            None,
+            path_of(&[Step::Item(item), key], problem),
+        )
+    }
+}
+
+/// The line of the object with this number, from 0, and how many lines stand before it.
+pub(crate) fn line_of(text: &[u8], item: usize) -> (usize, &[u8]) {
+    let mut left = item;
+    for (before, line) in text.split(|byte| *byte == b'\n').enumerate() {
+        if is_blank(line) {
+            continue;
+        }
+        if left == 0 {
+            return (before, line);
+        }
+        left -= 1;
+    }
+    (0, text)
+}
+
+/// The steps to what a problem is about: the document, or a member of it.
+fn path_of<'p, 'a>(path: &'p [Step<'a>], problem: Problem) -> &'p [Step<'a>]
+    ensures { result.now ≡ (if is_of_member problem then path.now else take (length path.now - 1) path.now) }
+{
+    match problem {
+        Problem::NotAReference(_) | Problem::NotAText(_, _) => path,
+        _ => &path[..path.len().saturating_sub(1)],
+    }
+}
+
+/// The key of the member that a problem is about.
+fn problem_key<'a>(options: &Options<'a>, problem: Problem) -> &'a str
+    ensures { result.now ≡ problem_key (options_told options.now) problem }
+{
+    match problem {
+        Problem::NotAText(number, _) => match options.fields.get(number) {
+            Some(field) => *field,
+            None => "",
+        },
+        _ => options.reference_key,
+    }
+}
+
+/// What is wrong with a document.
+pub(crate) fn problem_text(
+    alloc: Global,
+    options: &Options<'_>,
+    number: usize,
+    value: Option<&Value>,
+    problem: Problem,
+) -> Result<String, AllocError> {
+    let key = problem_key(options, problem);
+    match problem {
+        Problem::NotJson => format!(in alloc; "document {number}: not JSON"),
+        Problem::NotAnObject(kind) => {
+            let found = kind_words(kind);
+            format!(in alloc; "document {number}: {found}, where an object is wanted")
+        }
+        Problem::NoReference => {
+            format!(in alloc;
+                "document {number}: no member \"{key}\", which is its reference; `--ref` names another key"
+            )
+        }
+        Problem::NotAReference(kind) => {
+            let found = kind_words(kind);
+            format!(in alloc;
+                "document {number}, reference \"{key}\": {found}, where a text or a whole number is wanted"
+            )
+        }
+        Problem::NotAText(_, kind) => {
+            let found = kind_words(kind);
+            let label = document_label(alloc, options, number, value)?;
+            format!(in alloc; "{label}, field \"{key}\": {found}, where a text is wanted")
+        }
+    }
+}
+
+/// A document by its number, and its reference where that is a text.
+fn document_label(
+    alloc: Global,
+    options: &Options<'_>,
+    number: usize,
+    value: Option<&Value>,
+) -> Result<String, AllocError> {
+    let reference = value
+        .and_then(|object| object.get(options.reference_key))
+        .and_then(Value::as_str);
+    match reference {
+        Some(reference) => format!(in alloc; "document {number} (\"{reference}\")"),
+        None => format!(in alloc; "document {number}"),
+    }
+}
+
+/// The keys of the first object whose members are texts, but for that of the reference: the fields
+/// where none are named.
+pub(crate) fn first_fields<'v>(
+    alloc: Global,
+    value: &'v Value,
+    reference_key: &str,
+) -> Result<Vec<&'v str>, AllocError>
+    ensures { IfOk result (λ fields. texts_told fields.items ≡ text_keys reference_key.now (view value.now)) }
+{
+    let mut fields = Vec::new(alloc);
+    let Some(members) = value.as_object() else {
+        return Ok(fields);
+    };
+    for (key, member) in members.iter() {
+        if is_field(key.as_str(), member, reference_key) {
+            fields.push(key.as_str())?;
+        }
+    }
+    Ok(fields)
+}
+
+/// Whether a member is a text under another key than that of the reference.
+fn is_field(key: &str, member: &Value, reference_key: &str) -> bool
+    ensures { result ≡ is_field reference_key.now (key.now, view member.now) }
+{
+    member.is_string() && key != reference_key
+}
+
+/// Notes what is unwise in objects that are documents.
+pub(crate) fn note_objects(
+    alloc: Global,
+    options: &Options<'_>,
+    items: &[Value],
+    notes: &mut Notes,
+) -> Result<(), AllocError> {
+    let tokens = Tokens::of_language(alloc, options.language)?;
+    for item in items {
+        note_object(alloc, options, &tokens, item, notes)?;
+    }
+    notes.end(&options.fields)
+}
+
+/// Notes what is unwise in an object that is a document.
+pub(crate) fn note_object(
+    alloc: Global,
+    options: &Options<'_>,
+    tokens: &Tokens,
+    item: &Value,
+    notes: &mut Notes,
+) -> Result<(), AllocError> {
+    let Ok(object) = object_of(alloc, options, item) else {
+        return Err(AllocError);
+    };
+    notes.document(tokens, object.reference.as_str(), &object.values)
+}

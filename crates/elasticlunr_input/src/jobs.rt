@@ -1,0 +1,162 @@
+//! The index of a job.
+ghost use Rattle.std.specs.Prelude.{◌≡◌, true, string_bytes, IfOk, IfErr, IfSome, IfNone};
+ghost use Rattle.elasticlunr.specs.Fields.{all_differ, borrowed};
+ghost use Rattle.elasticlunr_job.specs.JobTold.{job_told};
+ghost use Rattle.elasticlunr_job.specs.Stop.{StopsWithReason};
+ghost use Rattle.elasticlunr_job.specs.declared.outcome.Refusal.{Refusal};
+ghost use Rattle.elasticlunr_input.specs.FaultPlaces.{IsPlaceInJob, IsPlaceOfRefusal};
+ghost use Rattle.elasticlunr_input.specs.FirstFaults.{AllFit, IsFirstTooLong, IsFirstTwice};
+ghost use Rattle.elasticlunr_input.specs.Settled.{IsLineWith, IsRefusedWith, settings_told};
+ghost use Rattle.serde_json.specs.View.{view};
+
+use crate::job_fault::fault_message;
+use crate::language::unknown_language;
+use crate::message::{Message, Trouble, message_at, unplaced};
+use crate::notes::Notes;
+use crate::settings::{Settings, settle};
+use crate::tokens::Tokens;
+use elasticlunr_job::answer::job_line;
+use elasticlunr_job::fault::first_fault;
+use elasticlunr_job::job::{Document, Job, parse};
+use elasticlunr_job::outcome::{Refusal, Stop};
+use elasticlunr_place::member::Step;
+use serde_json::Value;
+use std::alloc::{AllocError, Global};
+
+/// The text of the index that a job asks for, in the place of whose members the settings stand.
+pub(crate) fn job_text<'a>(
+    alloc: Global,
+    value: &'a Value,
+    settings: &'a Settings,
+) -> Result<String, Stop>
+    ensures ok { IfOk result (λ line.
+        IsLineWith (settings_told settings.now) (view value.now) (string_bytes line)) }
+    ensures err { IfErr result (StopsWithReason (IsRefusedWith (settings_told settings.now) (view value.now))) }
+{
+    let job = settle(alloc, parse(alloc, value)?, settings)?;
+    job_line(alloc, &job)
+}
+
+/// The message of a refusal of a job.
+pub(crate) fn job_refused(
+    alloc: Global,
+    text: &[u8],
+    value: &Value,
+    refusal: Refusal,
+) -> Result<Message, AllocError>
+    ensures { IfOk result (λ message. IfSome message.place (IsPlaceInJob text.now (view value.now) refusal)) }
+{
+    if let Some(fault) = first_fault(value) {
+        return fault_message(alloc, text, value, fault);
+    }
+    match parse(alloc, value) {
+        Ok(job) => job_fault(alloc, text, &job, refusal),
+        Err(_) => Err(AllocError),
+    }
+}
+
+/// What is wrong with a job that was read.
+fn job_fault(
+    alloc: Global,
+    text: &[u8],
+    job: &Job<'_>,
+    refusal: Refusal,
+) -> Result<Message, AllocError>
+    ensures { IfOk result (λ message.
+        IfSome message.place (IsPlaceOfRefusal text.now (job_told job.now) refusal)) }
+{
+    match refusal {
+        Refusal::UnknownLanguage => {
+            let said = unknown_language(alloc, job.language)?;
+            message_at(alloc, text, &[Step::Key("lang")], said)
+        }
+        Refusal::DuplicateField => {
+            let said = duplicate_field(alloc, &job.fields)?;
+            let Some(number) = second_of(&job.fields) else {
+                return Ok(unplaced(said));
+            };
+            message_at(
+                alloc,
+                text,
+                &[Step::Key("fields"), Step::Item(number)],
+                said,
+            )
+        }
+        Refusal::TooManyValues => too_many_values(alloc, text, job),
+        _ => Ok(unplaced(String::from_str(alloc, "not a job")?)),
+    }
+}
+
+/// The number of the first field that has the name of one before it.
+fn second_of(fields: &[&str]) -> Option<usize>
+    ensures some { IfSome result (IsFirstTwice (borrowed fields.now)) }
+    ensures none { IfNone result (all_differ (borrowed fields.now) ≡ true) }
+{
+    for (number, field) in fields.iter().enumerate() {
+        if fields[..number].contains(field) {
+            return Some(number);
+        }
+    }
+    None
+}
+
+/// That a field comes twice.
+pub(crate) fn duplicate_field(alloc: Global, fields: &[&str]) -> Result<String, AllocError> {
+    let Some(number) = second_of(fields) else {
+        return String::from_str(alloc, "a field of `--fields` comes twice");
+    };
+    let name = match fields.get(number) {
+        Some(name) => *name,
+        None => "",
+    };
+    format!(in alloc; "the field \"{name}\" comes twice")
+}
+
+/// The first document with more values than there are fields, and its number.
+fn first_too_long<'j, 'a>(job: &'j Job<'a>) -> Option<(usize, &'j Document<'a>)>
+    ensures some { let told = job_told job.now in IfSome result (λ found. IsFirstTooLong told.fields told.docs found.0) }
+    ensures none { let told = job_told job.now in IfNone result (AllFit told.fields told.docs) }
+{
+    let most = job.fields.len();
+    for (number, doc) in job.docs.iter().enumerate() {
+        if doc.values.len() > most {
+            return Some((number, doc));
+        }
+    }
+    None
+}
+
+/// The first document with more values than there are fields.
+fn too_many_values(alloc: Global, text: &[u8], job: &Job<'_>) -> Result<Message, AllocError>
+    ensures { IfOk result (λ message.
+        IfSome message.place (IsPlaceOfRefusal text.now (job_told job.now) Refusal.TooManyValues)) }
+{
+    let Some((number, doc)) = first_too_long(job) else {
+        let said = "a document has more values than `--fields` has names";
+        return Ok(unplaced(String::from_str(alloc, said)?));
+    };
+    let (count, reference) = (number.saturating_add(1), doc.reference);
+    let (values, most) = (doc.values.len(), job.fields.len());
+    let said = format!(in alloc;
+        "document {count} (\"{reference}\"): {values} values, where there are {most} fields"
+    )?;
+    message_at(alloc, text, &[Step::Key("docs"), Step::Item(number)], said)
+}
+
+/// Notes what is unwise in the documents of a job.
+pub(crate) fn note_job(
+    alloc: Global,
+    value: &Value,
+    settings: &Settings,
+    notes: &mut Notes,
+) -> Result<(), AllocError> {
+    let Ok(job) = parse(alloc, value) else {
+        return Err(AllocError);
+    };
+    let job = settle(alloc, job, settings)?;
+    let tokens = Tokens::of_language(alloc, job.language)?;
+    for doc in &job.docs {
+        notes.document(&tokens, doc.reference, &doc.values)?;
+    }
+    notes.end(&job.fields)
+}

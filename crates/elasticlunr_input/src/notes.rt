@@ -1,0 +1,144 @@
+//! What is unwise in documents that are fine.
+
+use crate::tokens::Tokens;
+use std::alloc::{AllocError, Global};
+use std::collections::{BTreeMap, HashSet};
+
+/// The names that each object of JavaScript has: a script that keeps documents in an object takes
+/// them for what is there already.
+const TAKEN: [&str; 12] = [
+    "__defineGetter__",
+    "__defineSetter__",
+    "__lookupGetter__",
+    "__lookupSetter__",
+    "__proto__",
+    "constructor",
+    "hasOwnProperty",
+    "isPrototypeOf",
+    "propertyIsEnumerable",
+    "toLocaleString",
+    "toString",
+    "valueOf",
+];
+
+/// What was seen of documents, and what is unwise in them.
+#[derive(Drop)]
+pub struct Notes {
+    alloc: Global,
+    /// The number of the last document of each reference.
+    references: BTreeMap<String, usize>,
+    /// Whether a field has a text, by its number.
+    has_text: Vec<bool>,
+    /// How many documents were taken.
+    pub documents: usize,
+    /// The tokens of all documents, each once.
+    tokens: HashSet<String>,
+    /// What is unwise, in the order in which it was seen.
+    pub warnings: Vec<String>,
+}
+
+impl Notes {
+    /// Of no document.
+    pub fn new(alloc: Global) -> Notes {
+        Notes {
+            alloc,
+            references: BTreeMap::new(alloc),
+            has_text: Vec::new(alloc),
+            documents: 0,
+            tokens: HashSet::new(alloc),
+            warnings: Vec::new(alloc),
+        }
+    }
+
+    /// How many tokens the documents have that differ; those of a document whose place another
+    /// takes, or that is removed, count as well.
+    pub fn token_count(&self) -> usize {
+        self.tokens.len()
+    }
+
+    /// Takes the next document.
+    pub(crate) fn document(
+        &mut self,
+        tokens: &Tokens,
+        reference: &str,
+        values: &[&str],
+    ) -> Result<(), AllocError> {
+        self.documents = self.documents.saturating_add(1);
+        self.reference(reference)?;
+        self.values(tokens, reference, values)
+    }
+
+    /// Takes the reference of a document.
+    fn reference(&mut self, reference: &str) -> Result<(), AllocError> {
+        let number = self.documents;
+        let key = String::from_str(self.alloc, reference)?;
+        if let Some(before) = self.references.insert(key, number)? {
+            let said = format!(in self.alloc;
+                "document {number} (\"{reference}\") takes the place of document {before}, which has its reference"
+            )?;
+            self.warnings.push(said)?;
+        }
+        if TAKEN.contains(&reference) {
+            let why =
+                "each object of JavaScript has a property of this name, so the script of browsers fails on it";
+            let said = format!(in self.alloc; "document {number} (\"{reference}\"): {why}")?;
+            self.warnings.push(said)?;
+        }
+        Ok(())
+    }
+
+    /// Takes the values of a document.
+    fn values(
+        &mut self,
+        tokens: &Tokens,
+        reference: &str,
+        values: &[&str],
+    ) -> Result<(), AllocError> {
+        let number = self.documents;
+        let mut has_token = false;
+        for (field, value) in values.iter().enumerate() {
+            let is_filled = !value.is_empty();
+            match self.has_text.get_mut(field) {
+                Some(seen) => *seen = *seen || is_filled,
+                None => self.has_text.push(is_filled)?,
+            }
+            has_token = self.take_tokens(tokens.of_text(self.alloc, value)?)? || has_token;
+        }
+        if !has_token {
+            let said = format!(in self.alloc;
+                "document {number} (\"{reference}\") has no word that can be found"
+            )?;
+            self.warnings.push(said)?;
+        }
+        Ok(())
+    }
+
+    /// Takes the tokens of a text, and says whether there is one.
+    fn take_tokens(&mut self, tokens: Vec<String>) -> Result<bool, AllocError> {
+        let is_any = !tokens.is_empty();
+        for token in tokens {
+            self.tokens.insert(token)?;
+        }
+        Ok(is_any)
+    }
+
+    /// Takes the end of the documents, and the fields.
+    pub(crate) fn end(&mut self, fields: &[&str]) -> Result<(), AllocError> {
+        if self.documents == 0 {
+            self.warnings.push(String::from_str(
+                self.alloc,
+                "the index is empty: there is no document",
+            )?)?;
+            return Ok(());
+        }
+        for (number, field) in fields.iter().enumerate() {
+            if !matches!(self.has_text.get(number), Some(true)) {
+                let said = format!(in self.alloc;
+                    "no document has a text in the field \"{field}\""
+                )?;
+                self.warnings.push(said)?;
+            }
+        }
+        Ok(())
+    }
+}

@@ -22,6 +22,7 @@ use elasticlunr::laws::calls::an_index_makes_what_its_language_makes;
 use elasticlunr::{Index, IndexBuilder, IndexError};
 use serde_json::Value;
 use std::alloc::{AllocError, Global};
+use std::mem;
 
 /// The text of an index.
 fn text_of(index: &Index<AnyLanguage>, pretty: bool) -> Result<String, IndexError>
@@ -52,7 +53,8 @@ pub(crate) fn line_of(index: &Index<AnyLanguage>, pretty: bool) -> Result<String
     Ok(text)
 }
 
-/// Does to a new index all that the job commands: its text then, and a line feed.
+/// Does to a new index all that the job commands: its text then, and a line feed. The memory of the
+/// index isn't given back piece by piece: whoever asks for a text of a job ends with it.
 fn fill_and_print(mut index: Index<AnyLanguage>, job: &Job<'_>) -> Result<String, Stop>
     ensures fits { OnOk result (Fits (fields_of index) (job_told job.now).docs) }
     ensures ok { IfOk result (λ text. (language : AnyLanguage)
@@ -71,10 +73,13 @@ fn fill_and_print(mut index: Index<AnyLanguage>, job: &Job<'_>) -> Result<String
     if job.compact {
         index.compact()?;
     }
-    line_of(&index, job.pretty)
+    let text = line_of(&index, job.pretty);
+    mem::forget(index);
+    text
 }
 
-/// The text of a job's index, and a line feed. Its texts are not copied, but into the index.
+/// The text of a job's index, and a line feed. Its texts are not copied, but into the index, whose
+/// memory is given back when the process ends.
 pub fn job_line(alloc: Global, job: &Job<'_>) -> Result<String, Stop>
     ensures ok { IfOk result (λ text. IsLineOf (job_told job.now) (string_bytes text)) }
     ensures err { IfErr result (StopsWithReason (FailsAt (job_told job.now))) }

@@ -54,19 +54,19 @@ loop-reference-preserved g c = record {
 }
 
 pub returns-clause-err : goal.returns-clause-err
-returns-clause-err g c = err_more c.line_of.result _ _
+returns-clause-err g c = err_more c.line_of-text.result _ _
     (λ stop memory works. inl (memory (elim c.if-job.branch [
       | then-job+in_ok-compact w ↦ works_then c.loop-reference.index w.compact.new.self c.if-job.index w.index-is w.compact.ensures.fails (c.loop-reference.invariant.works works)
       | else-job w ↦ works_still c.loop-reference.index c.if-job.index w.index-is (c.loop-reference.invariant.works works)
     ])))
-    c.line_of.ensures.err
+    c.line_of-text.ensures.err
 
 pub returns-clause-fits : goal.returns-clause-fits
-returns-clause-fits g c = ok_always c.line_of.result (subst (λ ds. Fits (fields_of c.args.index) (map document_told ds)) c.deref-doc-items.ensures.value
+returns-clause-fits g c = ok_always c.line_of-text.result (subst (λ ds. Fits (fields_of c.args.index) (map document_told ds)) c.deref-doc-items.ensures.value
     (All_whole document_told (λ doc. length doc.values ≤ length (fields_of c.args.index)) c.deref-doc-items.result.now c.loop-doc.doc-index c.loop-doc-test.false c.loop-doc.invariant.fits))
 
 pub returns-clause-ok : goal.returns-clause-ok
-returns-clause-ok g c = ok_more c.line_of.result _ _ (λ text printed language built. elim c.if-job.branch [
+returns-clause-ok g c = ok_more c.line_of-text.result _ _ (λ text printed language built. elim c.if-job.branch [
   | then-job+in_ok-compact w ↦ carried_line (job_told c.args.job.now) language _ _ _ _ _ (string_bytes text)
       (plan_alike language_name (λ z. (goal.PipelineFn-dyn g z).name_text z.1) c.args.index c.if-job.index (same_settings c.args.index c.loop-reference.index w.compact.new.self c.if-job.index w.index-is w.compact.ensures.settings c.loop-reference.invariant.settings))
       built
@@ -82,4 +82,4 @@ returns-clause-ok g c = ok_more c.line_of.result _ _ (λ text printed language b
       (compacted_not language_name (λ z. (goal.PipelineFn-dyn g z).name_text z.1) c.loop-reference.index c.if-job.index c.args.job.now.compact w.index-is w.if-job.false))
       printed
 ])
-    c.line_of.ensures.ok
+    c.line_of-text.ensures.ok

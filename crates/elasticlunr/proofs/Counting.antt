@@ -1,5 +1,5 @@
 -- From the counts of tokens to the postings of a field.
-use Rattle.std.proofs.Common.{◌≡◌, ◌≢◌, ◌⊎◌, inl, inr, ℕ, zero, suc, ◌+◌, ◌<◌, List, [], ◌∷◌, ◌++◌, length, map, get_or, arith, Bool, true, false, cond, Option, None, Some, unwrap_or, bytes_eq, String, Global, string_bytes, refl, sym, ap, subst, ◌∙◌}
+use Rattle.std.proofs.Common.{◌≡◌, ◌≢◌, ◌⊎◌, inl, inr, ℕ, zero, suc, ◌+◌, ◌<◌, List, [], ◌∷◌, ◌++◌, length, map, get_or, arith, Bool, true, false, cond, Option, None, Some, unwrap_or, bytes_eq, String, Global, string_bytes, refl, sym, ap, subst, ◌∙◌, append-nil, append_assoc}
 use Rattle.std.specs.Prelude.{IsSomeAnd, IsTrue, Contains, count_by, string_cmp}
 use Rattle.std.specs.List.{slice_get}
 use Rattle.std.proofs.Math.ListN.{set}
@@ -15,11 +15,11 @@ use Rattle.std.proofs.lemmas.Map.Text.{is_eq-slice_cmp}
 use Rattle.std.proofs.lemmas.Map.Entries.{lookup_from_place, place_from_lookup}
 use Rattle.std.proofs.lemmas.Map.Keys.{IsDistinct-from_sorted}
 use Rattle.elasticlunr_text.specs.Text.{Text, Bytes, text_of, texts_of}
-use Rattle.elasticlunr_trie.specs.Table.{Table, knows, posting, IsPrefix, AddsToken}
+use Rattle.elasticlunr_trie.specs.Table.{Table, knows, posting, IsPrefix, AddsToken, AreChanged, additions}
 use Rattle.elasticlunr.specs.Root.{IsRoot}
 use Rattle.elasticlunr.specs.Standing.{IsPosting}
 use Rattle.elasticlunr.specs.Entered.{BeginsOne, ReplacesPostings}
-use Rattle.elasticlunr.specs.Counted.{StandsIn, counted_texts, AreCounts, BeginsCounted, IsPosted, IsLeft, Posts}
+use Rattle.elasticlunr.specs.Counted.{StandsIn, counted_texts, AreCounts, AreRooted, BeginsCounted, IsPosted, IsLeft, Posts}
 use Rattle.elasticlunr.proofs.Adding.{same, apart, either}
 use Rattle.elasticlunr.proofs.Pairing.{FoundIn, early, late, found, set_here}
 use Rattle.elasticlunr.proofs.Removing.{count_step, counted_stands, stands_counted}
@@ -232,3 +232,21 @@ module _ (tokens : List (String Global)) (counts : BTreeMap (String Global) ℕ)
       let was : old ≡ before = cc (is, eb) in
       let becomes : new ≡ after = cc (set_here tables i new inside, ea) in
       replaces_from_posts before after reference none (subst (λ t. Posts t after reference (counted_texts counts.entries)) was (subst (λ t. Posts old t reference (counted_texts counts.entries)) becomes posted))
+
+-- one more rooted token
+pub rooted_more : (counts roots : List (Text × ℕ)) (t u : Text) (n m : ℕ) → AreRooted counts roots → u ≡ t → IsRoot n m → AreRooted (counts ++ (t, n) ∷ []) (roots ++ (u, m) ∷ [])
+rooted_more [] [] t u n m so_far same is = (same, is, tt)
+rooted_more [] (m2 ∷ roots) t u n m so_far same is = absurd so_far
+rooted_more (n2 ∷ counts) [] t u n m so_far same is = absurd so_far
+rooted_more (n2 ∷ counts) (m2 ∷ roots) t u n m so_far same is = (so_far.0, so_far.1, rooted_more counts roots t u n m so_far.2 same is)
+
+-- the roots are set behind what is posted
+pub posts_all : (old mid new : Table) (reference : Bytes) (done counts roots : List (Text × ℕ)) → Posts old mid reference done → AreRooted counts roots → AreChanged (additions reference roots) mid new → Posts old new reference (done ++ counts)
+posts_all old mid new reference done [] [] so_far are same = subst (λ T. Posts old T reference (done ++ [])) (sym same) (subst (Posts old mid reference) (sym (append-nil done)) so_far)
+posts_all old mid new reference done [] (m ∷ roots) so_far are changed = absurd are
+posts_all old mid new reference done (n ∷ counts) [] so_far are changed = absurd are
+posts_all old mid new reference done (n ∷ counts) (m ∷ roots) so_far are changed =
+    let next = posts_more old mid changed.0 reference done n.0 n.1 m.1 so_far are.1
+    (λ given. subst (λ t. AddsToken mid changed.0 t reference m.1) are.0 (changed.1.0 (λ is. given (sym are.0 ∙ is))))
+    (λ empty. changed.1.1 (are.0 ∙ empty)) in
+    subst (Posts old new reference) (append_assoc done (n ∷ []) counts) (posts_all old changed.0 new reference (done ++ n ∷ []) counts roots next are.2 changed.2)

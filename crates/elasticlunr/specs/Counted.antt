@@ -1,5 +1,5 @@
 -- Tokens with how often they stand, and the postings that these make; for private clauses.
-use Rattle.std.specs.Prelude.{◌≡◌, ◌≢◌, ℕ, List, [], map, Some, IsSomeAnd, IsTrue, slice_get, unwrap_or, count_by, ◌↔◌, ◌⊎◌, String, string_bytes}
+use Rattle.std.specs.Prelude.{◌≡◌, ◌≢◌, ℕ, List, [], ◌∷◌, ⊤, map, Some, IsSomeAnd, IsTrue, slice_get, unwrap_or, count_by, ◌↔◌, ◌⊎◌, String, string_bytes}
 use Rattle.std.specs.BTreeMap.{BTreeMap, get_by_text}
 use Rattle.std.specs.Str.{bytes_eq}
 use Rattle.std.specs.declared.alloc.Global.{Global}
@@ -14,6 +14,13 @@ StandsIn xs x = (i : ℕ) × (slice_get xs i ≡ Some x)
 -- strings with their counts, as texts with their counts
 abbrev pub counted_texts : List (String Global × ℕ) → List (Text × ℕ)
 counted_texts entries = map (λ e. (text_of e.0, e.1)) entries
+
+-- as many tokens, each with the root of its count
+abbrev pub AreRooted : List (Text × ℕ) → List (Text × ℕ) → Type 0
+AreRooted [] [] = ⊤
+AreRooted [] (m ∷ ms) = ⊥
+AreRooted (n ∷ ns) [] = ⊥
+AreRooted (n ∷ ns) (m ∷ ms) = (m.0 ≡ n.0) × IsRoot n.1 m.1 × AreRooted ns ms
 
 -- the map has how often each text stands among the tokens
 pub record AreCounts (tokens : List (String Global)) (counts : BTreeMap (String Global) ℕ) : Type 0 where

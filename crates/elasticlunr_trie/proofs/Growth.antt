@@ -118,6 +118,13 @@ module _ (root : Pairs) (nodes : List Node) (trie : IsTrie root nodes) (root2 : 
   branch_grown = grown (c ∷ cs) front (step_of root nodes) (step_of root2 nodes2) (length nodes) p trie.forest (blank_steps root nodes) leads
       (λ d rest e. let letter : c ≡ d = (cc) in subst (λ x. value_of (children_at root nodes p) x ≡ None) letter free) branch_attached
 
+  -- where a text led, it still leads
+  pub branch_paths : (s : Text) (q : Place) → walk (step_of root nodes) Root s ≡ Some q → walk (step_of root2 nodes2) Root s ≡ Some q
+  branch_paths s q e = elim (branch_grown.others s) [
+    | inl same ↦ same ∙ e
+    | inr new ↦ let none : walk (step_of root nodes) Root s ≡ None = new.3 in absurd (cc)
+  ]
+
   leaf_sorted : (j : ℕ) → IsStrictlySorted (children_of (slice_get (made.leaf ∷ []) j))
   leaf_sorted zero = subst IsStrictlySorted (sym made.no_children) none_sorted
   leaf_sorted (suc j) = none_sorted

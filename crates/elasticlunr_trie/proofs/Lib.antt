@@ -14,6 +14,7 @@ pub mod Tables
 pub mod Branches
 pub mod Adding
 pub mod Settled
+pub mod Starts
 pub mod Named
 pub mod Gathered
 pub mod Naming

@@ -36,6 +36,10 @@ module _ (root : Pairs) (nodes : List Node) (trie : IsTrie root nodes) (nodes2 :
   pub same_steps : step_of root nodes ≡ step_of root nodes2
   same_steps = λ i. λ q d. value_of (sym (children q) i) d
 
+  -- where a text led, it still leads
+  pub settled_paths : (t : Text) (p : Place) → walk (step_of root nodes) Root t ≡ Some p → walk (step_of root nodes2) Root t ≡ Some p
+  settled_paths t p e = sym (ap (λ step. walk step Root t) same_steps) ∙ e
+
   pub settled_trie : IsTrie root nodes2
   settled_trie = record {
     in_order = λ q. subst IsStrictlySorted (sym (children q)) (trie.in_order q);

@@ -14,6 +14,7 @@ pub mod Nodes
 pub mod Trie
 pub mod NodeTables
 pub mod Branch
+pub mod Starts
 pub mod Finished
 pub mod Reading
 pub mod Same

@@ -1,7 +1,8 @@
 -- What an inverted index stands for: a table of texts and postings.
-use Rattle.std.specs.Prelude.{◌≡◌, ◌≢◌, ◌↔◌, ◌⊎◌, ℕ, ◌^◌, ◌<◌, Bool, true, List, [], ◌∷◌, ◌++◌, Option, Some, None, IsTrue, unwrap_or, nat_eq, String}
+use Rattle.std.specs.Prelude.{◌≡◌, ◌≢◌, ◌↔◌, ◌⊎◌, ℕ, ◌^◌, ◌<◌, Bool, true, List, [], ◌∷◌, ◌++◌, Option, Some, None, IsTrue, unwrap_or, nat_eq, map, String}
 use Rattle.std.specs.declared.alloc.Global.{Global}
-use Rattle.std.specs.Str.{all_scalars, IsUtf8}
+use Rattle.std.specs.Borrow.{Bor}
+use Rattle.std.specs.Str.{all_scalars, chars, IsUtf8}
 use Rattle.std.specs.FinMap.{FinMap, get, contains_key, empty, insert}
 use Rattle.elasticlunr_text.specs.Text.{Text, Bytes, text_cmp}
 use Rattle.elasticlunr_json.specs.Maps.{seen, same_map}
@@ -72,6 +73,14 @@ IsChanged (remove t r) old new = RemovesToken old new t r
 abbrev pub AreChanged : List Change → Table → Table → Type 0
 AreChanged [] old new = new ≡ old
 AreChanged (change ∷ changes) old new = (between : Table) × IsChanged change old between × AreChanged changes between new
+
+-- tokens with their frequencies
+abbrev pub told_tokens : List (Bor Bytes × ℕ) → List (Text × ℕ)
+told_tokens tokens = map (λ t. (chars t.0.now, t.1)) tokens
+
+-- for each token, the change that sets its posting of the reference r
+abbrev pub additions : Bytes → List (Text × ℕ) → List Change
+additions r tokens = map (λ t. add t.0 r t.1) tokens
 
 -- one of the changes sets a posting of t
 abbrev pub IsAdded : Text → List Change → Type 0

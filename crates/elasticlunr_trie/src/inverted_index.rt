@@ -3,7 +3,7 @@ ghost use Rattle.std.specs.FinMap.{get as get_postings, len};
 ghost use Rattle.std.specs.Prelude.{◌≡◌, ◌↔◌, [], None, IsTrue, IfOk, IfErr, IsOk, OnOk, OnErr, IsOkUnless, false, unwrap_or, is_some, ◌≢◌};
 ghost use Rattle.std.specs.Str.{chars};
 ghost use Rattle.elasticlunr_text.specs.Text.{Text, Bytes};
-ghost use Rattle.elasticlunr_trie.specs.Table.{Table, new_table, knows, posting, postings, IsTable, AddsToken, RemovesToken, same_tables};
+ghost use Rattle.elasticlunr_trie.specs.Table.{Table, new_table, knows, posting, postings, IsTable, AddsToken, RemovesToken, AreChanged, additions, told_tokens, same_tables};
 ghost use Rattle.elasticlunr_trie.specs.Copied.{copied_postings};
 ghost use Rattle.serde_json.specs.View.{view};
 ghost use Rattle.elasticlunr_json.specs.Refused.{IsRefused};
@@ -26,6 +26,7 @@ mod read;
 mod references;
 mod remove;
 mod same;
+mod starts;
 mod value;
 mod write;
 
@@ -39,6 +40,7 @@ use read::{only_member, read_nodes};
 use remove::{remove_posting, remove_postings};
 use same::same_below;
 use serde_json::{Map, Value};
+use starts::{Start, add_starts, starts_of};
 use std::alloc::Global;
 use std::collections::BTreeMap;
 use std::marker::Model;
@@ -128,8 +130,30 @@ impl InvertedIndex {
             &mut self.names,
             &mut self.references,
             doc_ref,
-            token,
-            term_freq,
+            Start::new(token, term_freq),
+        )?;
+        Ok(())
+    }
+
+    /// Sets the postings of several tokens, one after the other. An empty token changes nothing.
+    ///
+    /// The tokens are walked side by side, so that what one walk waits for memory is used by the
+    /// others: in a large trie this takes less time than a call for each. Where memory is wanting,
+    /// some of the postings may be set.
+    pub fn add_tokens(&mut self, doc_ref: &str, tokens: &[(&str, u64)]) -> Result<(), IndexError>
+        ensures ok { OnOk result (AreChanged (additions doc_ref.now (told_tokens tokens.now)) self.old self.new) }
+        ensures memory { IsOkUnless result Memory }
+    {
+        let alloc = *self.nodes.allocator();
+        let starts = starts_of(alloc, &self.root, &self.nodes, tokens)?;
+        add_starts(
+            alloc,
+            &mut self.root,
+            &mut self.nodes,
+            &mut self.names,
+            &mut self.references,
+            doc_ref,
+            &starts,
         )?;
         Ok(())
     }

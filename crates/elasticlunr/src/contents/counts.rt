@@ -2,12 +2,13 @@
 ghost use Rattle.std.specs.Prelude.{IfOk, OnOk, IsOkUnless, string_cmp};
 ghost use Rattle.std.specs.BTreeMap.{IsOrdered};
 ghost use Rattle.elasticlunr_text.specs.declared.error.IndexError.TheVariants.{Memory};
-ghost use Rattle.elasticlunr.specs.Counted.{AreCounts, counted_texts, Posts};
+ghost use Rattle.elasticlunr_trie.specs.Table.{told_tokens};
+ghost use Rattle.elasticlunr.specs.Counted.{AreCounts, AreRooted, counted_texts, Posts};
 
 use crate::rooted::root;
-use elasticlunr_text::IndexError;
 use elasticlunr_trie::InvertedIndex;
-use std::alloc::Global;
+use elasticlunr_text::IndexError;
+use std::alloc::{AllocError, Global};
 use std::collections::BTreeMap;
 
 /// How often each text stands among the tokens.
@@ -22,9 +23,25 @@ pub fn count_tokens(alloc: Global, tokens: Vec<String>) -> Result<BTreeMap<Strin
     Ok(counts)
 }
 
+/// Each counted token with the root of its count.
+fn rooted_counts<'a>(
+    alloc: Global,
+    counts: &'a BTreeMap<String, u64>,
+) -> Result<Vec<(&'a str, u64)>, AllocError>
+    ensures ordered { IsOrdered string_cmp counts.now }
+    ensures rooted { IfOk result (λ v. AreRooted (counted_texts counts.now.entries) (told_tokens v.items)) }
+{
+    let mut rooted = Vec::with_capacity(alloc, counts.len())?;
+    for (token, count) in counts.iter() {
+        rooted.push((token.as_str(), root(*count)))?;
+    }
+    Ok(rooted)
+}
+
 /// Gives the reference a posting at each counted token: the root of its count. The empty text gets
 /// none.
 pub fn add_postings(
+    alloc: Global,
     trie: &mut InvertedIndex,
     doc_ref: &str,
     counts: &BTreeMap<String, u64>,
@@ -33,8 +50,6 @@ pub fn add_postings(
     ensures ordered { IsOrdered string_cmp counts.now }
     ensures posted { OnOk result (Posts trie.old trie.new doc_ref.now (counted_texts counts.now.entries)) }
 {
-    for (token, count) in counts.iter() {
-        trie.add_token(doc_ref, token.as_str(), root(*count))?;
-    }
-    Ok(())
+    let rooted = rooted_counts(alloc, counts)?;
+    trie.add_tokens(doc_ref, &rooted)
 }

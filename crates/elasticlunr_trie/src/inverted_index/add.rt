@@ -8,11 +8,13 @@ ghost use Rattle.elasticlunr_trie.specs.Names.{AreNames};
 ghost use Rattle.elasticlunr_trie.specs.Nodes.{AreListed, SetsNumber, SameNodes, SamePostings, SetsPosting};
 ghost use Rattle.elasticlunr_trie.specs.Trie.{children_at, step_of, walk, IsIndex};
 ghost use Rattle.elasticlunr_trie.specs.NodeTables.{node_table, AddsBelow};
+ghost use Rattle.elasticlunr_trie.specs.Starts.{IsStart, KeepsPaths};
 
 use super::branch::{attach, locate, new_branch};
 use super::lists::{list_new, list_node};
 use super::names::Names;
 use super::nodes::{Node, Place, Reference, postings_at};
+use super::starts::Start;
 use std::alloc::{AllocError, Global};
 
 // Sets a posting of a node.
@@ -72,6 +74,8 @@ fn grow(
     ensures index { IsIndex root.new.items nodes.new.items names.new references.new.items }
     ensures ok { OnOk result (AddsBelow place root.old nodes.old (node_table root.old nodes.old names.old)
         (node_table root.new nodes.new names.new) (c ∷ chars rest.now) doc_ref.now term_freq) }
+    ensures paths { OnOk result (KeepsPaths (step_of root.old.items nodes.old.items)
+        (step_of root.new.items nodes.new.items)) }
     ensures err { OnErr result (node_table root.new nodes.new names.new ≡ node_table root.old nodes.old names.old) }
 {
     let number = names.enter(doc_ref)?;
@@ -82,7 +86,7 @@ fn grow(
     Ok(())
 }
 
-// Sets the posting of a token.
+// Sets the posting of a token. The paths that were there stay.
 pub(super) fn add_posting(
     alloc: Global,
     root: &mut Vec<(char, u32)>,
@@ -90,17 +94,19 @@ pub(super) fn add_posting(
     names: &mut Names,
     references: &mut Vec<Reference>,
     doc_ref: &str,
-    token: &str,
-    term_freq: u64,
+    start: Start<'_>,
 ) -> Result<(), AllocError>
     requires index { IsIndex root.old.items nodes.old.items names.old references.old.items }
-    requires not_empty { chars token.now ≢ [] }
+    requires start { IsStart (step_of root.old.items nodes.old.items) start }
+    requires not_empty { chars start.token.now ≢ [] }
     ensures index { IsIndex root.new.items nodes.new.items names.new references.new.items }
     ensures ok { OnOk result (AddsToken (node_table root.old nodes.old names.old)
-        (node_table root.new nodes.new names.new) (chars token.now) doc_ref.now term_freq) }
+        (node_table root.new nodes.new names.new) (chars start.entry.token.now) doc_ref.now start.entry.frequency) }
+    ensures paths { OnOk result (KeepsPaths (step_of root.old.items nodes.old.items)
+        (step_of root.new.items nodes.new.items)) }
     ensures err { OnErr result (node_table root.new nodes.new names.new ≡ node_table root.old nodes.old names.old) }
 {
-    let (place, rest) = locate(root, nodes, token);
+    let (place, rest) = locate(root, nodes, start);
     let mut letters = rest.chars();
     match letters.next() {
         Some(c) => {
@@ -114,14 +120,14 @@ pub(super) fn add_posting(
                 c,
                 letters.as_str(),
                 doc_ref,
-                term_freq,
+                start.frequency,
             )?;
             Ok(())
         }
         None => match place {
             Place::Root => Ok(()),
             Place::At(k) => {
-                set_posting(alloc, names, references, nodes, k, doc_ref, term_freq)?;
+                set_posting(alloc, names, references, nodes, k, doc_ref, start.frequency)?;
                 Ok(())
             }
         },

@@ -4,22 +4,26 @@ ghost use Rattle.std.specs.Str.{chars, IsUtf8};
 ghost use Rattle.elasticlunr_trie.specs.Pairs.{value_of, IsStrictlySorted};
 ghost use Rattle.elasticlunr_trie.specs.Nodes.{children_of, SameNodes};
 ghost use Rattle.elasticlunr_trie.specs.Trie.{children_at, step_of, IsTrie};
+ghost use Rattle.elasticlunr_trie.specs.Starts.{IsStart};
 ghost use Rattle.elasticlunr_trie.specs.Branch.{IsBranch, HasBranch, GainsChild, GainsNextChild, KeepsOtherChildren, IsLocated, SameTrie, Grows, IsPlace};
 
 use super::few::Few;
 use super::nodes::{Node, Place, child, children_at, gap, short_number};
 use super::postings::Postings;
+use super::starts::Start;
 use std::alloc::{AllocError, Global};
 
-// Where the longest known beginning of a token leads, and what follows it.
-pub(super) fn locate<'a>(root: &[(char, u32)], nodes: &[Node], token: &'a str) -> (Place, &'a str)
-    requires { IsTrie root.now nodes.now }
-    ensures at { IsLocated (step_of root.now nodes.now) (chars token.now) result.0 (chars result.1.now) }
+// Where the longest known beginning of a token leads, and what follows it, from a shorter one on.
+pub(super) fn locate<'a>(root: &[(char, u32)], nodes: &[Node], start: Start<'a>) -> (Place, &'a str)
+    requires trie { IsTrie root.now nodes.now }
+    requires start { IsStart (step_of root.now nodes.now) start }
+    ensures at { IsLocated (step_of root.now nodes.now) (chars start.entry.token.now) result.0
+        (chars result.1.now) }
     ensures text { IsUtf8 result.1.now }
 {
-    let mut place = Place::Root;
-    let mut rest = token;
-    let mut letters = token.chars();
+    let mut place = start.place;
+    let mut rest = start.rest;
+    let mut letters = start.rest.chars();
     while let Some(c) = letters.next() {
         match child(children_at(root, nodes, place), c) {
             Some(k) => {

@@ -9,7 +9,7 @@ ghost use Rattle.elasticlunr_trie.specs.Trie.{look, IsTrie};
 ghost use Rattle.elasticlunr_trie.specs.Copied.{copied_postings};
 ghost use Rattle.elasticlunr_trie.specs.Table.{postings_of};
 
-use super::names::Names;
+use super::names::{NameTexts, Names};
 use super::nodes::{Node, Place, find, postings_at};
 use super::posting::Posting;
 use std::alloc::{AllocError, Global};
@@ -79,7 +79,7 @@ fn with_ranks(
 // Postings in the order of their names, each as the rank of its name, the number and the frequency.
 pub(super) fn in_order(
     alloc: Global,
-    names: &Names,
+    names: &NameTexts,
     ranks: &[usize],
     pairs: &[Posting],
 ) -> Result<Vec<(usize, usize, u64)>, AllocError>

@@ -97,6 +97,55 @@ impl Names {
     }
 }
 
+/// Names alone, side by side in memory, since printing reads one for each posting.
+///
+/// A clause sees them as it sees `Names`.
+#[derive(Drop)]
+pub(super) struct NameTexts {
+    texts: Vec<String>,
+}
+
+impl Model for NameTexts {
+    ghost use Rattle.std.specs.Coded.{coded_ℕ, coded_list};
+    ghost use Rattle.elasticlunr_trie.specs.Names as names;
+
+    ghost Value = { names.Names };
+
+    ghost coded = { coded_list (coded_list coded_ℕ) };
+
+    ghost view = { λ a. names.names_of a.texts.items };
+}
+
+impl NameTexts {
+    /// A copy of names, in memory of its own.
+    pub fn of(alloc: Global, names: &Names) -> Result<Self, AllocError>
+        ensures { IfOk result (λ texts. texts ≡ names.now) }
+    {
+        Ok(NameTexts {
+            texts: copies(alloc, &names.in_order)?,
+        })
+    }
+
+    /// The name of a number.
+    pub fn name(&self, number: usize) -> &str
+        requires { number < length self.now }
+        ensures { slice_get self.now number ≡ Some result.now }
+    {
+        &self.texts[number]
+    }
+}
+
+// Copies of strings.
+fn copies(alloc: Global, strings: &[String]) -> Result<Vec<String>, AllocError>
+    ensures { IfOk result (λ v. names_of v.items ≡ names_of strings.now) }
+{
+    let mut copies = Vec::with_capacity(alloc, strings.len())?;
+    for string in strings {
+        copies.push(string.clone()?)?;
+    }
+    Ok(copies)
+}
+
 // Gives a name the next number.
 fn add_name(
     in_order: &mut Vec<String>,

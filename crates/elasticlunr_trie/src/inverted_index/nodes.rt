@@ -1,7 +1,7 @@
 //! The numbered nodes of a trie, and where a path leads.
 ghost use Rattle.std.specs.Prelude.{◌≡◌, ◌<◌, length, None, IfSome, IfOk, IfErr, slice_get};
 ghost use Rattle.std.specs.Str.{chars};
-ghost use Rattle.elasticlunr_trie.specs.Pairs.{value_of, IsStrictlySorted, IsAt, IsGapFor};
+ghost use Rattle.elasticlunr_trie.specs.Pairs.{value_of, IsStrictlySorted, IsAt, IsGapFor, IsPlaceFor};
 ghost use Rattle.elasticlunr_trie.specs.Names.{at, Names, AreNumbered};
 ghost use Rattle.elasticlunr_trie.specs.Nodes.{children_of, postings_at, AreAllNumbered};
 ghost use Rattle.elasticlunr_trie.specs.Trie.{children_at, step_of, table_of, walk, IsTrie};
@@ -72,13 +72,45 @@ pub(super) fn children_at<'a>(
     }
 }
 
+// So many children are counted; more of them are searched by halves.
+const COUNTED: usize = 16;
+
+// How many children come before a character. At each of a search's halves the processor guesses which it is, and waits where it guessed wrong; a count has no guesses.
+fn count_before(children: &[(char, u32)], c: char) -> usize
+    requires { IsStrictlySorted children.now }
+    ensures { IsPlaceFor children.now c result }
+{
+    let mut count = 0;
+    for &(k, _) in children {
+        count += usize::from(k < c);
+    }
+    count
+}
+
+// Where the child under a character is among many, or where it would go.
+fn search_by_halves(children: &[(char, u32)], c: char) -> Result<usize, usize>
+    requires { IsStrictlySorted children.now }
+    ensures found { IfOk result (IsAt children.now c) }
+    ensures absent { IfErr result (IsGapFor children.now c) }
+{
+    children.binary_search_by_key(&c, |&(k, _)| k)
+}
+
 // Where the child under a character is, or where it would go.
 fn search(children: &[(char, u32)], c: char) -> Result<usize, usize>
     requires { IsStrictlySorted children.now }
     ensures found { IfOk result (IsAt children.now c) }
     ensures absent { IfErr result (IsGapFor children.now c) }
 {
-    children.binary_search_by_key(&c, |&(k, _)| k)
+    if children.len() > COUNTED {
+        return search_by_halves(children, c);
+    }
+    let at = count_before(children, c);
+    if at < children.len() && children[at].0 == c {
+        Ok(at)
+    } else {
+        Err(at)
+    }
 }
 
 // The number of the child under a character.

@@ -13,7 +13,7 @@ ghost use Rattle.elasticlunr_trie.specs.Tree.{frequencies, IsTree};
 ghost use Rattle.elasticlunr_trie.specs.Finished.{HasChildren, KeepsOtherValues, IsNode};
 
 use super::docs::in_order;
-use super::names::Names;
+use super::names::{NameTexts, Names};
 use super::nodes::Node;
 use elasticlunr_json::put_member;
 use serde_json::{Map, Value};
@@ -22,7 +22,7 @@ use std::alloc::{AllocError, Global};
 // The value of postings.
 fn docs_value(
     alloc: Global,
-    names: &Names,
+    names: &NameTexts,
     ranked: &[(usize, usize, u64)],
 ) -> Result<Value, AllocError>
     requires there { AreThere names.now ranked.now }
@@ -117,7 +117,7 @@ fn root_value(
     alloc: Global,
     root: &[(char, u32)],
     nodes: &[Node],
-    names: &Names,
+    names: &NameTexts,
     ranks: &[usize],
     finished: &mut [Value],
 ) -> Result<Value, AllocError>
@@ -156,9 +156,10 @@ pub(super) fn tree_value(
     ensures { IfOk result (λ v. IsTree (table_of root.now nodes.now names.now) [] (view v)) }
 {
     let ranks = names.ranks(alloc)?;
+    let texts = NameTexts::of(alloc, names)?;
     let mut finished = Vec::with_capacity(alloc, nodes.len())?;
     for _ in nodes {
         finished.push(Value::Null)?;
     }
-    root_value(alloc, root, nodes, names, &ranks, &mut finished)
+    root_value(alloc, root, nodes, &texts, &ranks, &mut finished)
 }

@@ -15,7 +15,7 @@ ghost use Rattle.elasticlunr_json.specs.Tokens.{tokens_of};
 
 use super::InvertedIndex;
 use super::docs::in_order;
-use super::names::Names;
+use super::names::NameTexts;
 use super::nodes::{Node, Place, children_of, postings_at};
 use super::postings::Postings;
 use elasticlunr_json::{Token, Tokens};
@@ -33,13 +33,13 @@ enum Left<'a> {
 #[derive(Clone, Copy)]
 struct Order<'a> {
     alloc: Global,
-    names: &'a Names,
+    names: &'a NameTexts,
     ranks: &'a [usize],
 }
 
 impl InvertedIndex {
-    /// Writes the JSON value of the trie, without making it. Takes 8 bytes of memory a reference
-    /// and a few a level, beside what is written, and 24 for each posting of the node that is
+    /// Writes the JSON value of the trie, without making it. Takes 32 bytes of memory a reference
+    /// and a copy of its name, and a few a level, beside what is written, and 24 for each posting of the node that is
     /// written. The names are put in order once, and each node's postings by them.
     pub fn write<W: Tokens>(&self, out: &mut W) -> Result<(), AllocError>
         ensures written { OnOk result ((v : Data) × IsTrieValue self.now v
@@ -48,9 +48,10 @@ impl InvertedIndex {
     {
         let alloc = *self.nodes.allocator();
         let ranks = self.names.ranks(alloc)?;
+        let names = NameTexts::of(alloc, &self.names)?;
         let order = Order {
             alloc,
-            names: &self.names,
+            names: &names,
             ranks: &ranks,
         };
         write_trie(order, &self.root, &self.nodes, out)
@@ -238,7 +239,7 @@ fn write_docs<W: Tokens>(order: Order, postings: &Postings, out: &mut W) -> Resu
 
 // Writes postings, each as the rank of its name, the number and the frequency.
 fn write_ranked<W: Tokens>(
-    names: &Names,
+    names: &NameTexts,
     ranked: &[(usize, usize, u64)],
     out: &mut W,
 ) -> Result<(), AllocError>

@@ -1,4 +1,6 @@
-use Rattle.std.proofs.Common.{Result, Ok, Err, OnErr, sym, ◌∙◌, length}
+use Rattle.std.proofs.Common.{◌≡◌, ℕ, [], Result, Ok, Err, OnErr, sym, ap, ◌∙◌, length}
+use Rattle.std.specs.Str.{chars}
+use Rattle.elasticlunr_text.specs.Text.{Text}
 use Rattle.std.proofs.lemmas.Bool.{eqb-true, eq-eqb}
 use mathlib.Core.Bool.{false≢true}
 use Rattle.elasticlunr_trie.proofs.Letters.{some_character, no_character}
@@ -14,6 +16,7 @@ returns-then-is_empty-clause-ok c some = absurd (some (no_character _ (eqb-true 
 -- a token that is not empty has a character
 pub add_posting-requires-clause-not_empty : goal.add_posting-requires-clause-not_empty
 add_posting-requires-clause-not_empty c none =
+    let none : chars c.args.token.now ≡ [] = sym (ap (λ (t : Text × ℕ). t.0) c.new.ensures.told) ∙ none in
     absurd (false≢true (c.if-is_empty.ensures ∙ eq-eqb (length c.args.token.now) 0 (some_character c.args.token.now c.utf8.token none)))
 
 pub returns-in_err-add_posting-clause-empty_token : goal.returns-in_err-add_posting-clause-empty_token

@@ -8,3 +8,6 @@ returns-clause-table g c = subst IsTable c.self.view_is (nodes_table c.self.insi
 
 pub returns-in_err-ranks-clause-table : goal.returns-in_err-ranks-clause-table
 returns-in_err-ranks-clause-table g c = subst IsTable c.self.view_is (nodes_table c.self.inside.root.items c.self.inside.nodes.items c.self.invariant.trie c.self.inside.names c.self.inside.references.items c.self.invariant)
+
+pub returns-in_err-names-clause-table : goal.returns-in_err-names-clause-table
+returns-in_err-names-clause-table g c = subst IsTable c.self.view_is (nodes_table c.self.inside.root.items c.self.inside.nodes.items c.self.invariant.trie c.self.inside.names c.self.inside.references.items c.self.invariant)

@@ -8,7 +8,7 @@ use Rattle.elasticlunr_trie.specs.Trie.{step_of, table_of}
 use Rattle.elasticlunr_trie.specs.declared.inverted_index.nodes.Place.TheVariants.{Root, At}
 use Rattle.elasticlunr_trie.proofs.Forest.{within, rises}
 use Rattle.elasticlunr_trie.proofs.Letters.{first_read, nothing_read}
-use Rattle.elasticlunr_trie.proofs.Settled.{settled_trie, settled_parents, unseen, posting_added}
+use Rattle.elasticlunr_trie.proofs.Settled.{settled_trie, settled_parents, settled_paths, unseen, posting_added}
 use Rattle.elasticlunr_trie.proofs.inverted_index.add.add_posting.Goals as goal
 
 on_err : {T E : Type 0} (r : Result T E) (P : Type 0) → P → OnErr r P
@@ -40,7 +40,7 @@ returns-in_ok-grow-in-Some-clause-ok c =
     let at = rw (c.deref.ensures.value, c.deref-2.ensures.value) at c.locate-place.ensures.at in
     let first = first_read _ _ c.as_str.result.now c.in-Some.c c.locate-place.ensures.text c.chars-letters.ensures.rest (c.in-Some.ensures.steps.0 ∙ ap (λ t. encode_utf8 c.in-Some.c ++ t) (sym c.as_str.ensures)) in
     let whole = at.split ∙ ap (λ t. at.known ++ t) first in
-    subst (λ t. AddsToken (table_of c.args.root.now.items c.args.nodes.now.items c.args.names.now) (table_of c.grow.new.root.items c.grow.new.nodes.items c.grow.new.names) t c.args.doc_ref.now c.args.term_freq) (sym whole)
+    subst (λ t. AddsToken (table_of c.args.root.now.items c.args.nodes.now.items c.args.names.now) (table_of c.grow.new.root.items c.grow.new.nodes.items c.grow.new.names) t c.args.doc_ref.now c.args.start.frequency) (sym whole)
     (c.in_ok-grow-in-Some.ensures.ok at.known at.leads)
 
 -- the empty token alone leads to the root
@@ -78,5 +78,8 @@ returns-in_ok-set_posting-in-At-clause-ok c =
     let whole = at.split ∙ ap (λ t. at.known ++ t) end ∙ append-nil at.known in
     let place = at.leads ∙ ap Some c.in-At.is in
     let in_range = within (step_of c.args.root.now.items c.args.nodes.now.items) (length c.args.nodes.now.items) c.requires.index.trie.forest at.known Root (At c.in-At.k) (omega arith) place in
-    subst (λ t. AddsToken (table_of c.args.root.now.items c.args.nodes.now.items c.args.names.now) (table_of c.args.root.now.items c.set_posting.new.nodes.items c.set_posting.new.names) t c.args.doc_ref.now c.args.term_freq) (sym whole)
-    (posting_added c.args.root.now.items c.args.nodes.now.items c.requires.index.trie c.args.names.now c.set_posting.new.names c.set_posting.new.nodes.items c.in-At.k c.args.doc_ref.now c.args.term_freq c.in_ok-set_posting-in-At.ensures.ok at.known in_range place)
+    subst (λ t. AddsToken (table_of c.args.root.now.items c.args.nodes.now.items c.args.names.now) (table_of c.args.root.now.items c.set_posting.new.nodes.items c.set_posting.new.names) t c.args.doc_ref.now c.args.start.frequency) (sym whole)
+    (posting_added c.args.root.now.items c.args.nodes.now.items c.requires.index.trie c.args.names.now c.set_posting.new.names c.set_posting.new.nodes.items c.in-At.k c.args.doc_ref.now c.args.start.frequency c.in_ok-set_posting-in-At.ensures.ok at.known in_range place)
+
+pub returns-in_ok-set_posting-in-At-clause-paths : goal.returns-in_ok-set_posting-in-At-clause-paths
+returns-in_ok-set_posting-in-At-clause-paths c = settled_paths c.args.root.now.items c.args.nodes.now.items c.requires.index.trie _ c.in_ok-set_posting-in-At.ensures.ok.shape

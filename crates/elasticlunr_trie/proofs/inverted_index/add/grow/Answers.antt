@@ -7,7 +7,7 @@ use Rattle.elasticlunr_trie.specs.Branch.{IsBranch}
 use Rattle.elasticlunr_trie.specs.declared.inverted_index.nodes.Place.TheVariants.{Root}
 use Rattle.elasticlunr_trie.proofs.Forest.{within}
 use Rattle.elasticlunr_trie.proofs.Added.{names_entered, length-entered, number-below}
-use Rattle.elasticlunr_trie.proofs.Growth.{branch_trie, branch_parents, branch_listed, branch_added}
+use Rattle.elasticlunr_trie.proofs.Growth.{branch_trie, branch_parents, branch_listed, branch_added, branch_paths}
 use Rattle.elasticlunr_trie.proofs.Unseen.{kept_index, kept_table, keeps_same, same_trie, kept_at, branch_length}
 use Rattle.elasticlunr_trie.proofs.inverted_index.add.grow.Goals as goal
 
@@ -60,6 +60,13 @@ returns-clause-ok c = λ front leads.
     let made = subst (λ n. IsBranch n (chars c.args.rest.now) c.in_ok-number.number c.args.term_freq c.in_ok-branch.branch.items) number c.in_ok-branch.ensures in
     branch_added c.args.root.now.items c.args.nodes.now.items c.requires.index.trie _ _ c.args.place front c.args.c (chars c.args.rest.now) c.in_ok-number.number c.args.term_freq c.in_ok-branch.branch.items leads c.requires.free c.in_ok-attach.ensures.ok made c.requires.letters
     c.args.names.now c.enter.new.self c.args.doc_ref.now c.in_ok-number.ensures.number (kept_at c.args.root.now.items c.args.nodes.now.items c.args.names.now c.args.references.now.items c.requires.index.listed c.args.doc_ref.now c.enter.new.self c.in_ok-number.ensures.names)
+
+-- no path that was there is new
+pub returns-clause-paths : goal.returns-clause-paths
+returns-clause-paths c =
+    let number : c.len-first.result + 1 ≡ suc (length c.args.nodes.now.items) = omega (arith, c.len-first.ensures, c.args.nodes.now.ok.0) in
+    let made = subst (λ n. IsBranch n (chars c.args.rest.now) c.in_ok-number.number c.args.term_freq c.in_ok-branch.branch.items) number c.in_ok-branch.ensures in
+    branch_paths c.args.root.now.items c.args.nodes.now.items c.requires.index.trie _ _ c.args.place c.requires.leads.0 c.args.c (chars c.args.rest.now) c.in_ok-number.number c.args.term_freq c.in_ok-branch.branch.items c.requires.leads.1 c.requires.free c.in_ok-attach.ensures.ok made c.requires.letters
 
 pub returns-in_err-branch-clause-index : goal.returns-in_err-branch-clause-index
 returns-in_err-branch-clause-index c =

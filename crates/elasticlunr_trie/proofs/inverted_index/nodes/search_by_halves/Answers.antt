@@ -1,7 +1,7 @@
 use Rattle.std.proofs.Common.{rules}
 use Rattle.std.proofs.lemmas.List.Sorted.{answers_always}
 use Rattle.elasticlunr_trie.proofs.Gap.{searched}
-use Rattle.elasticlunr_trie.proofs.inverted_index.nodes.search.Goals as goal
+use Rattle.elasticlunr_trie.proofs.inverted_index.nodes.search_by_halves.Goals as goal
 
 -- the closure gives a value_of's character
 pub returns : goal.returns

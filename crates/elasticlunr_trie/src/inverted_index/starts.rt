@@ -1,0 +1,141 @@
+//! Tokens that are walked side by side. A walk of one token waits for memory at each of its characters; the walks of several don't wait for one another.
+ghost use Rattle.std.specs.Prelude.{◌≡◌, map, All, IfOk, OnOk};
+ghost use Rattle.std.specs.Str.{chars};
+ghost use Rattle.elasticlunr_trie.specs.Table.{AreChanged, IsChanged, additions, told_tokens};
+ghost use Rattle.elasticlunr_trie.specs.Table.Change.{add};
+ghost use Rattle.elasticlunr_trie.specs.Trie.{Step, step_of, IsTrie, IsIndex};
+ghost use Rattle.elasticlunr_trie.specs.NodeTables.{node_table};
+ghost use Rattle.elasticlunr_trie.specs.Starts.{IsStart, KeepsPaths, told};
+
+use super::add::add_posting;
+use super::names::Names;
+use super::nodes::{Node, Place, Reference, child, children_at};
+use std::alloc::{AllocError, Global};
+
+// How many characters of each token are walked side by side. What follows them is mostly a path without branches.
+const STEPS: usize = 5;
+
+/// A token and its frequency, where a beginning of the token leads, and what follows that.
+#[derive(Clone, Copy)]
+pub(super) struct Start<'a> {
+    pub token: &'a str,
+    pub frequency: u64,
+    pub place: Place,
+    pub rest: &'a str,
+}
+
+impl<'a> Start<'a> {
+    /// The empty beginning, which leads to the root.
+    pub fn new(token: &'a str, frequency: u64) -> Self
+        ensures start { (step : Step) → IsStart step result }
+        ensures told { told result ≡ (chars token.now, frequency) }
+    {
+        Start {
+            token,
+            frequency,
+            place: Place::Root,
+            rest: token,
+        }
+    }
+}
+
+// One character further, if there is a child under it.
+fn step<'a>(root: &[(char, u32)], nodes: &[Node], start: Start<'a>) -> Start<'a>
+    requires trie { IsTrie root.now nodes.now }
+    requires start { IsStart (step_of root.now nodes.now) start }
+    ensures start { IsStart (step_of root.now nodes.now) result }
+    ensures told { told result ≡ told start.entry }
+{
+    let mut letters = start.rest.chars();
+    let Some(c) = letters.next() else {
+        return start;
+    };
+    match child(children_at(root, nodes, start.place), c) {
+        Some(k) => Start {
+            token: start.token,
+            frequency: start.frequency,
+            place: Place::At(k),
+            rest: letters.as_str(),
+        },
+        None => start,
+    }
+}
+
+// Each one character further.
+fn step_all(root: &[(char, u32)], nodes: &[Node], starts: &mut [Start<'_>])
+    requires trie { IsTrie root.now nodes.now }
+    requires starts { All (IsStart (step_of root.now nodes.now)) starts.old }
+    ensures starts { All (IsStart (step_of root.now nodes.now)) starts.new }
+    ensures told { map told starts.new ≡ map told starts.old }
+{
+    for i in 0..starts.len() {
+        starts[i] = step(root, nodes, starts[i]);
+    }
+}
+
+// Tokens with their frequencies, a few characters on.
+pub(super) fn starts_of<'a>(
+    alloc: Global,
+    root: &[(char, u32)],
+    nodes: &[Node],
+    tokens: &[(&'a str, u64)],
+) -> Result<Vec<Start<'a>>, AllocError>
+    requires { IsTrie root.now nodes.now }
+    ensures starts { IfOk result (λ v. All (IsStart (step_of root.now nodes.now)) v.items) }
+    ensures told { IfOk result (λ v. map told v.items ≡ told_tokens tokens.now) }
+{
+    let mut starts = Vec::with_capacity(alloc, tokens.len())?;
+    for &(token, frequency) in tokens {
+        starts.push(Start::new(token, frequency))?;
+    }
+    for _ in 0..STEPS {
+        step_all(root, nodes, &mut starts);
+    }
+    Ok(starts)
+}
+
+// Sets the posting of a token, unless it is empty.
+fn add_start(
+    alloc: Global,
+    root: &mut Vec<(char, u32)>,
+    nodes: &mut Vec<Node>,
+    names: &mut Names,
+    references: &mut Vec<Reference>,
+    doc_ref: &str,
+    start: Start<'_>,
+) -> Result<(), AllocError>
+    requires index { IsIndex root.old.items nodes.old.items names.old references.old.items }
+    requires start { IsStart (step_of root.old.items nodes.old.items) start }
+    ensures index { IsIndex root.new.items nodes.new.items names.new references.new.items }
+    ensures ok { OnOk result (IsChanged (add (chars start.entry.token.now) doc_ref.now start.entry.frequency)
+        (node_table root.old nodes.old names.old) (node_table root.new nodes.new names.new)) }
+    ensures paths { OnOk result (KeepsPaths (step_of root.old.items nodes.old.items)
+        (step_of root.new.items nodes.new.items)) }
+{
+    if start.token.is_empty() {
+        return Ok(());
+    }
+    add_posting(alloc, root, nodes, names, references, doc_ref, start)
+}
+
+// Sets the postings of tokens, one after the other.
+pub(super) fn add_starts(
+    alloc: Global,
+    root: &mut Vec<(char, u32)>,
+    nodes: &mut Vec<Node>,
+    names: &mut Names,
+    references: &mut Vec<Reference>,
+    doc_ref: &str,
+    starts: &[Start<'_>],
+) -> Result<(), AllocError>
+    requires index { IsIndex root.old.items nodes.old.items names.old references.old.items }
+    requires starts { All (IsStart (step_of root.old.items nodes.old.items)) starts.now }
+    ensures index { IsIndex root.new.items nodes.new.items names.new references.new.items }
+    ensures ok { OnOk result (AreChanged (additions doc_ref.now (map told starts.now))
+        (node_table root.old nodes.old names.old) (node_table root.new nodes.new names.new)) }
+{
+    for start in starts {
+        add_start(alloc, root, nodes, names, references, doc_ref, *start)?;
+    }
+    Ok(())
+}

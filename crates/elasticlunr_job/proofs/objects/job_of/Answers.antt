@@ -5,7 +5,7 @@ use Rattle.elasticlunr_job.specs.ObjectsTold.{object_told, options_told, texts_t
 use Rattle.elasticlunr_job.proofs.objects.job_of.Goals as goal
 
 pub returns : goal.returns
-returns c = 
+returns c =
     let objects = c.args.objects.now in
     let fields = ap texts_told (c.in_ok-from_slice.ensures.items ∙ c.deref.ensures.value) in
     let docs = c.loop-object.invariant ∙ ap (map object_told) (take_all c.loop-object.object-index objects c.loop-object-test.false) in

@@ -1,7 +1,7 @@
 use Rattle.std.proofs.Common.{◌≡◌, ◌<◌, ◌≤◌, ◌+◌, ℕ, get_or, arith}
 use Rattle.serde_json.specs.View.{view}
 use Rattle.elasticlunr_job.specs.JobKeys.{key_place}
-use Rattle.elasticlunr_job.specs.declared.fault.Fault.TheVariants.{Member}
+use Rattle.elasticlunr_job.specs.declared.fault.Fault.TheVariants.{Member, Missing}
 use Rattle.elasticlunr_job.specs.declared.key.Key.{Key}
 use Rattle.elasticlunr_job.specs.declared.key.Key.TheVariants.{Fields}
 use Rattle.elasticlunr_job.proofs.JobFaults.{all_places, fault_no_job, first_member_fault, first_missing_fault, if_none, job_from, place_in}
@@ -26,3 +26,6 @@ returns-in_err-key-clause-job c = if_none c.from_residual.result (job_from (view
 
 pub returns-clause-some : goal.returns-clause-some
 returns-clause-some c = first_missing_fault (view c.args.value.now) c.in_ok-key.key c.in_default.ensures.none (all_places (view c.args.value.now) c.keys_in_order-key-items.result c.loop-key.key-index c.keys_in_order-key-items.ensures c.loop-key-test.false c.loop-key.invariant) c.in_ok-key.ensures.some
+
+pub returns-clause-no_job : goal.returns-clause-no_job
+returns-clause-no_job c = fault_no_job (view c.args.value.now) (Missing c.in_ok-key.key) (returns-clause-some c).has

@@ -15,3 +15,6 @@ returns-clause-some c = (
       (other_there _ c.in-Some.members.now.entries c.in_ok-key.key.now c.in-Some.ensures c.in_ok-key.ensures),
   refl,
 )
+
+pub returns-clause-none : goal.returns-clause-none
+returns-clause-none c = tt

@@ -22,3 +22,6 @@ returns-clause-tries c =
     let inside : i < length c.loop-trie.trie-items = within_list c.loop-trie.trie-items i after at in
     let done : length c.loop-trie.trie-items ≤ c.loop-trie.trie-index = search rules in
     c.loop-trie.invariant.done i before after (omega (arith, inside, done)) eb at
+
+pub returns-clause-store : goal.returns-clause-store
+returns-clause-store c = cc

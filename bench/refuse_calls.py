@@ -9,7 +9,8 @@ passes if
 - a call that promises to request no memory requests none, between its beginning and its end;
 - each other call, with its first, second and each later request refused, either does without it and gives its
   whole answer, or answers want of memory, and then what stood before it stands after it; where it was
-  `add_doc` of an index, every call but `get_fields` then answers that the index has failed.
+  `add_tokens`, the first of its two tokens may have its posting; where it was `add_doc` of an index, every
+  call but `get_fields` then answers that the index has failed.
 
 And each call that may answer want of memory did so at least once. calls.py says what each call promises. With
 -v each call has a line.
@@ -82,6 +83,14 @@ def after(row, number):
     return ([state], None) if state else ([], [])
 
 
+def partly(program, row, number):
+    """What stands after the first of the two tokens of `add_tokens`."""
+    _, reference, token, _, frequency = json.loads(row.calls[number])
+    first = json.dumps(["add_token", reference, token, frequency], ensure_ascii=False)
+    told, _ = program.run(row.subject, [*row.calls[:number], first, '["to_value"]'])
+    return told if isinstance(told, str) else told.answers[-1]
+
+
 def refuse(program, row, number, wants):
     """Refuses each request of a call of a row in turn: why it is wrong, or None; and how often it wanted memory."""
     shown, answers = after(row, number)
@@ -94,14 +103,17 @@ def refuse(program, row, number, wants):
     if whole.answers[at] != row.answers[number]:
         return f"answered {whole.answers[at]}", 0
     expected = [*whole.answers[:at], wants, *(whole.answers[number:at] if answers is None else answers)]
+    accepted = [expected]
+    if name_of(row.calls[number]) == "add_tokens":
+        accepted.append([*expected[:-1], partly(program, row, number)])
     first, last = counts[at]
     wanting = 0
     for request in range(first + 1, last + 1):
         told, _ = program.run(row.subject, listed, request)
         if isinstance(told, str):
             return f"request {request - first}: {told}", 0
-        wanting += told.answers == expected
-        if told.answers not in (expected, whole.answers):
+        wanting += told.answers in accepted
+        if told.answers not in (*accepted, whole.answers):
             wrong = next(place for place, pair in enumerate(zip(told.answers, expected)) if pair[0] != pair[1])
             return f"request {request - first}: {told.calls[wrong]} -> {told.answers[wrong][:200]}", 0
     return None, wanting

@@ -173,7 +173,7 @@ def speed(original, runs):
             ratio = ratio_to(mine, theirs) if theirs else ratio_to_ours(mine, ours, *beside)
             row = [name, told_run(mine), told_run(theirs) if theirs else "-", ratio]
             print("| " + " | ".join(row) + " |", flush=True)
-    print(f"\nThe fastest of {runs} runs each, with the most memory that it took; the original over {regex_of(original)}.")
+    print(f"\nThe fastest of {runs} runs each, with the most memory that it took; the original over {regex_of(original)}, as `cargo build --release` builds it.")
     return len(ours) - failed, failed
 
 

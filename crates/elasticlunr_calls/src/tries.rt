@@ -68,6 +68,10 @@ impl Subject for Tries {
 fn changed(trie: &mut InvertedIndex, call: &Call<'_>) -> Answer {
     match call.name {
         "add_token" => Answer::done(trie.add_token(call.text(0), call.text(1), call.number())),
+        "add_tokens" => {
+            let tokens = [(call.text(1), call.number()), (call.text(2), call.number())];
+            Answer::done(trie.add_tokens(call.text(0), &tokens))
+        }
         "remove_token" => {
             trie.remove_token(call.text(0), call.text(1));
             Answer::Done

@@ -6,8 +6,8 @@ ghost use Rattle.elasticlunr_trie.specs.Table.{told_tokens};
 ghost use Rattle.elasticlunr.specs.Counted.{AreCounts, AreRooted, counted_texts, Posts};
 
 use crate::rooted::root;
-use elasticlunr_trie::InvertedIndex;
 use elasticlunr_text::IndexError;
+use elasticlunr_trie::InvertedIndex;
 use std::alloc::{AllocError, Global};
 use std::collections::BTreeMap;
 

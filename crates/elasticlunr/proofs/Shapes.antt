@@ -1,11 +1,11 @@
 -- What is read of a printed text has the parts that it was printed of.
-use Rattle.std.proofs.Common.{◌≡◌, ℕ, suc, List, [], ◌∷◌, length, arith, Option, None, Some, codes, true, refl, sym, ap, subst, ◌∙◌}
+use Rattle.std.proofs.Common.{◌≡◌, ℕ, suc, List, [], ◌∷◌, arith, Option, None, Some, codes, refl, sym, subst, ◌∙◌}
 use Rattle.std.specs.Prelude.{IsSomeAnd, All}
 use Rattle.std.specs.List.{AllZip}
 use Rattle.elasticlunr_text.specs.Text.{Bytes}
 use Rattle.elasticlunr_store.specs.Table.{Table, IsTable}
 use Rattle.elasticlunr_store.specs.Tree.{IsTrieValue}
-use Rattle.elasticlunr_store.specs.Contents.{Contents, IsStoreValue, store_value}
+use Rattle.elasticlunr_store.specs.Contents.{Contents, IsStoreValue}
 use Rattle.serde_json.specs.Data.{Data, array, string}
 use Rattle.serde_json.specs.Find.{get}
 use Rattle.serde_json.specs.Read.{read}
@@ -14,7 +14,7 @@ use Rattle.elasticlunr.specs.Printed.{texts, IsPrintOf}
 use Rattle.elasticlunr.specs.Shape.{HasFields, HasTrie, HasTries, HasStore, HasLanguage, HasParts, ArePartsOf}
 use Rattle.elasticlunr.specs.Standing.{Plan, Holds}
 use Rattle.elasticlunr.proofs.Calling.{one_zip}
-use Rattle.elasticlunr.proofs.Held.{fields_held, store_held, tries_held, language_held}
+use Rattle.elasticlunr.proofs.Held.{fields_held, store_held, tries_held}
 use Rattle.elasticlunr.proofs.Telling.{HasOneTable, HasOneContents, same_texts}
 
 both_of : (P Q : Data → Type 0) (o : Option Data) → IsSomeAnd o P → IsSomeAnd o Q → (x : Data) × P x × Q x

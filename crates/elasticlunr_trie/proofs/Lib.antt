@@ -36,3 +36,4 @@ pub mod Removing
 pub mod Marks
 pub mod Compact
 pub mod Changes
+pub mod Written

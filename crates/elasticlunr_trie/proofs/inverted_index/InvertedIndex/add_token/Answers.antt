@@ -1,6 +1,9 @@
-use Rattle.std.proofs.Common.{Result, Ok, Err, OnErr, sym, ◌∙◌, length}
+use Rattle.std.proofs.Common.{Result, Ok, Err, OnErr, sym, subst, ◌∙◌, length}
 use Rattle.std.proofs.lemmas.Bool.{eqb-true, eq-eqb}
 use mathlib.Core.Bool.{false≢true}
+use Rattle.std.specs.Str.{chars}
+use Rattle.elasticlunr_trie.specs.Table.{AddsToken}
+use Rattle.elasticlunr_trie.specs.NodeTables.{node_table}
 use Rattle.elasticlunr_trie.proofs.Letters.{some_character, no_character}
 use Rattle.elasticlunr_trie.proofs.inverted_index.InvertedIndex.add_token.Goals as goal
 
@@ -26,3 +29,7 @@ returns-in_err-add_posting-clause-err c = on_err c.from_residual.result _ (c.in_
 pub returns-clause-empty_token : goal.returns-clause-empty_token
 returns-clause-empty_token c none =
     absurd (false≢true (c.if-is_empty.ensures ∙ eq-eqb (length c.args.token.now) 0 (some_character c.args.token.now c.utf8.token none)))
+
+pub returns-clause-ok : goal.returns-clause-ok
+returns-clause-ok c _ =
+    subst (λ T. AddsToken T (node_table c.add_posting.new.root c.add_posting.new.nodes c.add_posting.new.names) (chars c.args.token.now) c.args.doc_ref.now c.args.term_freq) c.self.view_is c.in_ok-add_posting.ensures.ok

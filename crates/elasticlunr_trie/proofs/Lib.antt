@@ -37,3 +37,4 @@ pub mod Removing
 pub mod Marks
 pub mod Compact
 pub mod Changes
+pub mod Written

@@ -12,3 +12,6 @@ returns-clause-whole c =
 
 pub returns-clause-small : goal.returns-clause-small
 returns-clause-small c = small_boosts (options_of c.args.self.now)
+
+pub returns-clause-value : goal.returns-clause-value
+returns-clause-value c = c.in_ok-whole_value.ensures ∙ ap (options_object (bool_value c.args.self.now.bool) (boolean c.args.self.now.expand)) c.in_ok-fields.ensures

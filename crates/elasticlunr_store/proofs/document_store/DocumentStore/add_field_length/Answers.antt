@@ -1,5 +1,5 @@
-use Rattle.std.proofs.Common.{sym, subst, arith}
-use Rattle.elasticlunr_store.specs.Contents.{IsConsistent, contents_of, document_texts, document_lengths}
+use Rattle.std.proofs.Common.{ap, sym, subst, ◌∙◌, arith}
+use Rattle.elasticlunr_store.specs.Contents.{IsConsistent, with_length, contents_of, document_texts, document_lengths}
 use Rattle.elasticlunr_store.specs.SmallLengths.{HasSmallLengths}
 use Rattle.elasticlunr_store.proofs.AreContents.{are_contents, small_lengths}
 use Rattle.elasticlunr_store.proofs.Kept.{length_kept, length_small}
@@ -12,3 +12,8 @@ invariant_of-self-2 c =
     (subst IsConsistent (λ i. record { save = c.self.inside.save; texts = document_texts c.self.inside.docs.entries; lengths = set i })
     (length_kept (contents_of c.self.inside.save c.self.inside.docs.entries c.self.inside.doc_info.entries) c.args.doc_ref.now c.args.field.now c.args.length c.self.invariant.consistent))
     (subst HasSmallLengths set (length_small (document_lengths c.self.inside.doc_info.entries) c.args.doc_ref.now c.args.field.now c.args.length (omega arith) (small_lengths _ c.self.invariant)))
+
+pub returns-clause-ok : goal.returns-clause-ok
+returns-clause-ok c =
+    let set = c.in_ok-set_length.ensures.ok in
+    (λ i. record { save = c.self.inside.save; texts = document_texts c.self.inside.docs.entries; lengths = set i }) ∙ ap (λ s. with_length s c.args.doc_ref.now c.args.field.now c.args.length) c.self.view_is

@@ -1,4 +1,5 @@
-use Rattle.std.proofs.Common.{rules, ◌≢◌, IsSomeAnd, subst, ap, sym, ◌∙◌}
+use Rattle.std.proofs.Common.{◌≢◌, IsSomeAnd, subst, ap, sym, ◌∙◌}
+use mathlib.Core.Bool.{false≢true}
 use Rattle.std.specs.FinMap.{get, len, empty}
 use Rattle.serde_json.specs.Data.{object, string}
 use Rattle.elasticlunr_store.specs.Contents.{IsConsistent, contents_of, store_members, store_object, text_map, document_texts, document_lengths}
@@ -8,6 +9,7 @@ use Rattle.elasticlunr_json.proofs.Sorted.{len_seen}
 use Rattle.elasticlunr_store.proofs.Values.{same_parts}
 use Rattle.elasticlunr_json.proofs.ReadingMaps.{object_of, count_of, bool_of, not_both}
 use Rattle.elasticlunr_store.proofs.document_store.DocumentStore.from_value.Goals as goal
+use Rattle.elasticlunr_store.proofs.document_store.DocumentStore.from_value.Goals.{else-not-save-via-then-not-save+else-has_text, else-not-save-via-else-not-save}
 
 pub returns-then-len-length-clause-foreign : goal.returns-then-len-length-clause-foreign
 returns-then-len-length-clause-foreign c other rule is =
@@ -37,10 +39,22 @@ returns-clause-ok c =
 
 pub invariant_of-result : goal.invariant_of-result
 invariant_of-result c =
-    let consistent : IsConsistent (contents_of c.in-Some-as_bool.save c.in_ok-docs.docs.entries c.in_ok-doc_info.doc_info.entries) = search rules in
+    let consistent : IsConsistent (contents_of c.in-Some-as_bool.save c.in_ok-docs.docs.entries c.in_ok-doc_info.doc_info.entries) = record {
+      has_lengths = c.if-has_empty.ensures.no;
+      unsaved = λ unsaved r. elim c.else-not-save.branch [
+        | else-not-save-via-then-not-save+else-has_text w ↦ w.if-has_text.ensures.no r
+        | else-not-save-via-else-not-save w ↦ absurd (false≢true (sym unsaved ∙ w.if-not-save.false))
+      ];
+    } in
     are_contents c.in-Some-as_bool.save c.in_ok-docs.docs.entries c.in_ok-doc_info.doc_info.entries consistent c.in_ok-doc_info.ensures.small
 
 pub returns-clause-contents : goal.returns-clause-contents
 returns-clause-contents c =
-    let consistent : IsConsistent (contents_of c.in-Some-as_bool.save c.in_ok-docs.docs.entries c.in_ok-doc_info.doc_info.entries) = search rules in
+    let consistent : IsConsistent (contents_of c.in-Some-as_bool.save c.in_ok-docs.docs.entries c.in_ok-doc_info.doc_info.entries) = record {
+      has_lengths = c.if-has_empty.ensures.no;
+      unsaved = λ unsaved r. elim c.else-not-save.branch [
+        | else-not-save-via-then-not-save+else-has_text w ↦ w.if-has_text.ensures.no r
+        | else-not-save-via-else-not-save w ↦ absurd (false≢true (sym unsaved ∙ w.if-not-save.false))
+      ];
+    } in
     are_contents c.in-Some-as_bool.save c.in_ok-docs.docs.entries c.in_ok-doc_info.doc_info.entries consistent c.in_ok-doc_info.ensures.small

@@ -1,8 +1,14 @@
-use Rattle.std.proofs.Common.{subst, inl}
+use Rattle.std.proofs.Common.{Result, Ok, Err, IfErr, subst, inl, inr}
+use Rattle.serde_json.specs.View.{view}
+use Rattle.elasticlunr_place.specs.declared.place.Place.{Place}
 use Rattle.elasticlunr_input.specs.Forms.{FailsInput, IsNotJson}
 use Rattle.elasticlunr_input.specs.Inputs.{IsInput}
+use Rattle.elasticlunr_input.specs.RefusedPlaces.{IfPlaced, IsArrayPlace, IsInputPlace}
 use Rattle.elasticlunr_input.specs.Settled.{settings_told}
+use Rattle.elasticlunr_input.specs.declared.form.Form.TheVariants as form
+use Rattle.elasticlunr_input.specs.declared.message.Trouble.{Trouble}
 use Rattle.elasticlunr_input.proofs.IndexLemmas.{job_line, array_line, lines_line, job_refused, array_refused, lines_refused}
+use Rattle.elasticlunr_input.proofs.LinePlaces.{placed_for}
 use Rattle.elasticlunr_input.proofs.Refusals.{refused_again}
 use Rattle.elasticlunr_input.proofs.index.index_text.Goals as goal
 
@@ -40,3 +46,14 @@ pub returns-in-Lines-clause-err : goal.returns-in-Lines-clause-err
 returns-in-Lines-clause-err c =
     lines_refused c.args.form (settings_told c.args.settings.now) c.args.text.now c.text_of_lines.result
     (subst (IsInput c.args.form c.args.text.now) c.in-Lines.is c.in_ok-value.ensures.ok) c.text_of_lines.ensures.err
+
+placed_as : (P Q : Place → Type 0) {T : Type 0} (r : Result T Trouble) → ((place : Place) → P place → Q place) → IfErr r (IfPlaced P) → IfErr r (IfPlaced Q)
+placed_as P Q (Ok x) more is = tt
+placed_as P Q (Err e) more is = placed_for P Q e more is
+
+pub returns-in-Objects-clause-place : goal.returns-in-Objects-clause-place
+returns-in-Objects-clause-place c =
+    let settings = settings_told c.args.settings.now in
+    let there = subst (IsInput c.args.form c.args.text.now) c.in-Objects.is c.in_ok-value.ensures.ok in
+    placed_as (IsArrayPlace settings c.args.text.now (view c.in-Objects.value)) (IsInputPlace c.args.form settings c.args.text.now) c.text_of_array.result
+    (λ place is. inr (form.Objects, there.0, (view c.in-Objects.value, there.1, is))) c.text_of_array.ensures.place

@@ -1,8 +1,7 @@
-use Rattle.std.proofs.Common.{◌≡◌, Bool, true, ℕ, Option, Some, None, eqb, refl, sym, ap, ◌∙◌}
+use Rattle.std.proofs.Common.{◌≡◌, true, ℕ, Option, Some, None, eqb, refl, sym, ap, ◌∙◌}
 use mathlib.Core.Bool.{false≢true}
 use Rattle.std.specs.Option.{option_eq}
 use Rattle.std.proofs.lemmas.Bool.{eq-eqb, eqb-true}
-use Rattle.elasticlunr_text.specs.Text.{Bytes}
 use Rattle.elasticlunr_trie.specs.Names.{at}
 use Rattle.elasticlunr_trie.proofs.inverted_index.same.same_posting.Goals as goal
 

@@ -137,8 +137,8 @@ impl InvertedIndex {
 
     /// Sets the postings of several tokens, one after the other. An empty token changes nothing.
     ///
-    /// The tokens are walked side by side, so that what one walk waits for memory is used by the
-    /// others: in a large trie this takes less time than a call for each. Where memory is wanting,
+    /// The tokens are walked side by side: while one walk waits for memory, the others go on, so
+    /// that in a large trie this takes less time than a call for each. Where memory is wanting,
     /// some of the postings may be set.
     pub fn add_tokens(&mut self, doc_ref: &str, tokens: &[(&str, u64)]) -> Result<(), IndexError>
         ensures ok { OnOk result (AreChanged (additions doc_ref.now (told_tokens tokens.now)) self.old self.new) }

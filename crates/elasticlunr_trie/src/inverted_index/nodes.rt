@@ -75,7 +75,8 @@ pub(super) fn children_at<'a>(
 // So many children are counted; more of them are searched by halves.
 const COUNTED: usize = 16;
 
-// How many children come before a character. At each of a search's halves the processor guesses which it is, and waits where it guessed wrong; a count has no guesses.
+// How many children come before a character. At each half of a search the processor guesses which
+// it is, and waits where it guessed wrong; a count has no guesses.
 fn count_before(children: &[(char, u32)], c: char) -> usize
     requires { IsStrictlySorted children.now }
     ensures { IsPlaceFor children.now c result }

@@ -1,4 +1,5 @@
-//! Tokens that are walked side by side. A walk of one token waits for memory at each of its characters; the walks of several don't wait for one another.
+//! Tokens that are walked side by side. A walk of one token waits for memory at each of its
+//! characters; the walks of several don't wait for one another.
 ghost use Rattle.std.specs.Prelude.{◌≡◌, map, All, IfOk, OnOk};
 ghost use Rattle.std.specs.Str.{chars};
 ghost use Rattle.elasticlunr_trie.specs.Table.{AreChanged, IsChanged, additions, told_tokens};
@@ -12,7 +13,8 @@ use super::names::Names;
 use super::nodes::{Node, Place, Reference, child, children_at};
 use std::alloc::{AllocError, Global};
 
-// How many characters of each token are walked side by side. What follows them is mostly a path without branches.
+// How many characters of each token are walked side by side. What follows them is mostly a path
+// without branches.
 const STEPS: usize = 5;
 
 /// A token and its frequency, where a beginning of the token leads, and what follows that.

@@ -3,7 +3,7 @@ use Rattle.std.proofs.Common.{◌≡◌, false, ◌||◌, List, [], ◌∷◌, r
 use Rattle.std.specs.FinMap as finite
 use Rattle.serde_json.specs.Data.{Data}
 use Rattle.serde_json.specs.Written.{has_float, members_have_float}
-use Rattle.elasticlunr_text.specs.Text.{Bytes, text_cmp}
+use Rattle.elasticlunr_error.specs.Text.{Bytes, text_cmp}
 use Rattle.elasticlunr_json.specs.Maps.{members, keyed}
 
 module _ {X : Type 0} (value : X → Data) where

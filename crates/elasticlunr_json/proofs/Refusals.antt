@@ -1,7 +1,7 @@
 -- Refusals.
 use Rattle.std.proofs.Common.{IfOk, refl, ◌≡◌, Result, Ok, Err, IfErr, IsErrAnd, sym, subst}
-use Rattle.elasticlunr_text.specs.declared.error.IndexError.{IndexError}
-use Rattle.elasticlunr_text.specs.declared.error.IndexError.TheVariants.{DuplicateField, TooManyValues, BadClass, ForeignValue, Failed, Memory}
+use Rattle.elasticlunr_error.specs.declared.error.IndexError.{IndexError}
+use Rattle.elasticlunr_error.specs.declared.error.IndexError.TheVariants.{DuplicateField, TooManyValues, BadClass, ForeignValue, Failed, Memory}
 use Rattle.elasticlunr_json.specs.Refused.{IsRefused, IsAnswer}
 
 -- a refusal for another reason

@@ -9,7 +9,7 @@ use Rattle.std.specs.BTreeMap.{is_at, get_by_text}
 use Rattle.std.proofs.lemmas.Cmp.{nat_list_cmp_total}
 use Rattle.std.proofs.lemmas.Map.Text.{is_eq-slice_cmp}
 use Rattle.std.specs.FinMap as finite
-use Rattle.elasticlunr_text.specs.Text.{Bytes, text_cmp}
+use Rattle.elasticlunr_error.specs.Text.{Bytes, text_cmp}
 use Rattle.elasticlunr_json.specs.Maps.{seen}
 use Rattle.elasticlunr_json.proofs.Texts.{text_tie, text_tied}
 

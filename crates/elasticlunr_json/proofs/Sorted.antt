@@ -13,7 +13,7 @@ use Rattle.serde_json.specs.View.{view}
 use Rattle.serde_json.specs.declared.value.Value.{the_lemmas}
 use Rattle.serde_json.specs.declared.value.Value as Value
 use Rattle.elasticlunr_json.proofs.Texts.{text_tied}
-use Rattle.elasticlunr_text.specs.Text.{Bytes, text_cmp}
+use Rattle.elasticlunr_error.specs.Text.{Bytes, text_cmp}
 use Rattle.elasticlunr_json.specs.Maps.{members, keyed, seen}
 
 -- a key below all others is below one of them

@@ -5,7 +5,7 @@ use Rattle.std.specs.Str.{bytes_eq}
 use Rattle.std.specs.Cmp.Lexicographic.{pointwise}
 use Rattle.std.specs.FinMap as finite
 use Rattle.serde_json.specs.Data.{Data, number, object, unsigned, Members, no_members, member}
-use Rattle.elasticlunr_text.specs.Text.{Bytes, text_cmp}
+use Rattle.elasticlunr_error.specs.Text.{Bytes, text_cmp}
 
 -- what the entries of a map stand for, each value seen by f
 abbrev pub seen : {X Y : Type 0} → (X → Y) → List (String Global × X) → finite.FinMap text_cmp Y

@@ -3,7 +3,7 @@ use Rattle.std.proofs.Common.{◌≡◌, ◌≢◌, ◌<◌, ◌^◌, ℕ, Bool,
 use Rattle.std.specs.Ordering.{eq_by_cmp}
 use Rattle.std.specs.FinMap as finite
 use Rattle.std.proofs.lemmas.Cmp.{nat_list_cmp_total}
-use Rattle.elasticlunr_text.specs.Text.{Bytes, text_cmp}
+use Rattle.elasticlunr_error.specs.Text.{Bytes, text_cmp}
 use Rattle.elasticlunr_json.proofs.Seen.{filled_map}
 use Rattle.elasticlunr_store.specs.Contents.{Contents, TextMap, LengthMap, IsConsistent, new_contents, with_document, with_length, without_document}
 use Rattle.elasticlunr_store.specs.SmallLengths.{AreSmallLengths, HasSmallLengths}

@@ -10,7 +10,7 @@ use Rattle.serde_json.specs.Data.{Data, null, object, put}
 use Rattle.serde_json.specs.Find.{get_member}
 use Rattle.serde_json.specs.View.{view, members_view}
 use Rattle.serde_json.proofs.Views.{Entry, put_last, get_member-put, get_member-put_other}
-use Rattle.elasticlunr_text.specs.Text.{Bytes}
+use Rattle.elasticlunr_error.specs.Text.{Bytes}
 use Rattle.elasticlunr_store.specs.Options.{FieldMap, IsPart, ReadsAt, ReadsField, ReadsFields}
 use Rattle.elasticlunr_store.specs.declared.config.SearchOptionsField.{SearchOptionsField}
 use Rattle.elasticlunr_json.proofs.Texts.{same_or_not, text_tied, no_tie}

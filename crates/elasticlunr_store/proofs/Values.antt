@@ -3,7 +3,7 @@ use Rattle.std.proofs.Common.{◌≡◌, ℕ, Bool, false, ◌||◌, refl}
 use Rattle.std.specs.FinMap as finite
 use Rattle.serde_json.specs.Data.{string}
 use Rattle.serde_json.specs.Written.{has_float}
-use Rattle.elasticlunr_text.specs.Text.{Bytes, text_cmp}
+use Rattle.elasticlunr_error.specs.Text.{Bytes, text_cmp}
 use Rattle.elasticlunr_store.specs.Contents.{Contents, TextMap, LengthMap, store_object, store_value}
 use Rattle.elasticlunr_json.specs.Maps.{keyed, count}
 use Rattle.elasticlunr_json.proofs.Keyed.{same_keyed, bare_keyed}

@@ -7,7 +7,7 @@ use Rattle.std.specs.Str.{bytes_eq, IsUtf8}
 use Rattle.std.specs.Coded.{Coded, code_by, coded×, coded_ℕ, coded_bool}
 use Rattle.std.specs.FinMap as map
 use Rattle.serde_json.specs.Data.{Data, boolean, string, object, Members, no_members, member}
-use Rattle.elasticlunr_text.specs.Text.{Bytes, text_cmp, text_code}
+use Rattle.elasticlunr_error.specs.Text.{Bytes, text_cmp, text_code}
 use Rattle.elasticlunr_json.specs.Maps.{seen, keyed, count, same_map}
 
 -- from fields to their texts

@@ -1,7 +1,7 @@
 -- Lengths of 64 bits; for private clauses.
 use Rattle.std.specs.Prelude.{◌<◌, ◌^◌, IfSome}
 use Rattle.std.specs.FinMap as map
-use Rattle.elasticlunr_text.specs.Text.{Bytes, text_cmp}
+use Rattle.elasticlunr_error.specs.Text.{Bytes, text_cmp}
 use Rattle.elasticlunr_store.specs.Contents.{LengthMap}
 
 -- each of these lengths has 64 bits

@@ -3,14 +3,14 @@ ghost use Rattle.std.specs.Prelude.{◌≡◌, ◌<◌, ◌^◌, None, false, If
 ghost use Rattle.std.specs.Option.{ForSome};
 ghost use Rattle.serde_json.specs.View.{view};
 ghost use Rattle.serde_json.specs.Written.{has_float};
-ghost use Rattle.elasticlunr_text.specs.declared.error.IndexError.TheVariants.{Memory};
+ghost use Rattle.elasticlunr_error.specs.declared.error.IndexError.TheVariants.{Memory};
 ghost use Rattle.elasticlunr_json.specs.Refused.{IsRefused};
 
 mod read;
 mod same;
 mod value;
 
-use elasticlunr_text::IndexError;
+use elasticlunr_error::IndexError;
 use read::{read_bool, read_expand, read_fields};
 use same::same_fields;
 use serde_json::Value;

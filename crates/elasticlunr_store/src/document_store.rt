@@ -3,7 +3,7 @@
 ghost use Rattle.std.specs.Prelude.{◌≡◌, ◌==◌, false, OnOk, OnErr, IfOk, IfErr, IsOkUnless};
 ghost use Rattle.std.specs.Option.{option_map, option_and_then};
 ghost use Rattle.std.specs.FinMap.{get, contains_key, len};
-ghost use Rattle.elasticlunr_text.specs.declared.error.IndexError.TheVariants.{Memory};
+ghost use Rattle.elasticlunr_error.specs.declared.error.IndexError.TheVariants.{Memory};
 ghost use Rattle.elasticlunr_json.specs.Refused.{IsRefused};
 ghost use Rattle.elasticlunr_store.specs.Contents.{Contents, IsContents, IsConsistent, new_contents, with_document, with_length, without_document, without, field_length, IsStoreValue, text_map, document_texts, document_lengths};
 ghost use Rattle.serde_json.specs.View.{view};
@@ -15,7 +15,7 @@ mod same;
 mod value;
 mod write;
 
-use elasticlunr_text::IndexError;
+use elasticlunr_error::IndexError;
 use put::{put_texts, set_length};
 use read::{has_empty, has_text, read_document_lengths, read_document_texts, store_parts};
 use same::{same_document_lengths, same_document_texts};

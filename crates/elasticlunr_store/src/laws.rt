@@ -2,7 +2,7 @@
 ghost use Rattle.std.specs.Prelude.{◌≡◌, Result, IfOk, IfErr};
 ghost use Rattle.std.specs.Bool.{Decides};
 ghost use Rattle.serde_json.specs.Data.{Data};
-ghost use Rattle.elasticlunr_text.specs.declared.error.IndexError.{IndexError};
+ghost use Rattle.elasticlunr_error.specs.declared.error.IndexError.{IndexError};
 ghost use Rattle.elasticlunr_json.specs.Refused.{IsRefused, IsAnswer};
 ghost use Rattle.elasticlunr_store.specs.Contents.{Contents, IsConsistent, IsStoreValue, same_contents};
 ghost use Rattle.elasticlunr_store.specs.Options.{Options, HasSmallBoosts, ReadsOptions, options_value, same_bool, same_options, same_field};

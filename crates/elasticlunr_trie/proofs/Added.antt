@@ -11,7 +11,7 @@ use Rattle.std.proofs.lemmas.Slice.Eq.{bytes_eq-Decides}
 use Rattle.elasticlunr_trie.specs.Frequencies.{Frequencies}
 use Rattle.elasticlunr_trie.specs.Names.{AreDistinct, AreNames, Names, names_of, number_of, entered, at}
 use Rattle.elasticlunr_trie.specs.Nodes.{postings_at, list_at, has, AreListed, KeepsLists, SetsNumber, SameNodes, SamePostings, SetsPosting}
-use Rattle.elasticlunr_text.specs.Text.{Bytes}
+use Rattle.elasticlunr_error.specs.Text.{Bytes}
 use Rattle.elasticlunr_trie.specs.declared.inverted_index.nodes.Node.{Node}
 use Rattle.elasticlunr_trie.specs.declared.inverted_index.nodes.Reference.{Reference}
 use Rattle.elasticlunr_trie.proofs.Frequencies.{ties}

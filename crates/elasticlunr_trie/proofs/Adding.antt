@@ -1,7 +1,7 @@
 -- A token is added: from nodes to tables.
 use Rattle.std.proofs.Common.{◌≡◌, ◌≢◌, ◌⊎◌, inl, inr, IsTrue, is_some, ℕ, ◌≤◌, List, ◌++◌, Option, Some, None, refl, sym, ap, ◌∙◌}
 use mathlib.Core.Bool.{false≢true}
-use Rattle.elasticlunr_text.specs.Text.{Text, Bytes}
+use Rattle.elasticlunr_error.specs.Text.{Text, Bytes}
 use Rattle.elasticlunr_trie.specs.Table.{knows, posting, IsPrefix, AddsToken}
 use Rattle.elasticlunr_trie.specs.Pairs.{Pairs}
 use Rattle.elasticlunr_trie.specs.Names.{Names, at}

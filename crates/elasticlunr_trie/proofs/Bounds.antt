@@ -2,7 +2,7 @@
 use Rattle.std.proofs.Common.{◌≡◌, ℕ, ◌<◌, ◌^◌, Bool, true, false, List, [], ◌∷◌, Option, Some, None, refl, sym, ◌∙◌}
 use mathlib.Core.Bool.{◌&&◌}
 use Rattle.std.specs.Str.{all_scalars, IsUtf8}
-use Rattle.elasticlunr_text.specs.Text.{Text, Bytes}
+use Rattle.elasticlunr_error.specs.Text.{Text, Bytes}
 use Rattle.elasticlunr_trie.specs.Table.{IsTable, posting}
 use Rattle.elasticlunr_trie.specs.Names.{Names, at}
 use Rattle.elasticlunr_trie.specs.Children.{Children}

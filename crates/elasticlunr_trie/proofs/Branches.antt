@@ -5,7 +5,7 @@ use Rattle.std.proofs.Math.Seq.{get_or-append_seam}
 use Rattle.std.proofs.lemmas.Bool.{cases_lt}
 use Rattle.std.specs.List.{slice_get}
 use Rattle.std.specs.FinMap as map
-use Rattle.elasticlunr_text.specs.Text.{Text}
+use Rattle.elasticlunr_error.specs.Text.{Text}
 use Rattle.elasticlunr_trie.specs.Nodes.{children_of, entries_of}
 use Rattle.elasticlunr_trie.specs.Branch.{IsInner}
 use Rattle.elasticlunr_trie.proofs.Places.{get_before, get_behind}

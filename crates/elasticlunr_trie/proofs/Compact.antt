@@ -2,7 +2,7 @@
 use Rattle.std.proofs.Common.{◌≡◌, ◌⊎◌, ◌↔◌, inl, inr, ℕ, suc, ◌+◌, ◌<◌, ◌≤◌, Bool, false, IsTrue, IsSome, is_some, List, [], ◌∷◌, ◌++◌, length, set, unwrap_or, length-append, get_or, cond, Option, Some, None, option_and_then, refl, sym, ap, subst, ◌∙◌, arith}
 use Rattle.std.proofs.lemmas.Bool.{cases_lt, cases_eq, eq-eqb}
 use Rattle.std.specs.List.{slice_get}
-use Rattle.elasticlunr_text.specs.Text.{Text, Bytes}
+use Rattle.elasticlunr_error.specs.Text.{Text, Bytes}
 use Rattle.elasticlunr_trie.specs.Table.{knows, posting, IsPrefix}
 use Rattle.elasticlunr_trie.specs.Pairs.{IsStrictlySorted, Pairs, value_of}
 use Rattle.elasticlunr_trie.specs.Frequencies.{Frequencies}

@@ -4,7 +4,7 @@ use Rattle.std.specs.List.Sorted.{IsStrictlySortedBy}
 use Rattle.std.specs.Map.{keys_of}
 use Rattle.std.specs.FinMap as map
 use Rattle.serde_json.specs.Data.{Data, put}
-use Rattle.elasticlunr_text.specs.Text.{Bytes}
+use Rattle.elasticlunr_error.specs.Text.{Bytes}
 use Rattle.elasticlunr_trie.specs.Table.{Entries, postings_of}
 use Rattle.elasticlunr_trie.specs.Tree.{frequency, frequencies}
 use Rattle.elasticlunr_json.proofs.Sorted as sorted

@@ -24,7 +24,7 @@ use Rattle.serde_json.specs.View.{view, members_view}
 use Rattle.serde_json.proofs.Views.{get_member-put, get_member-put_other, Entry}
 use Rattle.serde_json.specs.declared.value.Value.{Value}
 use Rattle.std.specs.FinMap as map
-use Rattle.elasticlunr_text.specs.Text.{Text}
+use Rattle.elasticlunr_error.specs.Text.{Text}
 use Rattle.elasticlunr_trie.specs.Table.{knows, postings_of, Entries}
 use Rattle.elasticlunr_trie.specs.Tree.{IsTree, AreParts, IsBelow, HasKeysInOrder, frequencies}
 use Rattle.elasticlunr_trie.specs.Finished.{value_at, HasChildren, IsNode}

@@ -1,7 +1,7 @@
 -- Where the paths of a forest of numbered nodes lead.
 use Rattle.std.proofs.lemmas.Bool.{cases_eq, cases_lt}
 use Rattle.std.proofs.Common.{◌≡◌, ◌≢◌, ◌⊎◌, inl, inr, ℕ, suc, ◌+◌, ◌<◌, ◌≤◌, [], ◌∷◌, ◌++◌, length, Option, Some, None, option_map, option_and_then, refl, sym, ap, subst, ◌∙◌, arith, append-nil, append_assoc, add-zero, le_refl}
-use Rattle.elasticlunr_text.specs.Text.{Text}
+use Rattle.elasticlunr_error.specs.Text.{Text}
 use Rattle.elasticlunr_trie.specs.Trie.{rank, Step, walk, IsForest, HaveOneParent}
 use Rattle.elasticlunr_trie.specs.declared.inverted_index.nodes.Place.{Place}
 use Rattle.elasticlunr_trie.specs.declared.inverted_index.nodes.Place.TheVariants.{Root, At}

@@ -6,7 +6,7 @@ use Rattle.std.specs.List.{slice_get}
 use Rattle.std.specs.Str.{all_scalars}
 use mathlib.Core.Bool.{false≢true, ◌&&◌}
 use Rattle.std.specs.Prelude.{slice_index}
-use Rattle.elasticlunr_text.specs.Text.{Text, Bytes}
+use Rattle.elasticlunr_error.specs.Text.{Text, Bytes}
 use Rattle.elasticlunr_trie.specs.Table.{AddsToken}
 use Rattle.elasticlunr_trie.specs.Pairs.{Pairs, value_of, IsStrictlySorted}
 use Rattle.elasticlunr_trie.specs.Names.{Names, number_of, at}

@@ -9,7 +9,7 @@ use Rattle.std.specs.Map.{keys_of}
 use Rattle.std.specs.FinMap.{find, get, empty, get-empty, get-from_entries}
 use Rattle.std.proofs.lemmas.Cmp.{nat_list_cmp_total}
 use Rattle.std.proofs.lemmas.Map.Text.{is_eq-slice_cmp}
-use Rattle.elasticlunr_text.specs.Text.{Text, Bytes, bytes_of, is_listed, text_cmp}
+use Rattle.elasticlunr_error.specs.Text.{Text, Bytes, bytes_of, is_listed, text_cmp}
 use Rattle.elasticlunr_trie.specs.Table.{Table, Entries, posting, postings_of}
 use Rattle.elasticlunr_trie.proofs.Docs as docs
 

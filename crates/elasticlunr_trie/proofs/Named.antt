@@ -12,7 +12,7 @@ use Rattle.std.specs.FinMap.Entries.{is_sorted, below_all}
 use Rattle.std.proofs.lemmas.List.{take_more}
 use Rattle.elasticlunr_trie.proofs.Gap.{value_at_place}
 use Rattle.std.proofs.lemmas.List.{nil_from_length}
-use Rattle.elasticlunr_text.specs.Text.{Bytes, text_cmp}
+use Rattle.elasticlunr_error.specs.Text.{Bytes, text_cmp}
 use Rattle.elasticlunr_trie.specs.Table.{Postings}
 use Rattle.elasticlunr_trie.specs.Pairs.{Pairs, value_of, key_at, IsStrictlySorted}
 use Rattle.elasticlunr_trie.specs.Frequencies.{Frequencies}

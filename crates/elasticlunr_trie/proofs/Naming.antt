@@ -12,7 +12,7 @@ use Rattle.std.specs.FinMap as finite
 use Rattle.std.specs.FinMap.Entries.{is_sorted, below_all}
 use Rattle.std.proofs.lemmas.Bool.{cases_eq, cases_lt}
 use Rattle.std.proofs.lemmas.Cmp.{nat_list_cmp_total}
-use Rattle.elasticlunr_text.specs.Text.{Bytes, text_cmp}
+use Rattle.elasticlunr_error.specs.Text.{Bytes, text_cmp}
 use Rattle.elasticlunr_json.specs.Maps.{seen}
 use Rattle.elasticlunr_trie.specs.Names.{Names, Numbers, AreNames, AreRanks, HasRanks, HasNumbersBelow, HasDistinctNumbers, number_at, number_of}
 use Rattle.elasticlunr_json.proofs.Sorted.{shown, entries_seen}

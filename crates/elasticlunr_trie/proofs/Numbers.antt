@@ -7,7 +7,7 @@ use Rattle.std.specs.Ordering.{nat_cmp}
 use Rattle.std.specs.Cmp.Lexicographic.{slice_cmp}
 use Rattle.std.proofs.lemmas.Slice.Eq.{bytes_eq-Decides}
 use Rattle.std.proofs.Common.{string_bytes}
-use Rattle.elasticlunr_text.specs.Text.{Bytes}
+use Rattle.elasticlunr_error.specs.Text.{Bytes}
 use Rattle.elasticlunr_trie.specs.Names.{Names, number_of, names_of}
 
 pub bytes_same : (r : Bytes) → bytes_eq r r ≡ true

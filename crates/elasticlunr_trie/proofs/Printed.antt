@@ -13,7 +13,7 @@ use Rattle.std.specs.List.{slice_get}
 use Rattle.std.specs.FinMap as map
 use Rattle.serde_json.specs.Data.{Data, object, number, unsigned, Members, member}
 use Rattle.serde_json.specs.Find.{get_member}
-use Rattle.elasticlunr_text.specs.Text.{Text}
+use Rattle.elasticlunr_error.specs.Text.{Text}
 use Rattle.elasticlunr_trie.specs.Table.{Postings, knows}
 use Rattle.elasticlunr_trie.specs.Tree.{IsTree, AreParts, IsBelow, HasKeysInOrder, frequencies}
 use Rattle.elasticlunr_trie.specs.Printed.{children_members, postings_before, place_members, tree_of, node_tree, HasTrees}

@@ -10,7 +10,7 @@ use Rattle.std.proofs.lemmas.Slice.Eq.{bytes_eq-Decides}
 use Rattle.elasticlunr_trie.specs.Frequencies.{Frequencies}
 use Rattle.elasticlunr_trie.specs.Names.{Names, number_of}
 use Rattle.elasticlunr_trie.specs.Nodes.{entries_of, postings_at, list_at, has, AreListed, ClearsNumber, LosesListed, LosesNumber, LosesReference}
-use Rattle.elasticlunr_text.specs.Text.{Bytes}
+use Rattle.elasticlunr_error.specs.Text.{Bytes}
 use Rattle.elasticlunr_trie.specs.declared.inverted_index.nodes.Node.{Node}
 use Rattle.elasticlunr_trie.specs.declared.inverted_index.nodes.Reference.{Reference}
 use Rattle.elasticlunr_trie.proofs.Places.{get_past}

@@ -2,7 +2,7 @@
 use Rattle.std.proofs.Common.{◌≡◌, ◌≢◌, inl, inr, ℕ, List, length, Option, Some, None, option_and_then, is_some, refl, sym, ap, subst, ◌∙◌}
 use Rattle.std.proofs.lemmas.Bool.{cases_eq}
 use Rattle.std.specs.FinMap.{get, remove}
-use Rattle.elasticlunr_text.specs.Text.{Text, Bytes}
+use Rattle.elasticlunr_error.specs.Text.{Text, Bytes}
 use Rattle.elasticlunr_trie.specs.Table.{knows, posting, RemovesToken}
 use Rattle.elasticlunr_trie.specs.Pairs.{Pairs}
 use Rattle.elasticlunr_trie.specs.Names.{Names, at, number_of}

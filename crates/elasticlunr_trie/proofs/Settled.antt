@@ -3,7 +3,7 @@ use Rattle.std.proofs.Common.{◌≡◌, ◌≢◌, ◌<◌, ◌≤◌, ℕ, Lis
 use Rattle.std.proofs.lemmas.Cmp.{nat_list_cmp_total}
 use Rattle.std.specs.Ordering.{nat_cmp}
 use Rattle.std.specs.FinMap.{get, same_map, slice_cmp-IsAntisymmetric, nat_cmp-IsAntisymmetric, get-empty}
-use Rattle.elasticlunr_text.specs.Text.{Text, Bytes}
+use Rattle.elasticlunr_error.specs.Text.{Text, Bytes}
 use Rattle.elasticlunr_trie.specs.Table.{Table, Postings, knows, posting, AddsToken}
 use Rattle.elasticlunr_trie.specs.Pairs.{Pairs, value_of, IsStrictlySorted}
 use Rattle.elasticlunr_trie.specs.Names.{Names, number_of, at}

@@ -3,7 +3,7 @@ use Rattle.std.proofs.Common.{◌≡◌, ℕ, suc, ◌+◌, ◌<◌, List, ◌�
 use Rattle.std.specs.Prelude.{slice_index_or}
 use Rattle.std.specs.Str.{chars}
 use Rattle.std.proofs.Math.Seq.{drop-cons}
-use Rattle.elasticlunr_text.specs.Text.{Bytes}
+use Rattle.elasticlunr_error.specs.Text.{Bytes}
 use Rattle.elasticlunr_trie.specs.Table.{Table, add, IsChanged, AreChanged, additions}
 use Rattle.elasticlunr_trie.specs.Trie.{Step}
 use Rattle.elasticlunr_trie.specs.Starts.{IsStart, KeepsPaths, told}

@@ -5,7 +5,7 @@ use Rattle.std.specs.Ordering.{nat_cmp, eq_by_cmp}
 use Rattle.std.specs.Cmp.Lexicographic.{slice_cmp}
 use Rattle.std.specs.FinMap.{find, get, empty, from_entries, get-from_entries}
 use Rattle.std.proofs.lemmas.Cmp.{nat_list_cmp_total}
-use Rattle.elasticlunr_text.specs.Text.{Text}
+use Rattle.elasticlunr_error.specs.Text.{Text}
 use Rattle.elasticlunr_trie.specs.Table.{Postings, knows, postings}
 use Rattle.elasticlunr_trie.specs.Pairs.{Pairs, value_of, IsStrictlySorted}
 use Rattle.elasticlunr_trie.specs.Frequencies.{Frequencies}

@@ -9,7 +9,7 @@ use Rattle.std.specs.Cmp.Lexicographic.{slice_cmp}
 use Rattle.std.specs.FinMap as map
 use Rattle.serde_json.specs.Data.{Data, null, boolean, string, array, object, number, Members, no_members, member}
 use Rattle.serde_json.specs.Find.{get_member}
-use Rattle.elasticlunr_text.specs.Text.{Text}
+use Rattle.elasticlunr_error.specs.Text.{Text}
 use Rattle.elasticlunr_trie.specs.Table.{Table, Postings, knows, postings, IsPrefix, IsTable}
 use Rattle.elasticlunr_trie.specs.Tree.{IsTree, AreParts, IsTrieValue, frequency, frequencies}
 use Rattle.elasticlunr_trie.specs.declared.inverted_index.nodes.Node.{Node}

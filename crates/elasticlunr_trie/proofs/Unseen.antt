@@ -3,13 +3,13 @@ use Rattle.std.proofs.Common.{◌≡◌, ◌+◌, ◌<◌, ℕ, List, [], ◌∷
 use Rattle.std.specs.FinMap.{get, get-empty}
 use Rattle.std.specs.Ordering.{nat_cmp}
 use Rattle.std.specs.Str.{IsUtf8}
-use Rattle.elasticlunr_text.specs.Text.{Text}
+use Rattle.elasticlunr_error.specs.Text.{Text}
 use Rattle.elasticlunr_trie.specs.Pairs.{Pairs}
 use Rattle.elasticlunr_trie.specs.Names.{Names, entered, at}
 use Rattle.elasticlunr_trie.specs.Nodes.{AreListed, KeepsLists, SameNodes}
 use Rattle.elasticlunr_trie.specs.Trie.{entries_at, table_of, IsIndex}
 use Rattle.elasticlunr_trie.specs.Branch.{SameTrie, IsBranch}
-use Rattle.elasticlunr_text.specs.Text.{Bytes}
+use Rattle.elasticlunr_error.specs.Text.{Bytes}
 use Rattle.elasticlunr_trie.specs.declared.inverted_index.nodes.Node.{Node}
 use Rattle.elasticlunr_trie.specs.declared.inverted_index.nodes.Reference.{Reference}
 use Rattle.elasticlunr_trie.specs.declared.inverted_index.nodes.Place.{Place}

@@ -8,7 +8,7 @@ use Rattle.serde_json.specs.Data.{Data, object, Members}
 use Rattle.serde_json.specs.Find.{get_member}
 use Rattle.serde_json.specs.View.{view}
 use Rattle.serde_json.specs.declared.value.Value.{Value}
-use Rattle.elasticlunr_text.specs.Text.{Text}
+use Rattle.elasticlunr_error.specs.Text.{Text}
 use Rattle.elasticlunr_trie.specs.Table.{Table, IsTable, postings, posting, Entries, postings_of}
 use Rattle.elasticlunr_trie.specs.Tree.{IsTree, frequencies}
 use Rattle.elasticlunr_trie.specs.Pairs.{IsStrictlySorted, value_of}

@@ -2,7 +2,7 @@
 use Rattle.std.specs.Prelude.{◌≡◌, ◌≢◌, ℕ, ◌<◌, ◌≤◌, ◌+◌, List, [], ◌∷◌, ◌++◌, length, slice_get, slice_index, None, Some}
 use Rattle.std.specs.List.{insert}
 use Rattle.std.specs.FinMap as map
-use Rattle.elasticlunr_text.specs.Text.{Text}
+use Rattle.elasticlunr_error.specs.Text.{Text}
 use Rattle.elasticlunr_trie.specs.Pairs.{Pairs, IsGapFor}
 use Rattle.elasticlunr_trie.specs.Nodes.{children_of, entries_of}
 use Rattle.elasticlunr_trie.specs.Trie.{Step, rank, walk, children_at, entries_at}

@@ -1,6 +1,6 @@
 -- Which nodes lead to a posting, and the nodes that are kept; for private clauses.
 use Rattle.std.specs.Prelude.{◌≡◌, ◌↔◌, ℕ, zero, suc, ◌+◌, ◌<◌, Bool, false, IsTrue, List, [], ◌∷◌, length, slice_get, Some, unwrap_or, if◌then◌else◌}
-use Rattle.elasticlunr_text.specs.Text.{Text}
+use Rattle.elasticlunr_error.specs.Text.{Text}
 use Rattle.elasticlunr_trie.specs.Frequencies.{Frequencies}
 use Rattle.elasticlunr_trie.specs.Names.{Names}
 use Rattle.elasticlunr_trie.specs.Children.{Children, child}

@@ -3,7 +3,7 @@ use Rattle.std.specs.Prelude.{◌≡◌, ◌<◌, ℕ, suc, List, [], ◌∷◌,
 use Rattle.std.specs.Str.{IsUtf8}
 use Rattle.std.specs.FinMap.{get, from_entries}
 use Rattle.std.specs.declared.cmp.Ordering.TheVariants.{Less}
-use Rattle.elasticlunr_text.specs.Text.{Bytes, text_cmp}
+use Rattle.elasticlunr_error.specs.Text.{Bytes, text_cmp}
 use Rattle.elasticlunr_trie.specs.Table.{Postings}
 use Rattle.elasticlunr_trie.specs.Pairs.{Pairs, key_at, IsStrictlySorted}
 use Rattle.elasticlunr_trie.specs.Frequencies.{Frequencies}

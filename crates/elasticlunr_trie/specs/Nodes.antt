@@ -4,7 +4,7 @@ use Rattle.std.specs.FinMap.{get, empty, insert, remove}
 use Rattle.elasticlunr_trie.specs.Pairs.{Pairs}
 use Rattle.elasticlunr_trie.specs.Frequencies.{Frequencies}
 use Rattle.elasticlunr_trie.specs.Names.{Names, AreNumbered, at}
-use Rattle.elasticlunr_text.specs.Text.{Bytes}
+use Rattle.elasticlunr_error.specs.Text.{Bytes}
 use Rattle.elasticlunr_trie.specs.declared.inverted_index.nodes.Node.{Node}
 use Rattle.elasticlunr_trie.specs.declared.inverted_index.nodes.Reference.{Reference}
 

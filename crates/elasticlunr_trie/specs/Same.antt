@@ -1,6 +1,6 @@
 -- When two places have the same texts below; for private clauses.
 use Rattle.std.specs.Prelude.{◌≡◌, ℕ, List, ◌∷◌, Option, option_map}
-use Rattle.elasticlunr_text.specs.Text.{Text}
+use Rattle.elasticlunr_error.specs.Text.{Text}
 use Rattle.elasticlunr_trie.specs.Table.{Postings}
 use Rattle.elasticlunr_trie.specs.Names.{Names}
 use Rattle.elasticlunr_trie.specs.Children.{Children}

@@ -1,7 +1,7 @@
 -- Tokens of which a beginning has been walked; for private clauses.
 use Rattle.std.specs.Prelude.{◌≡◌, ℕ, ◌++◌, Some}
 use Rattle.std.specs.Str.{chars, IsUtf8}
-use Rattle.elasticlunr_text.specs.Text.{Text}
+use Rattle.elasticlunr_error.specs.Text.{Text}
 use Rattle.elasticlunr_trie.specs.Trie.{Step, walk}
 use Rattle.elasticlunr_trie.specs.declared.inverted_index.nodes.Place.{Place}
 use Rattle.elasticlunr_trie.specs.declared.inverted_index.nodes.Place.TheVariants.{Root}

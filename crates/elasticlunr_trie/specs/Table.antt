@@ -4,7 +4,7 @@ use Rattle.std.specs.declared.alloc.Global.{Global}
 use Rattle.std.specs.Borrow.{Bor}
 use Rattle.std.specs.Str.{all_scalars, chars, IsUtf8}
 use Rattle.std.specs.FinMap.{FinMap, get, contains_key, empty, insert}
-use Rattle.elasticlunr_text.specs.Text.{Text, Bytes, text_cmp}
+use Rattle.elasticlunr_error.specs.Text.{Text, Bytes, text_cmp}
 use Rattle.elasticlunr_json.specs.Maps.{seen, same_map}
 
 -- the frequency of each reference that has a posting

@@ -2,7 +2,7 @@
 use Rattle.std.specs.Prelude.{◌≡◌, true, ℕ, zero, suc, ◌<◌, ◌≤◌, List, [], ◌∷◌, ◌++◌, map, length, slice_get, Option, Some, None, option_map, option_and_then}
 use Rattle.std.specs.Str.{all_scalars}
 use Rattle.std.specs.FinMap.{from_entries, empty}
-use Rattle.elasticlunr_text.specs.Text.{Text, Bytes}
+use Rattle.elasticlunr_error.specs.Text.{Text, Bytes}
 use Rattle.elasticlunr_trie.specs.Table.{Postings, Table}
 use Rattle.elasticlunr_trie.specs.Pairs.{Pairs, value_of, IsStrictlySorted}
 use Rattle.elasticlunr_trie.specs.Frequencies.{Frequencies}

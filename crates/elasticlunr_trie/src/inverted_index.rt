@@ -2,12 +2,12 @@
 ghost use Rattle.std.specs.FinMap.{get as get_postings, len};
 ghost use Rattle.std.specs.Prelude.{◌≡◌, ◌↔◌, [], None, IsTrue, IfOk, IfErr, IsOk, OnOk, OnErr, IsOkUnless, false, unwrap_or, is_some, ◌≢◌};
 ghost use Rattle.std.specs.Str.{chars};
-ghost use Rattle.elasticlunr_text.specs.Text.{Text, Bytes};
+ghost use Rattle.elasticlunr_error.specs.Text.{Text, Bytes};
 ghost use Rattle.elasticlunr_trie.specs.Table.{Table, new_table, knows, posting, postings, IsTable, AddsToken, RemovesToken, AreChanged, additions, told_tokens, same_tables};
 ghost use Rattle.elasticlunr_trie.specs.Copied.{copied_postings};
 ghost use Rattle.serde_json.specs.View.{view};
 ghost use Rattle.elasticlunr_json.specs.Refused.{IsRefused};
-ghost use Rattle.elasticlunr_text.specs.declared.error.IndexError.TheVariants.{Memory};
+ghost use Rattle.elasticlunr_error.specs.declared.error.IndexError.TheVariants.{Memory};
 ghost use Rattle.serde_json.specs.Written.{has_float};
 ghost use Rattle.elasticlunr_trie.specs.Tree.{IsTrieValue};
 
@@ -25,6 +25,7 @@ mod postings;
 mod read;
 mod references;
 mod remove;
+mod room;
 mod same;
 mod starts;
 mod value;
@@ -33,7 +34,7 @@ mod write;
 use add::add_posting;
 use docs::copy_docs;
 use elasticlunr_json::put_member;
-use elasticlunr_text::IndexError;
+use elasticlunr_error::IndexError;
 use names::Names;
 use nodes::{Node, Place, Reference, find, find_frequency, find_postings};
 use read::{only_member, read_nodes};
@@ -138,8 +139,8 @@ impl InvertedIndex {
     /// Sets the postings of several tokens, one after the other. An empty token changes nothing.
     ///
     /// The tokens are walked side by side: while one walk waits for memory, the others go on, so
-    /// that in a large trie this takes less time than a call for each. Where memory is wanting,
-    /// some of the postings may be set.
+    /// that in a large trie this takes less time than a call for each; and the reference gets room
+    /// for all of them at once. Where memory is wanting, some of the postings may be set.
     pub fn add_tokens(&mut self, doc_ref: &str, tokens: &[(&str, u64)]) -> Result<(), IndexError>
         ensures ok { OnOk result (AreChanged (additions doc_ref.now (told_tokens tokens.now)) self.old self.new) }
         ensures memory { IsOkUnless result Memory }

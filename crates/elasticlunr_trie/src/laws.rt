@@ -3,8 +3,8 @@ ghost use Rattle.std.specs.Prelude.{◌≡◌, ◌⊎◌, ◌↔◌, [], List, R
 ghost use Rattle.std.specs.Bool.{Decides};
 ghost use Rattle.std.specs.FinMap.{get, len};
 ghost use Rattle.serde_json.specs.Data.{Data};
-ghost use Rattle.elasticlunr_text.specs.Text.{Text};
-ghost use Rattle.elasticlunr_text.specs.declared.error.IndexError.{IndexError};
+ghost use Rattle.elasticlunr_error.specs.Text.{Text};
+ghost use Rattle.elasticlunr_error.specs.declared.error.IndexError.{IndexError};
 ghost use Rattle.elasticlunr_json.specs.Refused.{IsRefused, IsAnswer};
 ghost use Rattle.elasticlunr_trie.specs.Table.{Table, new_table, knows, postings, same_tables, IsPrefix, IsTable, Change, AreChanged, IsAdded};
 ghost use Rattle.elasticlunr_trie.specs.Tree.{IsTrieValue};

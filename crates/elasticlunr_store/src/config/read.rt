@@ -8,7 +8,7 @@ ghost use Rattle.elasticlunr_json.specs.Refused.{IsRefused};
 ghost use Rattle.elasticlunr_store.specs.Options.{FieldMap, field_map, bool_value, IsPart, ReadsField, ReadsFields};
 
 use super::{FieldOptions, SearchBool, SearchOptionsField};
-use elasticlunr_text::IndexError;
+use elasticlunr_error::IndexError;
 use serde_json::Value;
 use std::alloc::Global;
 use std::collections::BTreeMap;

@@ -2,7 +2,7 @@
 ghost use Rattle.std.specs.Prelude.{◌≡◌, IfOk, IfErr, IfSome, IfNone, IsSomeAnd, Some, ◌≢◌};
 ghost use Rattle.std.specs.Bool.{OnTrue, OnFalse};
 ghost use Rattle.std.specs.FinMap.{FinMap, get, empty};
-ghost use Rattle.elasticlunr_text.specs.Text.{Bytes, text_cmp};
+ghost use Rattle.elasticlunr_error.specs.Text.{Bytes, text_cmp};
 ghost use Rattle.elasticlunr_json.specs.Refused.{IsRefused};
 ghost use Rattle.elasticlunr_store.specs.Contents.{TextMap, LengthMap, store_members, text_map, length_map, document_texts, document_lengths};
 ghost use Rattle.elasticlunr_store.specs.SmallLengths.{AreSmallLengths, HasSmallLengths};
@@ -11,7 +11,7 @@ ghost use Rattle.serde_json.specs.Data.{Data, Members, member, string};
 ghost use Rattle.serde_json.specs.View.{view, members_view};
 
 use super::put::{put_lengths, put_texts};
-use elasticlunr_text::IndexError;
+use elasticlunr_error::IndexError;
 use serde_json::{Map, Value};
 use std::alloc::Global;
 use std::collections::BTreeMap;

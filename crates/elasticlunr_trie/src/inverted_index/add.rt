@@ -1,7 +1,7 @@
 //! Adding a posting. Where memory is wanting, what was done before is not seen: a name without postings, and a node in a list that has no posting.
 ghost use Rattle.std.specs.Prelude.{◌≡◌, ◌≢◌, ◌<◌, ◌∷◌, [], true, None, Some, length, OnOk, OnErr};
 ghost use Rattle.std.specs.Str.{chars, all_scalars};
-ghost use Rattle.elasticlunr_text.specs.Text.{Text};
+ghost use Rattle.elasticlunr_error.specs.Text.{Text};
 ghost use Rattle.elasticlunr_trie.specs.Table.{AddsToken};
 ghost use Rattle.elasticlunr_trie.specs.Pairs.{value_of};
 ghost use Rattle.elasticlunr_trie.specs.Names.{AreNames};

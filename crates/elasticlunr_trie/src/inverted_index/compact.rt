@@ -1,6 +1,6 @@
 //! A trie without the paths that lead to no posting.
 ghost use Rattle.std.specs.Prelude.{◌≡◌, ◌↔◌, ◌⊎◌, ℕ, ◌<◌, [], length, Some, IsTrue, IfOk, IsOkUnless};
-ghost use Rattle.elasticlunr_text.specs.declared.error.IndexError.TheVariants.{Memory};
+ghost use Rattle.elasticlunr_error.specs.declared.error.IndexError.TheVariants.{Memory};
 ghost use Rattle.elasticlunr_trie.specs.Table.{IsTable};
 ghost use Rattle.elasticlunr_trie.specs.Compacted.{KeepsPostings, KnowsWhatLeads};
 ghost use Rattle.elasticlunr_trie.specs.NodeTables.{node_table};
@@ -16,7 +16,7 @@ use super::few::Few;
 use super::names::Names;
 use super::nodes::{Children, Node, Reference, short_number};
 use super::numbered::renumber;
-use elasticlunr_text::IndexError;
+use elasticlunr_error::IndexError;
 use std::alloc::{AllocError, Global};
 
 impl InvertedIndex {

@@ -24,6 +24,19 @@ fn make_lists(
     Ok(())
 }
 
+// Sees to it that the list of a reference has room for more nodes.
+pub(super) fn reserve_list(
+    alloc: Global,
+    references: &mut Vec<Reference>,
+    number: usize,
+    count: usize,
+) -> Result<(), AllocError>
+    ensures { (n : ℕ) → list_at references.new.items n ≡ list_at references.old.items n }
+{
+    make_lists(alloc, references, number)?;
+    references[number].nodes.reserve(count)
+}
+
 // Puts a node into the list of a reference.
 fn push_node(references: &mut Vec<Reference>, number: usize, k: usize) -> Result<(), AllocError>
     requires { number < length references.old.items }

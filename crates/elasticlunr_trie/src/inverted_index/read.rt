@@ -1,6 +1,6 @@
 //! Reading a trie back from a JSON value, one node after another.
 ghost use Rattle.std.specs.Prelude.{codes, ◌⊎◌, Some, true, encode_utf8, ◌∷◌, IfSome, ◌≡◌, ℕ, ◌<◌, ◌^◌, ◌↔◌, [], List, None, IsTrue, IfOk, IfErr, ◌≢◌};
-ghost use Rattle.elasticlunr_text.specs.Text.{Text, Bytes};
+ghost use Rattle.elasticlunr_error.specs.Text.{Text, Bytes};
 ghost use Rattle.elasticlunr_trie.specs.Table.{Table, IsTable, postings_of};
 ghost use Rattle.std.specs.FinMap.{entries};
 ghost use Rattle.serde_json.specs.Data.{Data, object, number, unsigned, member, no_members};
@@ -16,7 +16,7 @@ use super::few::Few;
 use super::names::Names;
 use super::nodes::{Children, Node, Reference, short_number};
 use super::numbered::number_docs;
-use elasticlunr_text::IndexError;
+use elasticlunr_error::IndexError;
 use serde_json::{Map, Value};
 use std::alloc::Global;
 use std::collections::BTreeMap;

@@ -3,12 +3,12 @@ ghost use Rattle.std.specs.Prelude.{◌≡◌, ◌↔◌, IsTrue, IsSome, IfOk, 
 ghost use Rattle.std.specs.List.Sorted.{IsStrictlySortedBy};
 ghost use Rattle.std.specs.Map.{keys_of};
 ghost use Rattle.std.specs.Str.{chars};
-ghost use Rattle.elasticlunr_text.specs.Text.{Bytes, bytes_of, is_listed, text_cmp};
-ghost use Rattle.elasticlunr_text.specs.declared.error.IndexError.TheVariants.{Memory};
+ghost use Rattle.elasticlunr_error.specs.Text.{Bytes, bytes_of, is_listed, text_cmp};
+ghost use Rattle.elasticlunr_error.specs.declared.error.IndexError.TheVariants.{Memory};
 ghost use Rattle.elasticlunr_trie.specs.Table.{posting};
 
 use super::InvertedIndex;
-use elasticlunr_text::IndexError;
+use elasticlunr_error::IndexError;
 use std::alloc::{AllocError, Global};
 use std::collections::BTreeMap;
 

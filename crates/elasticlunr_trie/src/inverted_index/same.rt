@@ -1,6 +1,6 @@
 //! Comparing two tries.
 ghost use Rattle.std.specs.Prelude.{◌≡◌, ◌<◌, ◌↔◌, ℕ, Some, length, IsTrue, slice_get};
-ghost use Rattle.elasticlunr_text.specs.Text.{Bytes};
+ghost use Rattle.elasticlunr_error.specs.Text.{Bytes};
 ghost use Rattle.std.specs.FinMap.{get};
 ghost use Rattle.elasticlunr_trie.specs.Names.{ArePostings, named_pairs, AreNames, AreNumbered, at};
 ghost use Rattle.elasticlunr_trie.specs.Nodes.{postings_at, AreAllNumbered};

@@ -9,12 +9,14 @@ ghost use Rattle.elasticlunr_trie.specs.NodeTables.{node_table};
 ghost use Rattle.elasticlunr_trie.specs.Starts.{IsStart, KeepsPaths, told};
 
 use super::add::add_posting;
+use super::branch::locate;
 use super::names::Names;
 use super::nodes::{Node, Place, Reference, child, children_at};
+use super::room::make_room;
 use std::alloc::{AllocError, Global};
 
 // How many characters of each token are walked side by side. What follows them is mostly a path
-// without branches.
+// without branches, whose nodes stand side by side.
 const STEPS: usize = 5;
 
 /// A token and its frequency, where a beginning of the token leads, and what follows that.
@@ -75,7 +77,35 @@ fn step_all(root: &[(char, u32)], nodes: &[Node], starts: &mut [Start<'_>])
     }
 }
 
-// Tokens with their frequencies, a few characters on.
+// To the end of what is known of the token.
+fn finish<'a>(root: &[(char, u32)], nodes: &[Node], start: Start<'a>) -> Start<'a>
+    requires trie { IsTrie root.now nodes.now }
+    requires start { IsStart (step_of root.now nodes.now) start }
+    ensures start { IsStart (step_of root.now nodes.now) result }
+    ensures told { told result ≡ told start.entry }
+{
+    let (place, rest) = locate(root, nodes, start);
+    Start {
+        token: start.token,
+        frequency: start.frequency,
+        place,
+        rest,
+    }
+}
+
+// Each to the end of what is known of it.
+fn finish_all(root: &[(char, u32)], nodes: &[Node], starts: &mut [Start<'_>])
+    requires trie { IsTrie root.now nodes.now }
+    requires starts { All (IsStart (step_of root.now nodes.now)) starts.old }
+    ensures starts { All (IsStart (step_of root.now nodes.now)) starts.new }
+    ensures told { map told starts.new ≡ map told starts.old }
+{
+    for i in 0..starts.len() {
+        starts[i] = finish(root, nodes, starts[i]);
+    }
+}
+
+// Tokens with their frequencies, each walked as far as it is known.
 pub(super) fn starts_of<'a>(
     alloc: Global,
     root: &[(char, u32)],
@@ -93,6 +123,7 @@ pub(super) fn starts_of<'a>(
     for _ in 0..STEPS {
         step_all(root, nodes, &mut starts);
     }
+    finish_all(root, nodes, &mut starts);
     Ok(starts)
 }
 
@@ -136,6 +167,7 @@ pub(super) fn add_starts(
     ensures ok { OnOk result (AreChanged (additions doc_ref.now (map told starts.now))
         (node_table root.old nodes.old names.old) (node_table root.new nodes.new names.new)) }
 {
+    make_room(alloc, nodes, names, references, doc_ref, starts)?;
     for start in starts {
         add_start(alloc, root, nodes, names, references, doc_ref, *start)?;
     }

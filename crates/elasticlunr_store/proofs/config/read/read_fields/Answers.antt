@@ -4,7 +4,7 @@ use Rattle.std.specs.List.Sorted.{IsStrictlySortedBy}
 use Rattle.std.specs.Map.{keys_of}
 use Rattle.std.proofs.lemmas.Map.Text.{btree_map_updates_text}
 use Rattle.serde_json.specs.View.{view}
-use Rattle.elasticlunr_text.specs.Text.{text_cmp}
+use Rattle.elasticlunr_error.specs.Text.{text_cmp}
 use Rattle.elasticlunr_store.specs.Options.{ReadsAt, field_map}
 use Rattle.elasticlunr_json.proofs.Seen.{seen_inserted}
 use Rattle.elasticlunr_json.proofs.ReadingMaps.{object_of}

@@ -3,7 +3,7 @@ use Rattle.std.specs.FinMap.{get}
 use Rattle.serde_json.specs.Find.{get_member}
 use Rattle.serde_json.specs.View.{members_view}
 use Rattle.serde_json.proofs.Views.{Entry}
-use Rattle.elasticlunr_text.specs.Text.{Bytes}
+use Rattle.elasticlunr_error.specs.Text.{Bytes}
 use Rattle.elasticlunr_store.specs.Options.{ReadsAt, field_map}
 use Rattle.elasticlunr_store.proofs.config.read.read_fields.Given as goal
 

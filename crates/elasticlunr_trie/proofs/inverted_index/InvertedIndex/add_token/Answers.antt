@@ -1,6 +1,6 @@
 use Rattle.std.proofs.Common.{◌≡◌, ℕ, [], Result, Ok, Err, OnErr, sym, ap, ◌∙◌, length}
 use Rattle.std.specs.Str.{chars}
-use Rattle.elasticlunr_text.specs.Text.{Text}
+use Rattle.elasticlunr_error.specs.Text.{Text}
 use Rattle.std.proofs.lemmas.Bool.{eqb-true, eq-eqb}
 use mathlib.Core.Bool.{false≢true}
 use Rattle.elasticlunr_trie.proofs.Letters.{some_character, no_character}

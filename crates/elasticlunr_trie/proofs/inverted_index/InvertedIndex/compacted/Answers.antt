@@ -1,5 +1,5 @@
 use Rattle.std.proofs.Common.{◌≡◌, ◌↔◌, ◌⊎◌, [], IsTrue, IsSome, subst, ◌∙◌}
-use Rattle.elasticlunr_text.specs.Text.{Text, Bytes}
+use Rattle.elasticlunr_error.specs.Text.{Text, Bytes}
 use Rattle.elasticlunr_trie.specs.Table.{IsPrefix, knows, posting}
 use Rattle.elasticlunr_trie.specs.Trie.{table_of}
 use Rattle.elasticlunr_trie.proofs.Bounds.{nodes_table}

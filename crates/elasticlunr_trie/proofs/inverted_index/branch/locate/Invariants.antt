@@ -3,7 +3,7 @@ use denote.Text.{Utf8}
 use denote.Shadow.{shadow}
 use Rattle.std.specs.Str.{chars}
 use Rattle.std.specs.Str.Iter.{chars_rest}
-use Rattle.elasticlunr_text.specs.Text.{Text}
+use Rattle.elasticlunr_error.specs.Text.{Text}
 use Rattle.elasticlunr_trie.specs.Trie.{step_of, walk}
 use Rattle.elasticlunr_trie.specs.declared.inverted_index.nodes.Place.TheVariants.{Root}
 use Rattle.elasticlunr_trie.proofs.inverted_index.branch.locate.Given as goal

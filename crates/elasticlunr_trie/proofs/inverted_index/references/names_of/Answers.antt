@@ -1,6 +1,6 @@
 use Rattle.std.proofs.Common.{[], ◌∷◌, ◌++◌, sym, ap, ◌∙◌, append_assoc, append-nil}
 use Rattle.std.specs.Map.{keys_of}
-use Rattle.elasticlunr_text.specs.Text.{bytes_of}
+use Rattle.elasticlunr_error.specs.Text.{bytes_of}
 use Rattle.elasticlunr_trie.proofs.Keys.{bytes_behind, keys_behind}
 use Rattle.elasticlunr_trie.proofs.inverted_index.references.names_of.Goals as goal
 

@@ -5,7 +5,7 @@ use Rattle.std.specs.FinMap.Entries.{is_sorted}
 use Rattle.serde_json.specs.Data.{object, put}
 use Rattle.serde_json.specs.View.{members_view}
 use Rattle.serde_json.proofs.Views.{view-Object}
-use Rattle.elasticlunr_text.specs.Text.{text_cmp}
+use Rattle.elasticlunr_error.specs.Text.{text_cmp}
 use Rattle.elasticlunr_trie.specs.Names.{under_names}
 use Rattle.elasticlunr_trie.specs.Tree.{frequencies}
 use Rattle.elasticlunr_trie.proofs.Gathered.{name_of}

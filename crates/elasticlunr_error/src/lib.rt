@@ -1,0 +1,6 @@
+//! Why a call is refused, and the two ways in which contracts see a text.
+#![tactic(auto)]
+
+mod error;
+
+pub use error::IndexError;

@@ -3,7 +3,8 @@
 
 usage: measure.py STACK IN OUT PROGRAM [ARGUMENT ..]
 
-STACK are the bytes of its stack, or 0 for those that the machine gives. It is a process of its own,
+STACK are the bytes of its stack, or 0 for those that the machine gives. OUT is the file that gets what
+it prints, or `-`: then that is read from a pipe and dropped, so that no disk is measured. It is a process of its own,
 since the memory of a program is counted from the size of the one that starts it. Other scripts call
 `measured`. A run that takes too long is killed, which its status then says.
 """
@@ -16,6 +17,8 @@ import time
 from typing import NamedTuple
 
 LIMIT = 600  # seconds that a run may take
+PIPED = "-"  # the name of no file: what is printed goes through a pipe
+CHUNK = 1 << 20  # bytes that are read of a pipe at once
 
 
 class Measured(NamedTuple):
@@ -25,7 +28,7 @@ class Measured(NamedTuple):
 
 
 def measured(command, asked, answered, stack=None):
-    """Runs a command on the file `asked`, and writes what it prints to the file `answered`."""
+    """Runs a command on the file `asked`, and writes what it prints to the file `answered`, or drops it (`PIPED`)."""
     words = [sys.executable, __file__, str(stack or 0), asked, answered, *command]
     below = subprocess.run(words, stdout=subprocess.PIPE, stderr=subprocess.PIPE)
     if below.returncode != 0:
@@ -42,11 +45,14 @@ def set_limits(stack):
 
 def main():
     stack, asked, answered, *command = sys.argv[1:]
-    with open(asked, "rb") as source, open(answered, "wb") as sink:
+    with open(asked, "rb") as source, open(os.devnull if answered == PIPED else answered, "wb") as file:
+        sink = subprocess.PIPE if answered == PIPED else file
         begun = time.monotonic()
         program = subprocess.Popen(command, stdin=source, stdout=sink, preexec_fn=lambda: set_limits(int(stack)))
         signal.signal(signal.SIGALRM, lambda *_: program.kill())
         signal.alarm(LIMIT)
+        while program.stdout and program.stdout.read(CHUNK):
+            pass
         _, status, used = os.wait4(program.pid, 0)
         print(os.waitstatus_to_exitcode(status), f"{time.monotonic() - begun:.3f}", used.ru_maxrss // 1024)
 

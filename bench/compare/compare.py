@@ -13,7 +13,8 @@ docs/DIFFERENCES.md declares:
 - the texts have no character whose small letter the two don't share, nor one of a newer Unicode;
 - the keys of an object are compared without their order.
 
-Then both are timed on large jobs, side by side, and the table of README is printed.
+Then both are timed on large jobs, side by side, and the table of README is printed. What they print is
+read from a pipe: a file of hundreds of megabytes would measure the disk.
 """
 import argparse
 import glob
@@ -29,7 +30,7 @@ import unicodedata
 sys.path.insert(0, os.path.dirname(os.path.dirname(os.path.abspath(__file__))))
 
 import chance as make
-from measure import measured
+from measure import PIPED, measured
 from model_tokens import LANGUAGES, lower
 from running import TOP, program, run, told
 
@@ -126,9 +127,9 @@ def speed_jobs():
     yield "2,000 documents, 1,000 references removed", dict(english, remove=removed), False, ("English, 2,000 documents", 1)
 
 
-def best(command, asked, answered, runs):
+def best(command, asked, runs):
     """The fastest of some runs; a run that fails decides."""
-    found = [measured(command, asked, answered) for _ in range(runs)]
+    found = [measured(command, asked, PIPED) for _ in range(runs)]
     return next((run for run in found if run.status != 0), min(found, key=lambda run: run.seconds))
 
 
@@ -163,12 +164,11 @@ def speed(original, runs):
     print("\n| Job | Here | The original | Ratio |\n|---|---|---|---|")
     with tempfile.TemporaryDirectory() as folder:
         asked = os.path.join(folder, "job.json")
-        answered = os.path.join(folder, "index.json")
         for name, job, is_for_both, beside in speed_jobs():
             with open(asked, "w", encoding="utf-8") as file:
                 json.dump(job, file, ensure_ascii=False)
-            mine = ours[name] = best([PROGRAM], asked, answered, runs)
-            theirs = best([original], asked, answered, runs) if is_for_both else None
+            mine = ours[name] = best([PROGRAM], asked, runs)
+            theirs = best([original], asked, runs) if is_for_both else None
             failed += mine.status != 0 or bool(theirs and theirs.status != 0)
             ratio = ratio_to(mine, theirs) if theirs else ratio_to_ours(mine, ours, *beside)
             row = [name, told_run(mine), told_run(theirs) if theirs else "-", ratio]

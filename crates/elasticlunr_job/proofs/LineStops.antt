@@ -2,8 +2,8 @@
 use Rattle.std.proofs.Common.{◌≡◌, ◌⊎◌, ◌≢◌, ℕ, false, inl, inr, Result, Ok, Err, IfErr, sym, subst}
 use Rattle.std.specs.Result.{IsErrAnd}
 use Rattle.elasticlunr_text.specs.Text.{Bytes}
-use Rattle.elasticlunr_text.specs.declared.error.IndexError.{IndexError}
-use Rattle.elasticlunr_text.specs.declared.error.IndexError.TheVariants as index
+use Rattle.elasticlunr_text.specs.IndexError.{IndexError}
+use Rattle.elasticlunr_text.specs.IndexError.TheVariants as index
 use Rattle.elasticlunr.specs.Fields.{all_differ}
 use Rattle.elasticlunr_job.specs.Answer.{NamesLanguage}
 use Rattle.elasticlunr_job.specs.Lines.{FailsLines, HasFitOptions, IsFirstLineProblem}

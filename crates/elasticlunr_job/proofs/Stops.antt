@@ -12,8 +12,8 @@ use Rattle.elasticlunr_job.specs.Answer.{FailsAt, NamesLanguage}
 use Rattle.elasticlunr_job.specs.Job.{Job}
 use Rattle.elasticlunr_job.specs.declared.outcome.Refusal.{Refusal}
 use Rattle.elasticlunr_job.specs.declared.outcome.Stop.{Stop}
-use Rattle.elasticlunr_text.specs.declared.error.IndexError.{IndexError}
-use Rattle.elasticlunr_text.specs.declared.error.IndexError.TheVariants as index
+use Rattle.elasticlunr_text.specs.IndexError.{IndexError}
+use Rattle.elasticlunr_text.specs.IndexError.TheVariants as index
 use Rattle.elasticlunr_job.specs.declared.outcome.Refusal.TheVariants.{TooManyValues}
 use Rattle.elasticlunr_job.specs.declared.outcome.Stop.TheVariants.{Memory}
 use Rattle.elasticlunr_job.specs.IndexStop.{stop_of}

@@ -1,6 +1,6 @@
 -- How a refusal of the index stops a run; for private clauses.
-use Rattle.elasticlunr_text.specs.declared.error.IndexError.{IndexError}
-use Rattle.elasticlunr_text.specs.declared.error.IndexError.TheVariants.{DuplicateField, TooManyValues}
+use Rattle.elasticlunr_text.specs.IndexError.{IndexError}
+use Rattle.elasticlunr_text.specs.IndexError.TheVariants.{DuplicateField, TooManyValues}
 use Rattle.elasticlunr_job.specs.declared.outcome.Refusal.TheVariants as refusal
 use Rattle.elasticlunr_job.specs.declared.outcome.Stop.{Stop}
 use Rattle.elasticlunr_job.specs.declared.outcome.Stop.TheVariants as stop

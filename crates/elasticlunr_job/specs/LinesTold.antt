@@ -2,8 +2,8 @@
 use Rattle.std.specs.Prelude.{◌≡◌, ⊤, ℕ, List}
 use Rattle.serde_json.specs.Data.{Data}
 use Rattle.elasticlunr_text.specs.Text.{Bytes}
-use Rattle.elasticlunr_text.specs.declared.error.IndexError.{IndexError}
-use Rattle.elasticlunr_text.specs.declared.error.IndexError.TheVariants.{DuplicateField, TooManyValues}
+use Rattle.elasticlunr_text.specs.IndexError.{IndexError}
+use Rattle.elasticlunr_text.specs.IndexError.TheVariants.{DuplicateField, TooManyValues}
 use Rattle.elasticlunr_lang.specs.declared.any.AnyLanguage.{AnyLanguage}
 use Rattle.elasticlunr_job.specs.Answer.{IsIndexLine}
 use Rattle.elasticlunr_job.specs.Job.{Document}

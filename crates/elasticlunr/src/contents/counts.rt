@@ -1,7 +1,7 @@
 //! How often each token of a field stands there, and the postings that this makes.
 ghost use Rattle.std.specs.Prelude.{IfOk, OnOk, IsOkUnless, string_cmp};
 ghost use Rattle.std.specs.BTreeMap.{IsOrdered};
-ghost use Rattle.elasticlunr_text.specs.declared.error.IndexError.TheVariants.{Memory};
+ghost use Rattle.elasticlunr_text.specs.IndexError.TheVariants.{Memory};
 ghost use Rattle.elasticlunr_trie.specs.Table.{told_tokens};
 ghost use Rattle.elasticlunr.specs.Counted.{AreCounts, AreRooted, counted_texts, Posts};
 

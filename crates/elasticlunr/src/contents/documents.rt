@@ -1,7 +1,7 @@
 //! The texts of a document that are stored.
 ghost use Rattle.std.specs.Prelude.{◌≡◌, ◌≤◌, length, IfOk, IsOkUnless};
 ghost use Rattle.elasticlunr_text.specs.Text.{bytes_of};
-ghost use Rattle.elasticlunr_text.specs.declared.error.IndexError.TheVariants.{Memory};
+ghost use Rattle.elasticlunr_text.specs.IndexError.TheVariants.{Memory};
 ghost use Rattle.elasticlunr_store.specs.Contents.{text_map};
 ghost use Rattle.elasticlunr.specs.Fields.{borrowed};
 ghost use Rattle.elasticlunr.specs.Texts.{reference_alone, with_texts};

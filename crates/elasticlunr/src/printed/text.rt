@@ -1,6 +1,6 @@
 //! The JSON text of an index.
 ghost use Rattle.std.specs.Prelude.{string_bytes, IfOk, IsOkUnless};
-ghost use Rattle.elasticlunr_text.specs.declared.error.IndexError.TheVariants.{Memory};
+ghost use Rattle.elasticlunr_text.specs.IndexError.TheVariants.{Memory};
 ghost use Rattle.elasticlunr.specs.Parts.{IsPrintedText};
 ghost use Rattle.elasticlunr.specs.Printed.{pretty_text};
 ghost use Rattle.serde_json.specs.Written.{compact_text};

@@ -2,7 +2,7 @@
 ghost use Rattle.std.specs.Prelude.{◌≡◌, List, false, map, length, string_bytes, IfOk, OnOk, IsOkUnless};
 ghost use Rattle.std.specs.List.{zip, All};
 ghost use Rattle.elasticlunr_trie.specs.Table.{IsTable};
-ghost use Rattle.elasticlunr_text.specs.declared.error.IndexError.TheVariants.{Memory};
+ghost use Rattle.elasticlunr_text.specs.IndexError.TheVariants.{Memory};
 ghost use Rattle.elasticlunr.specs.Printed.{texts, object_of, AreTrieValues};
 ghost use Rattle.elasticlunr.specs.Parts.{IsPrinted};
 ghost use Rattle.serde_json.specs.Data.{Data, array};

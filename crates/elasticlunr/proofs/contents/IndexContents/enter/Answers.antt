@@ -3,6 +3,7 @@ use Rattle.std.proofs.lemmas.Result.{on_ok_weaker}
 use Rattle.elasticlunr_text.specs.Text.{bytes_of}
 use Rattle.elasticlunr_store.specs.Contents.{text_map}
 use Rattle.elasticlunr.specs.Texts.{token_texts, reference_alone, with_texts}
+use Rattle.elasticlunr.specs.Entered.{HoldsOneMore}
 use Rattle.elasticlunr.proofs.Entering.{holds_after}
 use Rattle.elasticlunr.proofs.contents.IndexContents.enter.Goals.{then-is_stored+in_ok-document, else-is_stored}
 use Rattle.elasticlunr.proofs.contents.IndexContents.enter.Goals as goal
@@ -15,7 +16,8 @@ returns-clause-entered c =
       | else-is_stored w ↦ absurd (true≢false (sym saved ∙ sym c.is_stored.ensures ∙ w.if-is_stored.false))
     ] in
     let many : length c.make_room.new.self.tries.items ≡ length c.args.self.now.tries.items = sym c.make_room.new.self.tries.ok.0 ∙ c.make_room.ensures.as_many ∙ c.args.self.now.tries.ok.0 in
-    on_ok_weaker c.add_doc.result (λ stored plan document commands fields differ reference_field made held.
+    on_ok_weaker {Q = HoldsOneMore (bytes_of c.args.fields.now) c.args.ref_field.now c.args.doc_ref.now (map (λ value. value.now) c.args.values.now) (token_texts c.args.tokens.items)
+    c.args.self.now.tries.items c.args.self.now.store c.enter_tokens.new.self.tries.items c.add_doc.new.self} c.add_doc.result (λ stored plan document commands fields differ reference_field made held.
     holds_after plan document commands (bytes_of c.args.fields.now) c.args.ref_field.now c.args.doc_ref.now (map (λ value. value.now) c.args.values.now) (token_texts c.args.tokens.items)
     c.args.self.now.tries.items c.make_room.new.self.tries.items c.enter_tokens.new.self.tries.items c.args.self.now.store c.make_room.new.self.store c.enter_tokens.new.self.store c.add_doc.new.self (text_map c.if-is_stored.document.entries)
     fields differ reference_field made held many c.make_room.ensures.room c.in_ok-enter_tokens.ensures.tables c.in_ok-enter_tokens.ensures.store texts_are stored) c.add_doc.ensures.ok

@@ -1,18 +1,16 @@
 //! `build` and `check`.
-ghost use Rattle.std.specs.Prelude.{string_bytes, IfOk};
-ghost use Rattle.elasticlunr_command.specs.Script.{IsScript, IsWithoutFeed};
 
-use crate::ended::Ended;
 use crate::files::{input_name, read_input, write_output};
 use crate::given::settings_given;
 use crate::tell::{failed, troubled, warn};
 use clap::ArgMatches;
+use elasticlunr_input::ended::Ended;
 use elasticlunr_input::form::form_of;
 use elasticlunr_input::index::index_text;
 use elasticlunr_input::language::{language_name, unknown_language};
 use elasticlunr_input::notes::Notes;
+use elasticlunr_input::script::script_of;
 use elasticlunr_input::settings::Settings;
-use std::alloc::{AllocError, Global};
 use std::io::{self, IsTerminal};
 use std::time::Instant;
 
@@ -137,22 +135,4 @@ fn write_index(
         }
         Err(e) => failed(rt, output.unwrap_or("standard output"), &e),
     }
-}
-
-/// The line of an index with a text before it, and a semicolon after it.
-fn script_of(alloc: Global, before: &str, line: &str) -> Result<String, AllocError>
-    ensures { IfOk result (λ script. IsScript before.now line.now (string_bytes script)) }
-{
-    let index = without_feed(line);
-    let mut script = String::from_str(alloc, before)?;
-    script.push_str(index)?;
-    script.push_str(";\n")?;
-    Ok(script)
-}
-
-/// A line without the line feed at its end.
-fn without_feed(line: &str) -> &str
-    ensures { IsWithoutFeed line.now result.now }
-{
-    line.strip_suffix('\n').unwrap_or(line)
 }

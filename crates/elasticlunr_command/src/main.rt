@@ -4,7 +4,6 @@
 #![tactic(auto)]
 
 mod build;
-mod ended;
 mod files;
 mod given;
 mod languages;
@@ -13,12 +12,12 @@ mod tell;
 mod words;
 
 use crate::build::{Use, build};
-use crate::ended::{Ended, status};
 use crate::languages::list_languages;
 use crate::search::search;
 use crate::words::command_line;
 use clap::ArgMatches;
 use clap::error::ErrorKind;
+use elasticlunr_input::ended::{Ended, status};
 use std::process::ExitCode;
 use std::{env, io};
 

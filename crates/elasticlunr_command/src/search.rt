@@ -1,9 +1,9 @@
 //! `search`: what a query finds in a printed index.
 
-use crate::ended::Ended;
 use crate::files::{input_name, read_input};
 use crate::tell::{failed, troubled};
 use clap::ArgMatches;
+use elasticlunr_input::ended::Ended;
 use elasticlunr_input::message::{Trouble, not_json, unplaced};
 use elasticlunr_input::nearest::nearest;
 use elasticlunr_lang::{AnyLanguage, from_name};

@@ -1,6 +1,6 @@
 //! What goes to the error stream.
 
-use crate::ended::Ended;
+use elasticlunr_input::ended::Ended;
 use elasticlunr_input::message::{Message, Trouble};
 use std::io;
 

@@ -6,3 +6,4 @@ pub mod Refusals
 pub mod Called
 pub mod IndexLemmas
 pub mod FirstFaults
+pub mod Scripts

@@ -9,3 +9,5 @@ pub mod Inputs
 pub mod FirstFaults
 pub mod FaultPlaces
 pub mod RefusedPlaces
+pub mod Script
+pub mod Status

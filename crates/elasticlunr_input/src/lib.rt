@@ -6,6 +6,7 @@
 #![tactic(auto)]
 
 mod documents;
+pub mod ended;
 pub mod form;
 pub mod index;
 mod job_fault;
@@ -15,5 +16,6 @@ mod lines;
 pub mod message;
 pub mod nearest;
 pub mod notes;
+pub mod script;
 pub mod settings;
 mod tokens;

@@ -1,7 +1,7 @@
 -- The status that the process ends with.
 use Rattle.std.specs.Prelude.{ℕ}
-use Rattle.elasticlunr_command.specs.declared.ended.Ended.{Ended}
-use Rattle.elasticlunr_command.specs.declared.ended.Ended.TheVariants.{Done, Refused, Failed, Misused}
+use Rattle.elasticlunr_input.specs.declared.ended.Ended.{Ended}
+use Rattle.elasticlunr_input.specs.declared.ended.Ended.TheVariants.{Done, Refused, Failed, Misused}
 
 abbrev pub status_of : Ended → ℕ
 status_of Done = 0

@@ -1,5 +1,5 @@
 use Rattle.std.proofs.Common.{[], ◌∷◌, ◌++◌, ap, ◌∙◌}
-use Rattle.elasticlunr_command.proofs.build.script_of.Goals as goal
+use Rattle.elasticlunr_input.proofs.script.script_of.Goals as goal
 
 pub returns : goal.returns
 returns c =

@@ -1,10 +1,10 @@
-//! How a run ends.
+//! How a run over an input ends.
 ghost use Rattle.std.specs.Prelude.{◌≡◌};
-ghost use Rattle.elasticlunr_command.specs.Status.{status_of};
+ghost use Rattle.elasticlunr_input.specs.Status.{status_of};
 
 /// How a run ends.
 #[derive(Clone, Copy, Debug, PartialEq, Eq)]
-pub(crate) enum Ended {
+pub enum Ended {
     /// It did what was asked for.
     Done,
     /// The input or the index was refused.
@@ -16,7 +16,7 @@ pub(crate) enum Ended {
 }
 
 /// The status that the process ends with.
-pub(crate) fn status(ended: Ended) -> u8
+pub fn status(ended: Ended) -> u8
     ensures { result ≡ status_of ended }
 {
     match ended {

@@ -15,3 +15,18 @@ returns-clause-plan g c = if_ok c.with_language.result _ _ (λ index is english.
 
 pub returns-clause-after : goal.returns-clause-after
 returns-clause-after g c = if_ok c.with_language.result _ _ (λ index is english. is) c.with_language.ensures.after
+
+pub returns-clause-errors : goal.returns-clause-errors
+returns-clause-errors g c = c.with_language.ensures.errors
+
+pub returns-clause-empty : goal.returns-clause-empty
+returns-clause-empty g c = c.with_language.ensures.empty
+
+pub returns-clause-kept : goal.returns-clause-kept
+returns-clause-kept g c = c.with_language.ensures.kept
+
+pub returns-clause-leaves : goal.returns-clause-leaves
+returns-clause-leaves g c = if_ok c.with_language.result _ _ (λ index is english. is) c.with_language.ensures.leaves
+
+pub returns-clause-reads : goal.returns-clause-reads
+returns-clause-reads g c = if_ok c.with_language.result _ _ (λ index is english. is) c.with_language.ensures.reads

@@ -16,7 +16,7 @@ loop-token-preserved c =
     let after = c.retain.new.self.items in
     let token = string_bytes c.token-item.result in
     let test = λ (bs : Bytes). is_some (posting c.args.trie.now (chars token) bs) in
-    let same = filter_same _ (λ k. test (string_bytes k)) _ (λ x b f k. search rules) before after c.retain.ensures.filtered in
+    let same = filter_same _ (λ k. test (string_bytes k)) _ (λ x b f k. ((cc), search rules)) before after c.retain.ensures.filtered in
     let kept = ap bytes_of same ∙ map-filter string_bytes test (λ k. test (string_bytes k)) (λ k. refl) before in (
       subst (IsStrictlySortedBy text_cmp) (sym kept) (IsStrictlySortedBy-filter text_cmp test (bytes_of before) c.loop-token.invariant.0),
       λ r. step_all (λ t. is_some (posting c.args.trie.now t r)) c.in-Some.first.now c.in-Some.others.now c.args.tokens.now c.loop-token.token-index c.token-item.result token _ _ _

@@ -27,3 +27,15 @@ returns-in-All-clause-found g c = weaker_ok c.find_all.result _ _ (λ found h la
       subst (λ j. Finds reads j commands f.place c.args.query.now (bytes_of found.items)) (sym c.in-All.is)
           (finds_all_words reads f.place c.args.query.now f.tokens f.of_query commands (λ r token. law language plan.fields plan.reference_field commands f.place r token read) (bytes_of found.items) f.are),
     )) c.find_all.ensures.found
+
+pub returns-in-All-clause-no_field : goal.returns-in-All-clause-no_field
+returns-in-All-clause-no_field g c = c.find_all.ensures.no_field
+
+pub returns-in-All-clause-errors : goal.returns-in-All-clause-errors
+returns-in-All-clause-errors g c = c.find_all.ensures.errors
+
+pub returns-in-Any-clause-no_field : goal.returns-in-Any-clause-no_field
+returns-in-Any-clause-no_field g c = c.find_any.ensures.no_field
+
+pub returns-in-Any-clause-errors : goal.returns-in-Any-clause-errors
+returns-in-Any-clause-errors g c = c.find_any.ensures.errors

@@ -20,3 +20,6 @@ returns-clause-other g c = λ v reads other.
     let both : Some v ≡ Some (view c.in_ok-value.value) = sym reads ∙ c.in_ok-value.ensures.ok in
     let same : v ≡ view c.in_ok-value.value = cc (both) in
     c.from_value.ensures.other (subst (NamesOther (g.L.Language.name_of c.args.language)) same other)
+
+pub returns-clause-refused : goal.returns-clause-refused
+returns-clause-refused g c = weaker_err c.from_value.result _ _ (λ e refused. inr (inl (view c.in_ok-value.value, c.in_ok-value.ensures.ok, refused))) c.from_value.ensures.refused

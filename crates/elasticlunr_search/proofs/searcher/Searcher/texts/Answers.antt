@@ -1,0 +1,5 @@
+use Rattle.std.proofs.Common.{◌∙◌}
+use Rattle.elasticlunr_search.proofs.searcher.Searcher.texts.Goals as goal
+
+pub returns-in-Ok-clause-texts : goal.returns-in-Ok-clause-texts
+returns-in-Ok-clause-texts g c language plan commands stands = c.in-Ok.ensures.ok ∙ stands.read.holds.store.texts c.args.reference.now

@@ -33,8 +33,8 @@ mod write;
 
 use add::add_posting;
 use docs::copy_docs;
-use elasticlunr_json::put_member;
 use elasticlunr_error::IndexError;
+use elasticlunr_json::put_member;
 use names::Names;
 use nodes::{Node, Place, Reference, find, find_frequency, find_postings};
 use read::{only_member, read_nodes};

@@ -1,8 +1,10 @@
-use Rattle.std.proofs.Common.{◌≡◌, ℕ, [], Result, Ok, Err, OnErr, sym, ap, ◌∙◌, length}
+use Rattle.std.proofs.Common.{◌≡◌, ℕ, [], Result, Ok, Err, OnErr, sym, ap, subst, ◌∙◌, length}
 use Rattle.std.specs.Str.{chars}
 use Rattle.elasticlunr_error.specs.Text.{Text}
 use Rattle.std.proofs.lemmas.Bool.{eqb-true, eq-eqb}
 use mathlib.Core.Bool.{false≢true}
+use Rattle.elasticlunr_trie.specs.Table.{AddsToken}
+use Rattle.elasticlunr_trie.specs.Trie.{table_of}
 use Rattle.elasticlunr_trie.proofs.Letters.{some_character, no_character}
 use Rattle.elasticlunr_trie.proofs.inverted_index.InvertedIndex.add_token.Goals as goal
 
@@ -29,3 +31,10 @@ returns-in_err-add_posting-clause-err c = on_err c.from_residual.result _ (c.in_
 pub returns-clause-empty_token : goal.returns-clause-empty_token
 returns-clause-empty_token c none =
     absurd (false≢true (c.if-is_empty.ensures ∙ eq-eqb (length c.args.token.now) 0 (some_character c.args.token.now c.utf8.token none)))
+
+-- the start tells the token and the frequency
+pub returns-clause-ok : goal.returns-clause-ok
+returns-clause-ok c _ =
+    let after = table_of c.add_posting.new.root.items c.add_posting.new.nodes.items c.add_posting.new.names in
+    subst (λ (t : Text × ℕ). AddsToken c.args.self.now after t.0 c.args.doc_ref.now t.1) c.new.ensures.told
+    (subst (λ T. AddsToken T after (chars c.new.result.token.now) c.args.doc_ref.now c.new.result.frequency) c.self.view_is c.in_ok-add_posting.ensures.ok)

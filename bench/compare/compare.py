@@ -127,10 +127,13 @@ def speed_jobs():
     yield "2,000 documents, 1,000 references removed", dict(english, remove=removed), False, ("English, 2,000 documents", 1)
 
 
-def best(command, asked, runs):
-    """The fastest of some runs; a run that fails decides."""
-    found = [measured(command, asked, PIPED) for _ in range(runs)]
-    return next((run for run in found if run.status != 0), min(found, key=lambda run: run.seconds))
+def middle(found):
+    """The median of some runs; a run that fails decides.
+
+    A machine's speed changes from second to second. The least of some short runs is that of a fast
+    moment, which a long run doesn't get, so ratios of jobs of different sizes would be too high.
+    """
+    return next((run for run in found if run.status != 0), sorted(found, key=lambda run: run.seconds)[len(found) // 2])
 
 
 def told_run(run):
@@ -159,21 +162,32 @@ def regex_of(original):
 
 def speed(original, runs):
     """Prints the table; how many jobs were done, and how many failed."""
+    jobs = list(speed_jobs())
+    found = {}
+    with tempfile.TemporaryDirectory() as folder:
+        files = {}
+        for number, (name, job, _, _) in enumerate(jobs):
+            files[name] = os.path.join(folder, f"job{number}.json")
+            with open(files[name], "w", encoding="utf-8") as file:
+                json.dump(job, file, ensure_ascii=False)
+        for _ in range(runs):  # every job once, and then again, so that all meet the same machine
+            for name, _, is_for_both, _ in jobs:
+                for command in [PROGRAM] + [original] * is_for_both:
+                    found.setdefault((name, command), []).append(measured([command], files[name], PIPED))
     failed = 0
     ours = {}
     print("\n| Job | Here | The original | Ratio |\n|---|---|---|---|")
-    with tempfile.TemporaryDirectory() as folder:
-        asked = os.path.join(folder, "job.json")
-        for name, job, is_for_both, beside in speed_jobs():
-            with open(asked, "w", encoding="utf-8") as file:
-                json.dump(job, file, ensure_ascii=False)
-            mine = ours[name] = best([PROGRAM], asked, runs)
-            theirs = best([original], asked, runs) if is_for_both else None
-            failed += mine.status != 0 or bool(theirs and theirs.status != 0)
-            ratio = ratio_to(mine, theirs) if theirs else ratio_to_ours(mine, ours, *beside)
-            row = [name, told_run(mine), told_run(theirs) if theirs else "-", ratio]
-            print("| " + " | ".join(row) + " |", flush=True)
-    print(f"\nThe fastest of {runs} runs each, with the most memory that it took; the original over {regex_of(original)}, as `cargo build --release` builds it.")
+    for name, _, is_for_both, beside in jobs:
+        mine = ours[name] = middle(found[name, PROGRAM])
+        theirs = middle(found[name, original]) if is_for_both else None
+        failed += mine.status != 0 or bool(theirs and theirs.status != 0)
+        ratio = ratio_to(mine, theirs) if theirs else ratio_to_ours(mine, ours, *beside)
+        row = [name, told_run(mine), told_run(theirs) if theirs else "-", ratio]
+        print("| " + " | ".join(row) + " |", flush=True)
+    print(
+        f"\nThe medians of {runs} runs, with their memory; each run does every job once. The original over {regex_of(original)}, "
+        "as `cargo build --release` builds it."
+    )
     return len(ours) - failed, failed
 
 
@@ -181,7 +195,7 @@ def main():
     parser = argparse.ArgumentParser(description=__doc__, formatter_class=argparse.RawDescriptionHelpFormatter)
     parser.add_argument("--jobs", type=int, default=2000)
     parser.add_argument("--seed", type=int, default=1)
-    parser.add_argument("--runs", type=int, default=3)
+    parser.add_argument("--runs", type=int, default=5)
     parser.add_argument("--only", choices=["replay", "speed"])
     parser.add_argument("original")
     options = parser.parse_args()

@@ -4,8 +4,9 @@
 usage: build.py [--check | --proved] NAME
 
 Each crate is proved once those that it stands on are; crates that don't stand on one another are
-proved side by side. What `rt` says goes to out/build-CRATE.log; its end is shown where a crate isn't
-proved. A crate has a line, with its seconds, once it is.
+proved side by side, and that on which most has still to be built goes first: it gets all processors,
+and the others what it leaves of them. What `rt` says goes to out/build-CRATE.log; its end is shown
+where a crate isn't proved. A crate has a line, with its seconds, once it is.
 Where nothing has changed since the last build there is nothing to do and nothing is said.
 
 --check does nothing, and its status says whether there is nothing to do. --proved notes that the
@@ -23,6 +24,7 @@ import room
 
 LOGS = os.path.join(room.TOP, "out")
 FIRST = {"elasticlunr_index": "10 to 14 minutes on four cores"}  # what a build from nothing takes
+GIGABYTES_OF_JOB = 2  # that a job of a check was seen to take
 SHOWN = 40  # lines of the log that are shown where a crate isn't proved
 BUILT = (b"\nlogic=proved ", b"nothing has changed since the last proved build")  # what rt says of a program
 
@@ -67,12 +69,41 @@ def say(text):
     print(text, file=sys.stderr, flush=True)
 
 
-def rt(command, at, jobs, log):
+def size(crate):
+    """The bytes of a crate's sources: about as these, its proof takes time."""
+    return sum(
+        os.path.getsize(os.path.join(at, it))
+        for part in room.PARTS
+        for at, _, names in os.walk(os.path.join(folder(crate), part))
+        for it in names
+    )
+
+
+def heights(name):
+    """For a program and each crate below it, the size of what is proved one after the other from it up to the program."""
+    named = room.crates()
+    found = {}
+    for crate in [name] + room.below(name)[::-1]:
+        found[crate] = size(crate) + max((height for above, height in found.items() if crate in named[above]), default=0)
+    return found
+
+
+def share(is_first, others):
+    """The jobs of a crate that is proved beside so many others, and the words that let it stand back behind the first."""
+    processors = len(os.sched_getaffinity(0))
+    gigabytes = os.sysconf("SC_PHYS_PAGES") * os.sysconf("SC_PAGE_SIZE") / 2**30
+    if gigabytes < GIGABYTES_OF_JOB * processors * (1 + others / 2):
+        return max(1, processors // (1 + others)), []
+    return (processors, []) if is_first else (max(1, processors // 2), ["nice", "-n", "10"])
+
+
+def rt(command, at, shared, log):
     """One run of rt in a crate's folder: whether all is proved. A program is run on its stored input.
 
     Its own status is not asked for: it may want words or files that it does not get here.
     """
-    words = ["rt", *command] + (["--jobs", str(jobs)] if jobs else [])
+    jobs, back = shared
+    words = [*back, "rt", *command, "--jobs", str(jobs)]
     stored = os.path.join(at, "stdin")
     with open(log, "wb") as file, open(stored if os.path.exists(stored) else os.devnull, "rb") as given:
         status = subprocess.run(words, cwd=at, stdin=given, stdout=file, stderr=file).returncode
@@ -81,20 +112,20 @@ def rt(command, at, jobs, log):
     return status == 0 or (command == ["run"] and any(it in said for it in BUILT))
 
 
-def prove(crate, command, jobs, log, is_alone):
+def prove(crate, command, shared, log, is_alone):
     """Proves a crate in its folder, or in a room beside another run, and gives the seconds, or None."""
     begun = time.monotonic()
-    proved = rt(command, folder(crate), jobs, log) if is_alone else prove_beside(crate, command, jobs, log)
+    proved = rt(command, folder(crate), shared, log) if is_alone else prove_beside(crate, command, shared, log)
     return time.monotonic() - begun if proved else None
 
 
-def prove_beside(crate, command, jobs, log):
+def prove_beside(crate, command, shared, log):
     with room.Room(room.below(crate), room.line_of(crate)) as beside:
         room.share(crate, beside.path, room.PARTS)
         at = os.path.join(beside.path, "crates", crate)
         move(os.path.join(folder(crate), "out"), os.path.join(at, "out"))
         try:
-            return rt(command, at, jobs, log)
+            return rt(command, at, shared, log)
         finally:
             move(os.path.join(at, "out"), os.path.join(folder(crate), "out"))
 
@@ -106,19 +137,21 @@ def move(source, target):
 
 def build(name):
     """Proves the crates below a program, and the program: whether all went well."""
-    left = room.below(name) + [name]
+    height = heights(name)
+    left = sorted(height, key=height.get, reverse=True)
     proved = set()
     running = {}
-    processors = len(os.sched_getaffinity(0))
     os.makedirs(LOGS, exist_ok=True)
     with ThreadPoolExecutor() as pool:
         while left or running:
             ready = [crate for crate in left if proved.issuperset(room.below(crate))]
-            jobs = max(1, processors // len(ready)) if len(ready) > 1 else None
+            at_work = ready + [crate for crate, _ in running.values()]
+            first = max(at_work, key=height.get, default=None)
             for crate in ready:
                 command = ["run"] if crate == name else ["lib"]
                 log = os.path.join(LOGS, f"build-{crate}.log")
-                running[pool.submit(prove, crate, command, jobs, log, not running)] = crate, log
+                shared = share(crate == first, len(at_work) - 1)
+                running[pool.submit(prove, crate, command, shared, log, not running)] = crate, log
                 left.remove(crate)
             for ended in wait(running, return_when=FIRST_COMPLETED).done:
                 crate, log = running.pop(ended)

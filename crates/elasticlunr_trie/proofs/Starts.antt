@@ -1,9 +1,10 @@
 -- Tokens of which a beginning has been walked.
-use Rattle.std.proofs.Common.{◌≡◌, ℕ, suc, ◌+◌, ◌<◌, List, ◌∷◌, map, length, drop, sym, ap, subst, ◌∙◌, arith}
+use Rattle.std.proofs.Common.{◌≡◌, ℕ, suc, ◌+◌, ◌<◌, List, ◌∷◌, ◌++◌, map, length, take, drop, All, sym, ap, subst, ◌∙◌, arith}
 use Rattle.std.specs.Prelude.{slice_index_or}
 use Rattle.std.specs.Str.{chars}
-use Rattle.std.proofs.Math.Seq.{drop-cons}
-use Rattle.elasticlunr_error.specs.Text.{Bytes}
+use Rattle.std.proofs.Math.Seq.{drop-cons, take-append_seam}
+use Rattle.std.proofs.lemmas.List.{length-map}
+use Rattle.elasticlunr_error.specs.Text.{Text, Bytes}
 use Rattle.elasticlunr_trie.specs.Table.{Table, add, IsChanged, AreChanged, additions}
 use Rattle.elasticlunr_trie.specs.Trie.{Step}
 use Rattle.elasticlunr_trie.specs.Starts.{IsStart, KeepsPaths, told}
@@ -19,3 +20,10 @@ pub changed_on : (r : Bytes) (starts : List Start) (i : ℕ) (d : Start) (T U V 
 changed_on r starts i d T U V lt changed more =
     let next : suc i ≡ i + 1 = omega arith in
     subst (λ ss. AreChanged (additions r (map told ss)) T V) (sym (drop-cons starts i d lt ∙ ap (λ n. slice_index_or starts i d ∷ drop n starts) next)) (U, changed, more)
+
+-- starts that were walked on where they stand in a vector of n, which tells what it told
+pub walked_on : (step : Step) (n : ℕ) (old new rest : List Start) (tokens : List (Text × ℕ)) → length old ≡ n → map told new ≡ map told old → All (IsStart step) new → map told old ≡ tokens
+    → All (IsStart step) (take n (new ++ rest)) × (map told (take n (new ++ rest)) ≡ tokens)
+walked_on step n old new rest tokens count same are tell =
+    let all = ap (λ m. take m (new ++ rest)) (sym count ∙ sym (length-map old told) ∙ ap length (sym same) ∙ length-map new told) ∙ take-append_seam new rest in
+    (subst (All (IsStart step)) (sym all) are, ap (map told) all ∙ same ∙ tell)

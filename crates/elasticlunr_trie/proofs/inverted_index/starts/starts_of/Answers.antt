@@ -1,0 +1,14 @@
+use Rattle.std.proofs.Common.{map, ap, ◌∙◌}
+use Rattle.elasticlunr_trie.specs.Starts.{told}
+use Rattle.elasticlunr_trie.specs.Trie.{step_of}
+use Rattle.elasticlunr_trie.proofs.Starts.{walked_on}
+use Rattle.elasticlunr_trie.proofs.inverted_index.starts.starts_of.Goals as goal
+
+pub loop-preserved : goal.loop-preserved
+loop-preserved c = walked_on (step_of c.args.root.now c.args.nodes.now) c.loop.starts.len c.deref_mut.result.now c.step_all.new.starts _ _ c.deref_mut.ensures.len c.step_all.ensures.told c.step_all.ensures.starts (ap (map told) c.deref_mut.ensures.value ∙ c.loop.invariant.1)
+
+pub returns-clause-starts : goal.returns-clause-starts
+returns-clause-starts c = (walked_on (step_of c.args.root.now c.args.nodes.now) c.loop.starts.len c.deref_mut-2.result.now c.finish_all.new.starts _ _ c.deref_mut-2.ensures.len c.finish_all.ensures.told c.finish_all.ensures.starts (ap (map told) c.deref_mut-2.ensures.value ∙ c.loop.invariant.1)).0
+
+pub returns-clause-told : goal.returns-clause-told
+returns-clause-told c = (walked_on (step_of c.args.root.now c.args.nodes.now) c.loop.starts.len c.deref_mut-2.result.now c.finish_all.new.starts _ _ c.deref_mut-2.ensures.len c.finish_all.ensures.told c.finish_all.ensures.starts (ap (map told) c.deref_mut-2.ensures.value ∙ c.loop.invariant.1)).1

@@ -18,26 +18,16 @@ use Rattle.elasticlunr_lang.specs.declared.any.AnyLanguage.TheVariants.{English,
 use Rattle.elasticlunr.specs.Calls.{Call, adding, removing, compacting, HasOneReading, HasOneDocument, followed_by, IsCommandOf, AreCommandsOf}
 use Rattle.elasticlunr.specs.Choices.{Choices, IsMadeAt, Reads, plan_with}
 use Rattle.elasticlunr.specs.Documents.{IsGiven, IsDocument}
-use Rattle.elasticlunr.specs.History.{Given, Document, Command, add, remove, compact, Commands, none}
+use Rattle.elasticlunr_history.specs.History.{Given, Document, Command, add, remove, compact, Commands, none}
 use Rattle.elasticlunr.specs.Index as index_specs
 use Rattle.elasticlunr.specs.Index.{SameSettings, plan_of}
-use Rattle.elasticlunr.specs.Printed.{IsValue, IsTextAfter}
+use Rattle.elasticlunr_printed.specs.Printed.{IsValue, IsTextAfter}
 use Rattle.elasticlunr.specs.Reading.{LanguageReads, ReadsOnly}
-use Rattle.elasticlunr.specs.Standing.{Plan}
+use Rattle.elasticlunr_history.specs.Standing.{Plan}
+use Rattle.elasticlunr_history.proofs.OneZip.{one_zip}
 use Rattle.elasticlunr.specs.Tokenizers.{MayAnswer}
 use Rattle.elasticlunr.specs.declared.index.Index.{Index}
 use Rattle.elasticlunr.specs.declared.settings.Tokenizer.{Tokenizer}
-
--- what is related to the items of a list, where each has one partner
-pub one_zip : {A B : Type 0} (R : A → B → Type 0) → ((x : A) (y z : B) → R x y → R x z → y ≡ z) → (xs : List A) (ys zs : List B) → AllZip R xs ys → AllZip R xs zs → ys ≡ zs
-one_zip R one [] [] [] a b = refl
-one_zip R one [] [] (z ∷ zs) a b = absurd b
-one_zip R one [] (y ∷ ys) zs a b = absurd a
-one_zip R one (x ∷ xs) [] zs a b = absurd a
-one_zip R one (x ∷ xs) (y ∷ ys) [] a b = absurd b
-one_zip R one (x ∷ xs) (y ∷ ys) (z ∷ zs) a b =
-    let head : y ≡ z = one x y z a.0 b.0 in
-    let tail : ys ≡ zs = one_zip R one xs ys zs a.1 b.1 in cc
 
 -- strings of equal bytes have equal characters
 same_texts : (ss ts : List (String Global)) → bytes_of ss ≡ bytes_of ts → texts_of ss ≡ texts_of ts

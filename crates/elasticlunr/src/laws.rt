@@ -2,8 +2,8 @@
 pub mod calls;
 pub mod current;
 pub mod found;
-pub mod order;
 pub mod reading;
-pub mod removal;
-pub mod values;
 pub mod word;
+
+pub use elasticlunr_history::laws::order;
+pub use elasticlunr_printed::laws::{removal, values};

@@ -1,0 +1,5 @@
+pub mod Counting
+pub mod Entering
+pub mod Pairing
+pub mod Removing
+pub mod Storing

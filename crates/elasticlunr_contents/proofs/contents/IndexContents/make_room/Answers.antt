@@ -1,0 +1,11 @@
+use Rattle.std.proofs.Common.{sym, subst, ◌∙◌}
+use Rattle.elasticlunr_history.specs.Entered.{MakesRoom}
+use Rattle.elasticlunr_contents.proofs.Entering.{room_taken, room_there}
+use Rattle.elasticlunr_contents.proofs.contents.IndexContents.make_room.Goals as goal
+
+pub returns-then-has_doc-clause-room : goal.returns-then-has_doc-clause-room
+returns-then-has_doc-clause-room c = λ _. subst (MakesRoom c.args.doc_ref.now c.args.self.now.tries.items c.take_out.new.self.tries.items c.args.self.now.store) (sym c.take_out.ensures.store)
+    (room_taken c.args.doc_ref.now c.args.self.now.tries.items c.take_out.new.self.tries.items c.args.self.now.store c.take_out.ensures.tries)
+
+pub returns-else-has_doc-clause-room : goal.returns-else-has_doc-clause-room
+returns-else-has_doc-clause-room c = λ only. room_there c.args.doc_ref.now c.args.self.now.tries.items c.args.self.now.store only (sym c.has_doc.ensures ∙ c.if-has_doc.false)

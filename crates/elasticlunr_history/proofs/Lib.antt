@@ -1,0 +1,5 @@
+pub mod Adding
+pub mod Agreeing
+pub mod Naming
+pub mod OneZip
+pub mod Same

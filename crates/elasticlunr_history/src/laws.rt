@@ -1,0 +1,3 @@
+//! Laws over the definitions: functions that do nothing, whose contracts are the laws.
+
+pub mod order;

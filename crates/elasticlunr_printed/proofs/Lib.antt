@@ -1,0 +1,15 @@
+pub mod AfterCommands
+pub mod Decimals
+pub mod Deeper
+pub mod Fresh
+pub mod Held
+pub mod Members
+pub mod Plain
+pub mod PlainValues
+pub mod ReadBack
+pub mod Shapes
+pub mod Sorting
+pub mod Telling
+pub mod Unique
+pub mod Values
+pub mod Writing

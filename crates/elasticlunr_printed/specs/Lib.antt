@@ -1,0 +1,4 @@
+pub mod Parts
+pub mod Printed
+pub mod Shape
+pub mod Sorted

@@ -1,6 +1,6 @@
 use Rattle.std.proofs.Common.{Ok, ap}
-use Rattle.elasticlunr_index.proofs.Devices.{consumed_all}
-use Rattle.elasticlunr_index.proofs.device.read_to_end.Goals as goal
+use Rattle.elasticlunr_device.proofs.Devices.{consumed_all}
+use Rattle.elasticlunr_device.proofs.device.read_to_end.Goals as goal
 
 pub returns-in-Err-clause-all : goal.returns-in-Err-clause-all
 returns-in-Err-clause-all g c = tt

@@ -1,6 +1,6 @@
 use Rattle.std.proofs.Common.{arith}
-use Rattle.elasticlunr_index.proofs.Devices.{ok_same}
-use Rattle.elasticlunr_index.proofs.device.FromReadSource.read.Goals as goal
+use Rattle.elasticlunr_device.proofs.Devices.{ok_same}
+use Rattle.elasticlunr_device.proofs.device.FromReadSource.read.Goals as goal
 
 pub returns-in-Ok-clause-bound : goal.returns-in-Ok-clause-bound
 returns-in-Ok-clause-bound g c = c.in-Ok.ensures.bound.0

@@ -1,5 +1,5 @@
 use Rattle.std.proofs.Common.{arith}
-use Rattle.elasticlunr_index.proofs.device.ToWriteSink.write.Goals as goal
+use Rattle.elasticlunr_device.proofs.device.ToWriteSink.write.Goals as goal
 
 pub returns-in-Ok-clause-bound : goal.returns-in-Ok-clause-bound
 returns-in-Ok-clause-bound g c = (omega arith, c.in-Ok.ensures.bound)

@@ -16,14 +16,13 @@ ghost use Rattle.elasticlunr_job.specs.Objects.{job_of};
 ghost use Rattle.elasticlunr_parse.specs.ObjectsTold.{object_told, options_told};
 ghost use Rattle.serde_json.specs.View.{view};
 
-pub use elasticlunr_parse::lines::{is_blank, next_filled};
-
 use crate::answer::line_of;
 use crate::objects::{Object, ObjectsError, Options, Problem, object_of, stop_at};
 use crate::outcome::{Refusal, Stop};
 use elasticlunr::lang::{AnyLanguage, from_name};
 use elasticlunr::laws::calls::an_index_makes_what_its_language_makes;
 use elasticlunr::{Index, IndexBuilder};
+pub use elasticlunr_parse::lines::{is_blank, next_filled};
 use elasticlunr_parse::read::read_json;
 use serde_json::Value;
 use std::alloc::Global;

@@ -9,12 +9,11 @@ ghost use Rattle.elasticlunr_parse.specs.ObjectsTold.{object_told, options_told}
 ghost use Rattle.elasticlunr_job.specs.Objects.{FailsObjects, IsLineOfObjects, job_of};
 ghost use Rattle.elasticlunr_job.specs.ObjectsTold.{stop_at};
 
-pub use elasticlunr_parse::objects::{AddError, Object, Options, Problem, object_of};
-
 use crate::answer::job_line;
 use crate::outcome::{Refusal, Stop};
 use elasticlunr::IndexError;
 use elasticlunr_parse::job::{Document, Job};
+pub use elasticlunr_parse::objects::{AddError, Object, Options, Problem, object_of};
 use serde_json::Value;
 use std::alloc::{AllocError, AllocFailed, Global};
 

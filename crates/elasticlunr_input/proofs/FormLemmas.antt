@@ -5,10 +5,10 @@ use Rattle.serde_json.specs.Data.{Data}
 use Rattle.serde_json.specs.View.{view}
 use Rattle.serde_json.specs.declared.value.Value.{Value}
 use Rattle.elasticlunr_text.specs.Text.{Bytes}
-use Rattle.elasticlunr_job.specs.Answer.{reading}
+use Rattle.elasticlunr_parse.specs.Reading.{reading}
 use Rattle.elasticlunr_input.specs.Forms.{HasForm, IsNotJson, begins_with_an_object, is_object_line}
 use Rattle.elasticlunr_input.specs.Inputs.{IsInput, input_of}
-use Rattle.elasticlunr_job.specs.Lines.{is_filled, lines_of}
+use Rattle.elasticlunr_parse.specs.Lines.{is_filled, lines_of}
 use Rattle.elasticlunr_input.specs.declared.form.Form.{Form}
 use Rattle.elasticlunr_input.specs.declared.form.Form.TheVariants.{Job, Objects, Lines}
 

@@ -4,17 +4,20 @@ use Rattle.std.specs.List.{slice_get}
 use Rattle.std.proofs.lemmas.List.{length-append, map-append}
 use Rattle.serde_json.specs.Data.{Data}
 use Rattle.elasticlunr_text.specs.Text.{Bytes}
-use Rattle.elasticlunr_job.specs.Answer.{reading, FailsAt}
-use Rattle.elasticlunr_job.specs.Job.{Document}
-use Rattle.elasticlunr_job.specs.Lines.{filled_lines, readings, AreLineValues, FailsLines, HasLineProblem, HasUnreadLine, IsLineOfLines}
-use Rattle.elasticlunr_job.specs.Objects as objects
-use Rattle.elasticlunr_job.specs.Objects.{AreDocumentsOf, HasProblem, IsDocumentOf, IsFirstProblem, job_of}
+use Rattle.elasticlunr_parse.specs.Reading.{reading}
+use Rattle.elasticlunr_job.specs.Answer.{FailsAt}
+use Rattle.elasticlunr_parse.specs.Job.{Document}
+use Rattle.elasticlunr_parse.specs.Lines.{filled_lines, readings, AreLineValues, HasUnreadLine}
+use Rattle.elasticlunr_job.specs.Lines.{FailsLines, HasLineProblem, IsLineOfLines}
+use Rattle.elasticlunr_parse.specs.Objects as objects
+use Rattle.elasticlunr_parse.specs.Objects.{AreDocumentsOf, HasProblem, IsDocumentOf, IsFirstProblem}
+use Rattle.elasticlunr_job.specs.Objects.{IsLineOfObjects, job_of}
 use Rattle.elasticlunr_job.specs.declared.objects.ObjectsError.{ObjectsError}
 use Rattle.elasticlunr_job.specs.declared.objects.ObjectsError.TheVariants as error
-use Rattle.elasticlunr_job.specs.declared.objects.Problem.{Problem}
-use Rattle.elasticlunr_job.specs.declared.outcome.Refusal.{Refusal}
-use Rattle.elasticlunr_job.specs.declared.outcome.Refusal.TheVariants.{NotJson, NotAJob, UnknownLanguage, DuplicateField, TooManyValues}
-use Rattle.elasticlunr_job.proofs.FieldTexts.{AllZip-push}
+use Rattle.elasticlunr_parse.specs.declared.objects.Problem.{Problem}
+use Rattle.elasticlunr_parse.specs.declared.outcome.Refusal.{Refusal}
+use Rattle.elasticlunr_parse.specs.declared.outcome.Refusal.TheVariants.{NotJson, NotAJob, UnknownLanguage, DuplicateField, TooManyValues}
+use Rattle.elasticlunr_parse.proofs.FieldTexts.{AllZip-push}
 use Rattle.elasticlunr_input.specs.Asked.{options_of, reference_key_of}
 use Rattle.elasticlunr_input.specs.Fields.{fields_of_first, text_keys}
 use Rattle.elasticlunr_input.specs.Lines.{IsLinesLineWith}
@@ -116,7 +119,7 @@ module _ (settings : Settings) (text : Bytes) (options : objects.Options) (first
   first_options items are = told ∙ ap (λ fs. record (options_of settings first) { fields = unwrap_or settings.fields fs }) (first_alike (reference_key_of settings) first items (begins ∙ ap (take 1) (sym are)))
 
   pub line_with : (line : Bytes) → IsLineOfLines options text line → IsLinesLineWith settings text line
-  line_with line is = (is.0, is.1, subst (λ o. objects.IsLineOfObjects o is.0 line) (first_options is.0 is.1) is.2)
+  line_with line is = (is.0, is.1, subst (λ o. IsLineOfObjects o is.0 line) (first_options is.0 is.1) is.2)
 
   pub fail_with : FailLinesOf options text → FailLines settings text
   fail_with fails = elim fails [

@@ -2,10 +2,10 @@
 use Rattle.std.proofs.Common.{◌≡◌, ◌+◌, ℕ, List, ◌∷◌, ◌++◌, take, map, Option, Some, None, Result, Ok, Err, IfErr, IfSome, IsErrAnd, inl, inr, sym, ap, subst, ◌∙◌}
 use Rattle.serde_json.specs.Data.{Data}
 use Rattle.elasticlunr_text.specs.Text.{Bytes}
-use Rattle.elasticlunr_job.specs.Answer.{reading}
-use Rattle.elasticlunr_job.specs.Lines.{filled_lines, readings}
-use Rattle.elasticlunr_job.specs.Objects.{Options, HasProblem, IsFirstProblem}
-use Rattle.elasticlunr_job.specs.declared.objects.Problem.{Problem}
+use Rattle.elasticlunr_parse.specs.Reading.{reading}
+use Rattle.elasticlunr_parse.specs.Lines.{filled_lines, readings}
+use Rattle.elasticlunr_parse.specs.Objects.{Options, HasProblem, IsFirstProblem}
+use Rattle.elasticlunr_parse.specs.declared.objects.Problem.{Problem}
 use Rattle.elasticlunr_input.specs.Asked.{options_of}
 use Rattle.elasticlunr_input.specs.FaultPlaces.{IsPlaceInObjects, IsPlaceOfProblem}
 use Rattle.elasticlunr_input.specs.Refused.{HaveValues}

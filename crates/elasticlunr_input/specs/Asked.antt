@@ -4,7 +4,8 @@ use Rattle.serde_json.specs.Data.{Data}
 use Rattle.serde_json.specs.Find.{as_array}
 use Rattle.serde_json.specs.View.{items_of}
 use Rattle.elasticlunr_text.specs.Text.{Bytes}
-use Rattle.elasticlunr_job.specs.Objects.{Options, IsLineOfObjects}
+use Rattle.elasticlunr_parse.specs.Objects.{Options}
+use Rattle.elasticlunr_job.specs.Objects.{IsLineOfObjects}
 use Rattle.elasticlunr_input.specs.Fields.{fields_of_first}
 use Rattle.elasticlunr_input.specs.Settled.{Settings}
 

@@ -2,20 +2,20 @@
 use Rattle.std.specs.Prelude.{◌-◌, ◌⊎◌, ℕ, List, [], ◌∷◌, Bool, true, false, Some, None, slice_get, unwrap_or, codes, if◌then◌else◌}
 use Rattle.serde_json.specs.Data.{Data}
 use Rattle.elasticlunr_text.specs.Text.{Bytes}
-use Rattle.elasticlunr_job.specs.Job.{Job, IsJob}
-use Rattle.elasticlunr_job.specs.JobFaults.{HasFirstFault}
-use Rattle.elasticlunr_job.specs.JobKeys.{key_name}
-use Rattle.elasticlunr_job.specs.Objects.{Options, IsFirstProblem}
-use Rattle.elasticlunr_job.specs.declared.fault.DocumentFault.{DocumentFault}
-use Rattle.elasticlunr_job.specs.declared.fault.DocumentFault.TheVariants as doc
-use Rattle.elasticlunr_job.specs.declared.fault.Fault.{Fault}
-use Rattle.elasticlunr_job.specs.declared.fault.Fault.TheVariants.{NotAnObject, UnknownKey, Member, Missing}
-use Rattle.elasticlunr_job.specs.declared.fault.MemberFault.{MemberFault}
-use Rattle.elasticlunr_job.specs.declared.fault.MemberFault.TheVariants.{Other, Item, Document}
-use Rattle.elasticlunr_job.specs.declared.objects.Problem.{Problem}
-use Rattle.elasticlunr_job.specs.declared.objects.Problem.TheVariants as problem
-use Rattle.elasticlunr_job.specs.declared.outcome.Refusal.{Refusal}
-use Rattle.elasticlunr_job.specs.declared.outcome.Refusal.TheVariants.{UnknownLanguage, DuplicateField, TooManyValues}
+use Rattle.elasticlunr_parse.specs.Job.{Job, IsJob}
+use Rattle.elasticlunr_parse.specs.JobFaults.{HasFirstFault}
+use Rattle.elasticlunr_parse.specs.JobKeys.{key_name}
+use Rattle.elasticlunr_parse.specs.Objects.{Options, IsFirstProblem}
+use Rattle.elasticlunr_parse.specs.declared.fault.DocumentFault.{DocumentFault}
+use Rattle.elasticlunr_parse.specs.declared.fault.DocumentFault.TheVariants as doc
+use Rattle.elasticlunr_parse.specs.declared.fault.Fault.{Fault}
+use Rattle.elasticlunr_parse.specs.declared.fault.Fault.TheVariants.{NotAnObject, UnknownKey, Member, Missing}
+use Rattle.elasticlunr_parse.specs.declared.fault.MemberFault.{MemberFault}
+use Rattle.elasticlunr_parse.specs.declared.fault.MemberFault.TheVariants.{Other, Item, Document}
+use Rattle.elasticlunr_parse.specs.declared.objects.Problem.{Problem}
+use Rattle.elasticlunr_parse.specs.declared.objects.Problem.TheVariants as problem
+use Rattle.elasticlunr_parse.specs.declared.outcome.Refusal.{Refusal}
+use Rattle.elasticlunr_parse.specs.declared.outcome.Refusal.TheVariants.{UnknownLanguage, DuplicateField, TooManyValues}
 use Rattle.elasticlunr_input.specs.FirstFaults.{IsFirstTooLong, IsFirstTwice}
 use Rattle.elasticlunr_place.specs.Members.{Move, item, under, IsPlaceOf}
 use Rattle.elasticlunr_input.specs.declared.form.Form.{Form}

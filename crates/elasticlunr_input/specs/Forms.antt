@@ -3,8 +3,8 @@ use Rattle.std.specs.Prelude.{◌≡◌, ◌⊎◌, ◌&&◌, Bool, true, false,
 use Rattle.serde_json.specs.Data.{Data}
 use Rattle.serde_json.specs.Find.{as_array, as_object, get}
 use Rattle.elasticlunr_text.specs.Text.{Bytes}
-use Rattle.elasticlunr_job.specs.Answer.{reading}
-use Rattle.elasticlunr_job.specs.Lines.{is_filled, lines_of}
+use Rattle.elasticlunr_parse.specs.Reading.{reading}
+use Rattle.elasticlunr_parse.specs.Lines.{is_filled, lines_of}
 use Rattle.elasticlunr_input.specs.Asked.{IsArrayLineWith}
 use Rattle.elasticlunr_input.specs.Lines.{IsLinesLineWith}
 use Rattle.elasticlunr_input.specs.Refused.{IsMemoryOr, FailsJob, FailsArray, FailLines}

@@ -3,7 +3,7 @@ use Rattle.std.specs.Prelude.{◌≡◌, Option, Some}
 use Rattle.serde_json.specs.View.{view}
 use Rattle.serde_json.specs.declared.value.Value.{Value}
 use Rattle.elasticlunr_text.specs.Text.{Bytes}
-use Rattle.elasticlunr_job.specs.Answer.{reading}
+use Rattle.elasticlunr_parse.specs.Reading.{reading}
 use Rattle.elasticlunr_input.specs.Forms.{HasForm}
 use Rattle.elasticlunr_input.specs.declared.form.Form.{Form}
 use Rattle.elasticlunr_input.specs.declared.form.Form.TheVariants as form

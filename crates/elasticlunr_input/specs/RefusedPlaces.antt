@@ -4,13 +4,13 @@ use Rattle.serde_json.specs.Data.{Data}
 use Rattle.serde_json.specs.Find.{as_array}
 use Rattle.serde_json.specs.View.{items_of}
 use Rattle.elasticlunr_text.specs.Text.{Bytes}
-use Rattle.elasticlunr_job.specs.Answer.{reading}
-use Rattle.elasticlunr_job.specs.declared.outcome.Refusal.{Refusal}
+use Rattle.elasticlunr_parse.specs.Reading.{reading}
+use Rattle.elasticlunr_parse.specs.declared.outcome.Refusal.{Refusal}
 use Rattle.elasticlunr_input.specs.Asked.{options_of}
 use Rattle.elasticlunr_input.specs.FaultPlaces.{IsPlaceInJob, IsPlaceInObjects}
 use Rattle.elasticlunr_input.specs.Forms.{HasForm, IsNotJson}
-use Rattle.elasticlunr_job.specs.Lines.{AreLineValues, HasUnreadLine}
-use Rattle.elasticlunr_job.specs.Objects.{Options}
+use Rattle.elasticlunr_parse.specs.Lines.{AreLineValues, HasUnreadLine}
+use Rattle.elasticlunr_parse.specs.Objects.{Options}
 use Rattle.elasticlunr_place.specs.Members.{IsPlaceOf}
 use Rattle.elasticlunr_place.specs.Places.{IsPlaceIn}
 use Rattle.elasticlunr_input.specs.Settled.{Settings, IsRefusedWith}

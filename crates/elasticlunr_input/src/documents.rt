@@ -1,7 +1,7 @@
 //! The index of documents that are objects: an array of them, or a line for each.
 ghost use Rattle.std.specs.Prelude.{◌≡◌, ◌-◌, map, take, length, string_bytes, if◌then◌else◌, IfOk, IfErr, IfSome};
 ghost use Rattle.elasticlunr_job.specs.Objects.{IsLineOfObjects};
-ghost use Rattle.elasticlunr_job.specs.ObjectsTold.{options_told, texts_told};
+ghost use Rattle.elasticlunr_parse.specs.ObjectsTold.{options_told, texts_told};
 ghost use Rattle.elasticlunr_input.specs.FaultPlaces.{is_of_member, problem_key, IsPlaceInObjects, IsPlaceOfProblem};
 ghost use Rattle.elasticlunr_input.specs.Fields.{is_field, text_keys};
 ghost use Rattle.elasticlunr_input.specs.Refused.{IsRefusedObjects};

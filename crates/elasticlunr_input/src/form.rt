@@ -1,7 +1,7 @@
 //! In which form the documents come.
 ghost use Rattle.std.specs.Prelude.{◌≡◌, ◌≢◌, IfOk, IfErr, IfSome, IfNone, Some, find, option_map};
-ghost use Rattle.elasticlunr_job.specs.Answer.{reading};
-ghost use Rattle.elasticlunr_job.specs.Lines.{is_filled, lines_of};
+ghost use Rattle.elasticlunr_parse.specs.Reading.{reading};
+ghost use Rattle.elasticlunr_parse.specs.Lines.{is_filled, lines_of};
 ghost use Rattle.elasticlunr_text.specs.Text.{Bytes};
 ghost use Rattle.elasticlunr_input.specs.Forms.{HasForm, IsNotJson, begins_with_an_object, form_word, has, is_object_line, value_form};
 ghost use Rattle.elasticlunr_input.specs.Inputs.{IsInput, input_of};

@@ -1,6 +1,6 @@
 //! The index of an input, of each form.
 ghost use Rattle.std.specs.Prelude.{◌≡◌, map, string_bytes, unwrap_or, IfOk, IfErr};
-ghost use Rattle.elasticlunr_job.specs.ObjectsTold.{options_told, texts_told};
+ghost use Rattle.elasticlunr_parse.specs.ObjectsTold.{options_told, texts_told};
 ghost use Rattle.elasticlunr_input.specs.Asked.{IsArrayLineWith, IsObjectsLineWith, options_of};
 ghost use Rattle.elasticlunr_input.specs.FaultPlaces.{IsPlaceInObjects};
 ghost use Rattle.elasticlunr_input.specs.Fields.{fields_of_first};

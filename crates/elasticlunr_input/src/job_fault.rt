@@ -1,6 +1,6 @@
 //! What keeps a JSON value from being a job, in words.
 ghost use Rattle.std.specs.Prelude.{None, [], ◌∷◌, IfOk, IfSome};
-ghost use Rattle.elasticlunr_job.specs.JobKeys.{key_name};
+ghost use Rattle.elasticlunr_parse.specs.JobKeys.{key_name};
 ghost use Rattle.elasticlunr_input.specs.FaultPlaces.{document_fault_path, fault_path};
 ghost use Rattle.elasticlunr_place.specs.Members.{item, under, IsPlaceOf};
 

@@ -1,9 +1,9 @@
 //! The index of a job.
 ghost use Rattle.std.specs.Prelude.{◌≡◌, true, string_bytes, IfOk, IfErr, IfSome, IfNone};
 ghost use Rattle.elasticlunr.specs.Fields.{all_differ, borrowed};
-ghost use Rattle.elasticlunr_job.specs.JobTold.{job_told};
-ghost use Rattle.elasticlunr_job.specs.Stop.{StopsWithReason};
-ghost use Rattle.elasticlunr_job.specs.declared.outcome.Refusal.{Refusal};
+ghost use Rattle.elasticlunr_parse.specs.JobTold.{job_told};
+ghost use Rattle.elasticlunr_parse.specs.Stop.{StopsWithReason};
+ghost use Rattle.elasticlunr_parse.specs.declared.outcome.Refusal.{Refusal};
 ghost use Rattle.elasticlunr_input.specs.FaultPlaces.{IsPlaceInJob, IsPlaceOfRefusal};
 ghost use Rattle.elasticlunr_input.specs.FirstFaults.{AllFit, IsFirstTooLong, IsFirstTwice};
 ghost use Rattle.elasticlunr_input.specs.Settled.{IsLineWith, IsRefusedWith, settings_told};

@@ -1,8 +1,8 @@
 //! Documents that are lines of JSON, read one by one.
 ghost use Rattle.std.specs.Prelude.{◌≡◌, map, take, Some, None, IfOk, IfErr, OnOk};
-ghost use Rattle.elasticlunr_job.specs.Answer.{reading};
-ghost use Rattle.elasticlunr_job.specs.Lines.{readings, HasUnreadLine};
-ghost use Rattle.elasticlunr_job.specs.ObjectsTold.{options_told};
+ghost use Rattle.elasticlunr_parse.specs.Reading.{reading};
+ghost use Rattle.elasticlunr_parse.specs.Lines.{readings, HasUnreadLine};
+ghost use Rattle.elasticlunr_parse.specs.ObjectsTold.{options_told};
 ghost use Rattle.elasticlunr_input.specs.FaultPlaces.{IsPlaceOfProblem};
 ghost use Rattle.elasticlunr_place.specs.Places.{IsPlaceIn};
 ghost use Rattle.elasticlunr_input.specs.Refused.{AreDocumentLines, FailLinesOf, HaveValues, IsMemoryOr};

@@ -14,10 +14,10 @@ use Rattle.elasticlunr_job.specs.Answer.{HasTooMany}
 use Rattle.elasticlunr.specs.Calls.{followed_by}
 use Rattle.elasticlunr_job.specs.Commands.{compacted}
 use Rattle.elasticlunr_job.specs.Filled.{Follows}
-use Rattle.elasticlunr_job.specs.JobTold.{document_told}
-use Rattle.elasticlunr_job.specs.declared.job.Document as held
-use Rattle.elasticlunr_job.specs.Job as asked
-use Rattle.elasticlunr_job.specs.Objects.{Options, IsDocumentOf}
+use Rattle.elasticlunr_parse.specs.JobTold.{document_told}
+use Rattle.elasticlunr_parse.specs.declared.job.Document as held
+use Rattle.elasticlunr_parse.specs.Job as asked
+use Rattle.elasticlunr_parse.specs.Objects.{Options, IsDocumentOf}
 use Rattle.elasticlunr_job.proofs.FilledLines.{values_long}
 use Rattle.serde_json.specs.Data.{Data}
 

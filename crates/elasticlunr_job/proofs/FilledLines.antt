@@ -1,10 +1,8 @@
 -- Lines of a text, one after the other, and the documents that they are.
-use Rattle.std.proofs.Common.{◌≡◌, ◌<◌, ◌≤◌, ◌+◌, ◌∷◌, ◌++◌, ℕ, suc, List, [], length, map, take, drop, get_or, All, true, false, cond, if◌then◌else◌, Some, refl, sym, ap, subst, ◌∙◌, append_assoc, add-one, drop-cons, arith}
-use Rattle.std.specs.Bool.{◌==◌}
+use Rattle.std.proofs.Common.{◌≡◌, ◌≤◌, ◌+◌, ◌∷◌, ◌++◌, ℕ, suc, List, [], length, map, All, true, false, cond, if◌then◌else◌, Some, refl, sym, ap, subst, ◌∙◌, append_assoc, arith}
 use Rattle.std.specs.List.{filter}
-use Rattle.std.proofs.lemmas.List.{map-append, take-append-drop, append-nil, length-append}
+use Rattle.std.proofs.lemmas.List.{map-append, append-nil, length-append}
 use Rattle.std.proofs.lemmas.List.Elements.{All-cons, All-nil}
-use Rattle.std.proofs.lemmas.List.Splits.{slice_split_at, slice_split_none}
 use Rattle.serde_json.specs.Data.{Data}
 use Rattle.elasticlunr_text.specs.Text.{Bytes}
 use Rattle.elasticlunr_lang.specs.declared.any.AnyLanguage.{AnyLanguage}
@@ -12,27 +10,20 @@ use Rattle.elasticlunr.specs.History as history
 use Rattle.elasticlunr.specs.History.{Commands, add, ◌▸◌}
 use Rattle.elasticlunr.specs.Printed.{IsTextAfter}
 use Rattle.elasticlunr.specs.Standing.{Plan}
-use Rattle.elasticlunr_job.specs.Answer.{reading, line, printed_text}
+use Rattle.elasticlunr_parse.specs.Reading.{reading}
+use Rattle.elasticlunr_job.specs.Answer.{line, printed_text}
 use Rattle.elasticlunr_job.specs.Commands.{in_order}
 use Rattle.elasticlunr_job.specs.Filled.{Follows, HasTaken, IsBuiltFor}
-use Rattle.elasticlunr_job.specs.Job.{Document}
-use Rattle.elasticlunr_job.specs.Lines.{filled_lines, is_blank, is_filled, lines_of, readings, HasLineProblem, IsFirstLineProblem}
+use Rattle.elasticlunr_parse.specs.Job.{Document}
+use Rattle.elasticlunr_parse.specs.Lines.{filled_lines, is_blank, is_filled, readings}
+use Rattle.elasticlunr_job.specs.Lines.{HasLineProblem, IsFirstLineProblem}
 use Rattle.elasticlunr_job.specs.LinesTold.{IsFilledLine}
-use Rattle.elasticlunr_job.specs.Objects.{Options, AreDocumentsOf, HasTexts, IsDocumentOf, job_of}
-use Rattle.elasticlunr_job.specs.declared.objects.Problem.{Problem}
-use Rattle.elasticlunr_job.proofs.FieldTexts.{AllZip-push}
+use Rattle.elasticlunr_parse.specs.Objects.{Options, AreDocumentsOf, HasTexts, IsDocumentOf}
+use Rattle.elasticlunr_job.specs.Objects.{job_of}
+use Rattle.elasticlunr_parse.specs.declared.objects.Problem.{Problem}
+use Rattle.elasticlunr_parse.proofs.FieldTexts.{AllZip-push}
 use Rattle.elasticlunr_job.proofs.Filling.{Makes, Standing, Follows-append}
 use Rattle.elasticlunr_job.proofs.Printing.{carried_line}
-
--- the first line ends at the first line feed
-pub split_at : (text : Bytes) (i d : ℕ) → i < length text → (get_or text i d == 10) ≡ true → All (λ b. (b == 10) ≡ false) (take i text) → filled_lines text ≡ filter is_filled (take i text ∷ lines_of (drop (i + 1) text))
-split_at text i d within feed before =
-    let parts : text ≡ take i text ++ get_or text i d ∷ drop (i + 1) text = sym (take-append-drop i text) ∙ ap (λ last. take i text ++ last) (rw add-one (drop-cons text i d within)) in
-    ap (filter is_filled) (ap lines_of parts ∙ slice_split_at (λ b. b == 10) (take i text) (get_or text i d) (drop (i + 1) text) before feed)
-
--- there is none
-pub split_none : (text : Bytes) → All (λ b. (b == 10) ≡ false) text → filled_lines text ≡ filter is_filled (text ∷ lines_of [])
-split_none text none = ap (filter is_filled) (slice_split_none (λ b. b == 10) text none)
 
 pub filled_first : (line : Bytes) (lines : List Bytes) → is_blank line ≡ false → filter is_filled (line ∷ lines) ≡ line ∷ filter is_filled lines
 filled_first line lines is = ap (λ b. cond (if b then false else true) (line ∷ filter is_filled lines) (filter is_filled lines)) is

@@ -8,9 +8,9 @@ use Rattle.elasticlunr.specs.History.{Command, Commands, Document, add, remove, 
 use Rattle.elasticlunr.specs.Calls.{followed_by}
 use Rattle.elasticlunr_job.specs.Commands.{compacted}
 use Rattle.elasticlunr_job.specs.Filled.{AreMade, Follows, HasDone, HasTaken}
-use Rattle.elasticlunr_job.specs.JobTold.{document_told, job_told}
-use Rattle.elasticlunr_job.specs.declared.job.Document as held
-use Rattle.elasticlunr_job.specs.declared.job.Job as held_job
+use Rattle.elasticlunr_parse.specs.JobTold.{document_told, job_told}
+use Rattle.elasticlunr_parse.specs.declared.job.Document as held
+use Rattle.elasticlunr_parse.specs.declared.job.Job as held_job
 
 abbrev pub Makes : Type 1
 Makes = Bytes → List Bytes → Document → Type 0

@@ -1,7 +1,4 @@
-pub mod JobValues
 pub mod Stops
-pub mod KeyTests
-pub mod Readings
 pub mod Alike
 pub mod Filling
 pub mod Printing
@@ -10,8 +7,6 @@ pub mod OneJob
 pub mod OneLanguage
 pub mod OneLine
 pub mod OneAnswer
-pub mod FieldTexts
 pub mod Several
-pub mod JobFaults
 pub mod FilledLines
 pub mod LineStops

@@ -8,10 +8,10 @@ use Rattle.elasticlunr.specs.Fields.{all_differ}
 use Rattle.elasticlunr_job.specs.Answer.{NamesLanguage}
 use Rattle.elasticlunr_job.specs.Lines.{FailsLines, HasFitOptions, IsFirstLineProblem}
 use Rattle.elasticlunr_job.specs.LinesTold.{index_error_of, StopsAt, StopsFilling}
-use Rattle.elasticlunr_job.specs.Objects.{Options}
+use Rattle.elasticlunr_parse.specs.Objects.{Options}
 use Rattle.elasticlunr_job.specs.declared.objects.ObjectsError.{ObjectsError}
 use Rattle.elasticlunr_job.specs.declared.objects.ObjectsError.TheVariants.{Memory, Refused, Document}
-use Rattle.elasticlunr_job.specs.declared.objects.Problem.{Problem}
+use Rattle.elasticlunr_parse.specs.declared.objects.Problem.{Problem}
 
 -- the exit of a call
 pub exit_for : {T E : Type 0} (r : Result T E) (P : E → Type 0) (e : E) → IsErrAnd r (λ y. y ≡ e) → P e → IfErr r P

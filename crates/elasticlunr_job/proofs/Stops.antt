@@ -9,23 +9,15 @@ use Rattle.elasticlunr_lang.specs.declared.any.AnyLanguage.{AnyLanguage}
 use Rattle.elasticlunr_lang.specs.declared.any.AnyLanguage.TheVariants.{English, Arabic, Danish, Dutch, Finnish, French, German, Italian, Korean, Norwegian, Portuguese, Romanian, Russian, Spanish, Swedish, Turkish}
 use Rattle.elasticlunr.specs.Fields.{all_differ}
 use Rattle.elasticlunr_job.specs.Answer.{FailsAt, NamesLanguage}
-use Rattle.elasticlunr_job.specs.Job.{Job}
-use Rattle.elasticlunr_job.specs.declared.outcome.Refusal.{Refusal}
-use Rattle.elasticlunr_job.specs.declared.outcome.Stop.{Stop}
+use Rattle.elasticlunr_parse.specs.Job.{Job}
+use Rattle.elasticlunr_parse.specs.declared.outcome.Refusal.{Refusal}
+use Rattle.elasticlunr_parse.specs.declared.outcome.Stop.{Stop}
 use Rattle.elasticlunr_text.specs.IndexError.{IndexError}
 use Rattle.elasticlunr_text.specs.IndexError.TheVariants as index
-use Rattle.elasticlunr_job.specs.declared.outcome.Refusal.TheVariants.{TooManyValues}
-use Rattle.elasticlunr_job.specs.declared.outcome.Stop.TheVariants.{Memory}
-use Rattle.elasticlunr_job.specs.IndexStop.{stop_of}
-use Rattle.elasticlunr_job.specs.Stop.{StopsOnlyBy, StopsWithReason}
-
-pub StopsOnlyBy-weaker : (refusal : Refusal) (P Q : Type 0) (stop : Stop) → (P → Q) → StopsOnlyBy refusal P stop → StopsOnlyBy refusal Q stop
-StopsOnlyBy-weaker refusal P Q stop f h = elim h [ inl e ↦ inl e | inr p ↦ inr (p.0, f p.1) ]
-
-pub at_exit : {T : Type 0} (r : Result T Stop) (refusal : Refusal) (P Q : Type 0) (e : Stop) → IsErrAnd r (λ y. y ≡ e) → (P → Q) → StopsOnlyBy refusal P e → IfErr r (StopsOnlyBy refusal Q)
-at_exit r refusal P Q e is f h =
-    let p = err_from_is_err_and r is in
-    rw (p.1, p.2) (StopsOnlyBy-weaker refusal P Q e f h)
+use Rattle.elasticlunr_parse.specs.declared.outcome.Refusal.TheVariants.{TooManyValues}
+use Rattle.elasticlunr_parse.specs.declared.outcome.Stop.TheVariants.{Memory}
+use Rattle.elasticlunr_parse.specs.IndexStop.{stop_of}
+use Rattle.elasticlunr_parse.specs.Stop.{StopsOnlyBy, StopsWithReason}
 
 -- the exit of a call that finds too many values, where the index works still
 pub later_too_many : {T : Type 0} (r : Result T Stop) (Fails Later Q : Type 0) (e : IndexError) → IsErrAnd r (λ y. y ≡ stop_of e) → (¬ Fails → ¬ Later) → (e ≡ index.Failed → Later) → (e ≡ index.TooManyValues → Q)

@@ -1,8 +1,6 @@
 -- The answer to an input: the outcome, and what is written.
-use Rattle.std.specs.Prelude.{◌≡◌, ◌<◌, ◌≤◌, List, [], ◌∷◌, ◌++◌, Bool, length, All, Any, codes, Option, Some, None, true, false, if◌then◌else◌}
-use Rattle.std.specs.Str.{is_utf8}
+use Rattle.std.specs.Prelude.{◌≡◌, ◌<◌, ◌≤◌, List, [], ◌∷◌, ◌++◌, Bool, length, All, Any, codes, Some, None, true, false, if◌then◌else◌}
 use Rattle.serde_json.specs.Data.{Data}
-use Rattle.serde_json.specs.Read.{read}
 use Rattle.serde_json.specs.Written.{compact_text}
 use Rattle.elasticlunr_text.specs.Text.{Bytes}
 use Rattle.elasticlunr_lang.specs.declared.any.AnyLanguage.{AnyLanguage}
@@ -11,19 +9,12 @@ use Rattle.elasticlunr.specs.Fields.{all_differ}
 use Rattle.elasticlunr.specs.History.{Commands}
 use Rattle.elasticlunr.specs.Printed.{IsValue, pretty_text}
 use Rattle.elasticlunr_job.specs.Commands.{AreCommandsOf, job_plan}
-use Rattle.elasticlunr_job.specs.Job.{Document, Job, IsJob}
+use Rattle.elasticlunr_parse.specs.Job.{Document, Job, IsJob, IsNoJob}
+use Rattle.elasticlunr_parse.specs.Reading.{reading}
 use Rattle.elasticlunr_job.specs.declared.outcome.Outcome.{Outcome}
 use Rattle.elasticlunr_job.specs.declared.outcome.Outcome.TheVariants.{Printed, Refused}
-use Rattle.elasticlunr_job.specs.declared.outcome.Refusal.{Refusal}
-use Rattle.elasticlunr_job.specs.declared.outcome.Refusal.TheVariants.{NotJson, NotAJob, UnknownLanguage, DuplicateField, TooManyValues}
-
--- the value that serde_json reads from bytes, which have to be UTF-8
-abbrev pub reading : Bytes → Option Data
-reading bytes = if is_utf8 bytes then read bytes else None
-
--- the value is no job
-abbrev pub IsNoJob : Data → Type 0
-IsNoJob d = (job : Job) → ¬ IsJob d job
+use Rattle.elasticlunr_parse.specs.declared.outcome.Refusal.{Refusal}
+use Rattle.elasticlunr_parse.specs.declared.outcome.Refusal.TheVariants.{NotJson, NotAJob, UnknownLanguage, DuplicateField, TooManyValues}
 
 -- the bytes are JSON, and that is this job
 abbrev pub HasJob : Bytes → Job → Type 0

@@ -8,8 +8,8 @@ use Rattle.elasticlunr.specs.History.{Document, Command, Commands, add, none}
 use Rattle.elasticlunr.specs.Standing.{Plan}
 use Rattle.elasticlunr.specs.Calls.{followed_by}
 use Rattle.elasticlunr_job.specs.Commands.{IsAdded, in_order, job_plan}
-use Rattle.elasticlunr_job.specs.Job as asked
-use Rattle.elasticlunr_job.specs.Job.{Job}
+use Rattle.elasticlunr_parse.specs.Job as asked
+use Rattle.elasticlunr_parse.specs.Job.{Job}
 
 -- no document has more values than there are fields
 abbrev pub Fits : List Bytes → List asked.Document → Type 0

@@ -1,15 +1,6 @@
-pub mod Job
-pub mod JobTold
-pub mod Stop
-pub mod Keys
 pub mod Commands
 pub mod Answer
-pub mod IndexStop
 pub mod Filled
-pub mod Kinds
-pub mod JobKeys
-pub mod JobFaults
-pub mod FaultSteps
 pub mod Objects
 pub mod ObjectsTold
 pub mod Lines

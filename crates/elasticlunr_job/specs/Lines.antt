@@ -1,46 +1,17 @@
--- Documents as lines of JSON, an object each: their values, the text of their index, and why there is none.
-use Rattle.std.specs.Prelude.{◌≡◌, ◌==◌, ◌||◌, ◌++◌, ◌∷◌, ◌+◌, ⊤, ℕ, Bool, true, false, List, [], length, Option, Some, None, map, filter, if◌then◌else◌}
-use Rattle.std.specs.List.{list_all, slice_split}
+-- Documents as lines of JSON, an object each: the text of their index, and why there is none.
+use Rattle.std.specs.Prelude.{◌≡◌, ◌++◌, ◌∷◌, ◌+◌, ⊤, ℕ, true, List, [], length, Option, Some, None, map}
 use Rattle.serde_json.specs.Data.{Data}
 use Rattle.elasticlunr_text.specs.Text.{Bytes}
 use Rattle.elasticlunr.specs.Fields.{all_differ}
-use Rattle.elasticlunr_job.specs.Answer.{reading, FailsAt, NamesLanguage}
-use Rattle.elasticlunr_job.specs.Job.{Document}
-use Rattle.elasticlunr_job.specs.Objects.{Options, AreDocumentsOf, HasProblem, IsLineOfObjects, job_of}
+use Rattle.elasticlunr_job.specs.Answer.{FailsAt, NamesLanguage}
+use Rattle.elasticlunr_parse.specs.Job.{Document}
+use Rattle.elasticlunr_parse.specs.Lines.{readings, AreLineValues}
+use Rattle.elasticlunr_parse.specs.Objects.{Options, AreDocumentsOf, HasProblem}
+use Rattle.elasticlunr_job.specs.Objects.{IsLineOfObjects, job_of}
 use Rattle.elasticlunr_job.specs.declared.objects.ObjectsError.{ObjectsError}
 use Rattle.elasticlunr_job.specs.declared.objects.ObjectsError.TheVariants as error
-use Rattle.elasticlunr_job.specs.declared.objects.Problem.{Problem}
-use Rattle.elasticlunr_job.specs.declared.objects.Problem.TheVariants.{NotJson}
-
--- a space, a tab, a carriage return or a line feed
-abbrev pub is_space : ℕ → Bool
-is_space b = (b == 32) || (b == 9) || (b == 13) || (b == 10)
-
-abbrev pub is_blank : Bytes → Bool
-is_blank line = list_all is_space line
-
-abbrev pub is_filled : Bytes → Bool
-is_filled line = if is_blank line then false else true
-
--- the parts of a text between line feeds
-abbrev pub lines_of : Bytes → List Bytes
-lines_of text = slice_split (λ b. b == 10) text
-
--- those of them that are not blank
-abbrev pub filled_lines : Bytes → List Bytes
-filled_lines text = filter is_filled (lines_of text)
-
--- what they are read as
-abbrev pub readings : Bytes → List (Option Data)
-readings text = map reading (filled_lines text)
-
--- these are the values of the lines of the text, without the blank ones
-abbrev pub AreLineValues : Bytes → List Data → Type 0
-AreLineValues text items = map Some items ≡ readings text
-
--- a line of the text is not JSON, and those before it are blank or have values
-abbrev pub HasUnreadLine : Bytes → Type 0
-HasUnreadLine text = (before : List Data) × (rest : List (Option Data)) × (map Some before ++ None ∷ rest ≡ readings text)
+use Rattle.elasticlunr_parse.specs.declared.objects.Problem.{Problem}
+use Rattle.elasticlunr_parse.specs.declared.objects.Problem.TheVariants.{NotJson}
 
 -- the text of the index of the documents that the lines are, and a line feed
 abbrev pub IsLineOfLines : Options → Bytes → Bytes → Type 0

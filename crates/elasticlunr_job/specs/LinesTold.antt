@@ -6,15 +6,17 @@ use Rattle.elasticlunr_text.specs.IndexError.{IndexError}
 use Rattle.elasticlunr_text.specs.IndexError.TheVariants.{DuplicateField, TooManyValues}
 use Rattle.elasticlunr_lang.specs.declared.any.AnyLanguage.{AnyLanguage}
 use Rattle.elasticlunr_job.specs.Answer.{IsIndexLine}
-use Rattle.elasticlunr_job.specs.Job.{Document}
-use Rattle.elasticlunr_job.specs.Lines.{AreLineValues, IsFirstLineProblem}
-use Rattle.elasticlunr_job.specs.Objects.{Options, AreDocumentsOf, job_of}
+use Rattle.elasticlunr_parse.specs.Job.{Document}
+use Rattle.elasticlunr_parse.specs.Lines.{AreLineValues}
+use Rattle.elasticlunr_job.specs.Lines.{IsFirstLineProblem}
+use Rattle.elasticlunr_parse.specs.Objects.{Options, AreDocumentsOf}
+use Rattle.elasticlunr_job.specs.Objects.{job_of}
 use Rattle.elasticlunr_job.specs.declared.objects.ObjectsError.{ObjectsError}
 use Rattle.elasticlunr_job.specs.declared.objects.ObjectsError.TheVariants as error
-use Rattle.elasticlunr_job.specs.declared.objects.Problem.{Problem}
-use Rattle.elasticlunr_job.specs.declared.outcome.Refusal.TheVariants as refusal
-use Rattle.elasticlunr_job.specs.declared.outcome.Stop.{Stop}
-use Rattle.elasticlunr_job.specs.declared.outcome.Stop.TheVariants as stop
+use Rattle.elasticlunr_parse.specs.declared.objects.Problem.{Problem}
+use Rattle.elasticlunr_parse.specs.declared.outcome.Refusal.TheVariants as refusal
+use Rattle.elasticlunr_parse.specs.declared.outcome.Stop.{Stop}
+use Rattle.elasticlunr_parse.specs.declared.outcome.Stop.TheVariants as stop
 
 -- memory is wanting, or the document of this number has a problem
 abbrev pub StopsAt : ℕ → (Problem → Type 0) → ObjectsError → Type 0

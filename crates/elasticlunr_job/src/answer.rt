@@ -1,26 +1,25 @@
 //! What is written for an input.
 
-ghost use Rattle.std.specs.Prelude.{◌≡◌, Any, Some, None, string_bytes, IfOk, IfErr, OnOk};
+ghost use Rattle.std.specs.Prelude.{◌≡◌, Any, Some, string_bytes, IfOk, IfErr, OnOk};
 ghost use Rattle.elasticlunr.specs.History.{Commands};
 ghost use Rattle.elasticlunr.specs.Index.{fields_of, plan_of, IsDocument, IsFailed, StandsFor};
 ghost use Rattle.elasticlunr.specs.Printed.{IsTextAfter};
 ghost use Rattle.elasticlunr_lang.specs.Known.{language_name};
 ghost use Rattle.elasticlunr_text.specs.Text.{Bytes};
-ghost use Rattle.elasticlunr_job.specs.Answer.{FailsAt, HasTooMany, IsIndexLine, IsLineOf, IsRefused, IsAnswer, line, printed_text, reading, refusal_text};
+ghost use Rattle.elasticlunr_job.specs.Answer.{FailsAt, HasTooMany, IsIndexLine, IsLineOf, IsRefused, IsAnswer, line, printed_text, refusal_text};
 ghost use Rattle.elasticlunr_job.specs.Commands.{language_tokens};
 ghost use Rattle.elasticlunr_job.specs.Filled.{Fits, IsBuiltFor};
-ghost use Rattle.elasticlunr_job.specs.JobTold.{job_told};
-ghost use Rattle.elasticlunr_job.specs.Stop.{StopsOnlyBy, StopsWithReason};
+ghost use Rattle.elasticlunr_parse.specs.JobTold.{job_told};
+ghost use Rattle.elasticlunr_parse.specs.Stop.{StopsOnlyBy, StopsWithReason};
 ghost use Rattle.elasticlunr_job.specs.declared.outcome.Outcome.TheVariants.{Printed};
-ghost use Rattle.elasticlunr_job.specs.declared.outcome.Refusal.TheVariants.{TooManyValues, NotJson};
-ghost use Rattle.serde_json.specs.View.{view};
+ghost use Rattle.elasticlunr_parse.specs.declared.outcome.Refusal.TheVariants.{TooManyValues, NotJson};
 
-use crate::job::{Job, parse};
 use crate::outcome::{Outcome, Refusal, Stop};
 use elasticlunr::lang::{AnyLanguage, from_name};
 use elasticlunr::laws::calls::an_index_makes_what_its_language_makes;
 use elasticlunr::{Index, IndexBuilder, IndexError};
-use serde_json::Value;
+use elasticlunr_parse::job::{Job, parse};
+use elasticlunr_parse::read::read_json;
 use std::alloc::{AllocError, Global};
 
 /// The text of an index.
@@ -89,18 +88,6 @@ pub fn job_line(alloc: Global, job: &Job<'_>) -> Result<String, Stop>
         .build()?;
     an_index_makes_what_its_language_makes(&index);
     fill_and_print(index, job)
-}
-
-/// The JSON value that the bytes are. It reads no deeper than 127 steps.
-pub fn read_json(alloc: Global, bytes: &[u8]) -> Result<Value, Stop>
-    ensures ok { IfOk result (λ value. reading bytes.now ≡ Some (view value)) }
-    ensures err { IfErr result (StopsOnlyBy NotJson (reading bytes.now ≡ None)) }
-{
-    match Value::from_slice(alloc, bytes) {
-        Ok(value) => Ok(value),
-        Err(e) if e.is_memory() => Err(Stop::Memory),
-        Err(_) => Err(Stop::Refused(Refusal::NotJson)),
-    }
 }
 
 /// The text of the index that the input asks for, and a line feed.

@@ -1,14 +1,12 @@
 //! Laws of the definitions.
 
 ghost use Rattle.std.specs.Prelude.{◌≡◌, ℕ, List};
-ghost use Rattle.serde_json.specs.Data.{Data};
-ghost use Rattle.elasticlunr_job.specs.Answer.{IsAnswer, IsNoJob};
-ghost use Rattle.elasticlunr_job.specs.JobFaults.{HasFault};
-ghost use Rattle.elasticlunr_job.specs.declared.fault.Fault.{Fault};
+ghost use Rattle.elasticlunr_job.specs.Answer.{IsAnswer};
 ghost use Rattle.elasticlunr_job.specs.declared.outcome.Outcome.{Outcome};
 
 use elasticlunr::laws::calls::a_kept_language_makes_one_document;
 use elasticlunr::laws::values::settings_and_commands_have_one_value;
+pub use elasticlunr_parse::laws::a_fault_is_no_job;
 
 /// An input has one outcome, and one text is written for it.
 pub fn one_answer()
@@ -20,8 +18,3 @@ pub fn one_answer()
     settings_and_commands_have_one_value();
     a_kept_language_makes_one_document();
 }
-
-/// A value with a fault is no job.
-pub fn a_fault_is_no_job()
-    ensures { (d : Data) (fault : Fault) → HasFault d fault → IsNoJob d }
-{}

@@ -6,11 +6,9 @@
 #![tactic(auto)]
 
 pub mod answer;
-pub mod fault;
-pub mod job;
-pub mod key;
-pub mod kind;
 pub mod laws;
 pub mod lines;
 pub mod objects;
 pub mod outcome;
+
+pub use elasticlunr_parse::{fault, job, key, kind};

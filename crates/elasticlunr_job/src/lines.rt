@@ -3,63 +3,29 @@
 //! Lines are read one by one: the value of a line is let go before the next line is read. Lines of
 //! white space are passed over.
 
-ghost use Rattle.std.specs.Prelude.{◌≡◌, ◌<◌, [], ◌∷◌, length, filter, Some, None, string_bytes, IfOk, IfErr, IfSome, IfNone};
+ghost use Rattle.std.specs.Prelude.{◌≡◌, [], Some, None, string_bytes, IfOk, IfErr};
 ghost use Rattle.elasticlunr.specs.Index.{fields_of, plan_of, IsDocument, IsFailed, StandsFor};
 ghost use Rattle.elasticlunr_lang.specs.Known.{language_name};
-ghost use Rattle.elasticlunr_job.specs.Answer.{reading};
+ghost use Rattle.elasticlunr_parse.specs.Reading.{reading};
 ghost use Rattle.elasticlunr_job.specs.Commands.{language_tokens};
 ghost use Rattle.elasticlunr_job.specs.Filled.{IsBuiltFor};
-ghost use Rattle.elasticlunr_job.specs.Lines.{filled_lines, is_blank, is_filled, lines_of, FailsLines, IsLineOfLines};
+ghost use Rattle.elasticlunr_job.specs.Lines.{FailsLines, IsLineOfLines};
 ghost use Rattle.elasticlunr_job.specs.LinesTold.{IsFilledLine, StopsAt, StopsFilling};
-ghost use Rattle.elasticlunr_job.specs.Objects.{HasProblem, IsDocumentOf, job_of};
-ghost use Rattle.elasticlunr_job.specs.ObjectsTold.{object_told, options_told};
+ghost use Rattle.elasticlunr_parse.specs.Objects.{HasProblem, IsDocumentOf};
+ghost use Rattle.elasticlunr_job.specs.Objects.{job_of};
+ghost use Rattle.elasticlunr_parse.specs.ObjectsTold.{object_told, options_told};
 ghost use Rattle.serde_json.specs.View.{view};
 
-use crate::answer::{line_of, read_json};
+use crate::answer::line_of;
 use crate::objects::{Object, ObjectsError, Options, Problem, object_of, stop_at};
 use crate::outcome::{Refusal, Stop};
 use elasticlunr::lang::{AnyLanguage, from_name};
 use elasticlunr::laws::calls::an_index_makes_what_its_language_makes;
 use elasticlunr::{Index, IndexBuilder};
+pub use elasticlunr_parse::lines::{is_blank, next_filled};
+use elasticlunr_parse::read::read_json;
 use serde_json::Value;
 use std::alloc::Global;
-
-/// Whether a line has no character but white space.
-pub fn is_blank(line: &[u8]) -> bool
-    ensures { result ≡ is_blank line.now }
-{
-    line.iter().all(|byte| *byte == b' ' || *byte == b'\t' || *byte == b'\r' || *byte == b'\n')
-}
-
-/// The first line of a text, and the text after its line feed.
-fn split_line(text: &[u8]) -> (&[u8], &[u8])
-    ensures lines { filled_lines text.now ≡ filter is_filled (result.0.now ∷ lines_of result.1.now) }
-    ensures shorter { 0 < length text.now → length result.1.now < length text.now }
-{
-    for (at, byte) in text.iter().enumerate() {
-        if *byte == b'\n' {
-            return (&text[..at], &text[at + 1..]);
-        }
-    }
-    (text, &[])
-}
-
-/// The first line that isn't blank, and the text after it.
-pub fn next_filled(text: &[u8]) -> Option<(&[u8], &[u8])>
-    ensures some { IfSome result (λ found. filled_lines text.now ≡ found.0.now ∷ filled_lines found.1.now) }
-    ensures shorter { IfSome result (λ found. length found.1.now < length text.now) }
-    ensures none { IfNone result (filled_lines text.now ≡ []) }
-{
-    let mut rest = text;
-    while !rest.is_empty() {
-        let (line, after) = split_line(rest);
-        if !is_blank(line) {
-            return Some((line, after));
-        }
-        rest = after;
-    }
-    None
-}
 
 /// The value of the line with this number.
 fn value_of(alloc: Global, line: &[u8], number: usize) -> Result<Value, ObjectsError>

@@ -5,8 +5,8 @@ use Rattle.std.specs.Str.{is_utf8}
 use Rattle.serde_json.specs.Data.{Data, depth}
 use Rattle.serde_json.specs.Read.{max_depth, read}
 use Rattle.serde_json.proofs.Nesting.{depth-read}
-use Rattle.elasticlunr_text.specs.Text.{Bytes}
-use Rattle.elasticlunr_job.specs.Answer.{reading}
+use Rattle.elasticlunr_error.specs.Text.{Bytes}
+use Rattle.elasticlunr_parse.specs.Reading.{reading}
 use Rattle.elasticlunr_place.specs.Members.{Move, follow, move, move_told, part_of, path_told, value_of, HasValue}
 use Rattle.elasticlunr_place.specs.declared.member.Step.{Step}
 use Rattle.elasticlunr_place.proofs.Depths.{depth-follow}

@@ -2,9 +2,9 @@
 use Rattle.std.specs.Prelude.{◌≡◌, ◌++◌, ℕ, List, [], ◌∷◌, true, false, Option, Some, None, option_and_then, take, drop, slice_get, slice_range, map, codes}
 use Rattle.serde_json.specs.Data.{Data, null, boolean}
 use Rattle.serde_json.specs.Find.{at, get}
-use Rattle.elasticlunr_text.specs.Text.{Bytes}
-use Rattle.elasticlunr_job.specs.Answer.{reading}
-use Rattle.elasticlunr_job.specs.Lines.{is_space, filled_lines}
+use Rattle.elasticlunr_error.specs.Text.{Bytes}
+use Rattle.elasticlunr_parse.specs.Reading.{reading}
+use Rattle.elasticlunr_parse.specs.Lines.{is_space, filled_lines}
 use Rattle.elasticlunr_place.specs.Places.{place_at}
 use Rattle.elasticlunr_place.specs.declared.place.Place.{Place}
 use Rattle.elasticlunr_place.specs.declared.member.Step.{Step}

@@ -1,7 +1,7 @@
 -- Where a byte of a text stands: its line and its column.
 use Rattle.std.specs.Prelude.{◌≡◌, ◌+◌, ◌-◌, ◌<◌, ◌≤◌, ◌==◌, ◌⊎◌, ℕ, Bool, not, take, length, min, count_by, bit_and}
 use Rattle.std.specs.List.{after_last}
-use Rattle.elasticlunr_text.specs.Text.{Bytes}
+use Rattle.elasticlunr_error.specs.Text.{Bytes}
 use Rattle.elasticlunr_place.specs.declared.place.Place.{Place}
 
 abbrev pub is_line_feed : ℕ → Bool

@@ -3,12 +3,12 @@ ghost use Rattle.std.specs.Prelude.{◌≡◌, ◌≤◌, ℕ, true, false, Some
 ghost use Rattle.serde_json.specs.Data.{boolean, depth, null};
 ghost use Rattle.serde_json.specs.Read.{max_depth};
 ghost use Rattle.serde_json.specs.View.{view};
-ghost use Rattle.elasticlunr_job.specs.Lines.{filled_lines, is_space};
+ghost use Rattle.elasticlunr_parse.specs.Lines.{filled_lines, is_space};
 ghost use Rattle.elasticlunr_place.specs.Members.{follow, move, move_told, part_of, path_told, value_of, value_at, with_word, HasValue, IsPlaceOf, StandsAt};
 
 use crate::place::{Place, place_at};
 use crate::seek::{Span, seek};
-use elasticlunr_job::lines::is_blank;
+use elasticlunr_parse::lines::is_blank;
 use serde_json::Value;
 use std::alloc::{AllocError, Global};
 

@@ -2,7 +2,7 @@
 ghost use Rattle.std.specs.Prelude.{◌<◌, length, OnOk};
 
 use crate::member::Step;
-use elasticlunr_job::lines::is_blank;
+use elasticlunr_parse::lines::is_blank;
 use json::{Invalid, MAX_DEPTH, Reader, Scratch, Token};
 use std::alloc::{AllocError, Global};
 

@@ -1,7 +1,7 @@
 use super::{Pieces, Room, ran};
-use crate::device::{Fault, FromRead, ToWrite};
-use crate::outcome::RunError;
 use crate::run::{run, status};
+use elasticlunr_device::device::{Fault, FromRead, ToWrite};
+use elasticlunr_device::outcome::RunError;
 use elasticlunr_job::outcome::{Outcome, Refusal};
 use std::alloc::Global;
 use std::test::Fail;

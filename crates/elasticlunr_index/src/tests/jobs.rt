@@ -1,6 +1,6 @@
 use super::ran;
-use crate::outcome::RunError;
 use crate::run::status;
+use elasticlunr_device::outcome::RunError;
 use elasticlunr_job::outcome::{Outcome, Refusal};
 use serde_json::Value;
 use std::alloc::{AllocError, Global};

@@ -1,9 +1,9 @@
 mod devices;
 mod jobs;
 
-use crate::device::{FromRead, ToWrite};
-use crate::outcome::RunError;
 use crate::run::run;
+use elasticlunr_device::device::{FromRead, ToWrite};
+use elasticlunr_device::outcome::RunError;
 use elasticlunr_job::outcome::Outcome;
 use std::alloc::Global;
 use std::io;

@@ -1,7 +1,7 @@
 use Rattle.std.proofs.Common.{◌∙◌, string_bytes, inr, sym, subst, true≢false}
 use Rattle.std.specs.Io.KnownBytes.{Appends}
-use Rattle.elasticlunr_index.specs.Device.{AppendsBeginning}
-use Rattle.elasticlunr_index.proofs.Devices.{no_error}
+use Rattle.elasticlunr_device.specs.Device.{AppendsBeginning}
+use Rattle.elasticlunr_device.proofs.Devices.{no_error}
 use Rattle.elasticlunr_index.proofs.run.run.Goals as goal
 
 pub returns-in-Ok-write_all-clause-ok : goal.returns-in-Ok-write_all-clause-ok

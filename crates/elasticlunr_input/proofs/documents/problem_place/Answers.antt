@@ -2,9 +2,9 @@ use Rattle.std.proofs.Common.{◌≡◌, ◌-◌, ◌∷◌, [], ℕ, List, Bool
 use Rattle.std.specs.declared.alloc.AllocError.{AllocError}
 use denote.Enum.Bare.{sameb}
 use Rattle.elasticlunr_text.specs.Text.{Bytes}
-use Rattle.elasticlunr_job.specs.Objects.{Options}
-use Rattle.elasticlunr_job.specs.ObjectsTold.{options_told}
-use Rattle.elasticlunr_job.specs.declared.objects.Problem.{Problem}
+use Rattle.elasticlunr_parse.specs.Objects.{Options}
+use Rattle.elasticlunr_parse.specs.ObjectsTold.{options_told}
+use Rattle.elasticlunr_parse.specs.declared.objects.Problem.{Problem}
 use Rattle.elasticlunr_place.specs.Members.{Move, item, under, move_told, path_told, IsPlaceOf}
 use Rattle.elasticlunr_place.specs.declared.member.Step.{Step}
 use Rattle.elasticlunr_place.specs.declared.member.Step.TheVariants as step

@@ -1,6 +1,6 @@
 use Rattle.std.proofs.Common.{None, sym, ◌∙◌, true≢false}
 use Rattle.elasticlunr_input.proofs.FormLemmas.{begins_with}
-use Rattle.elasticlunr_job.proofs.Readings.{reading_some, reading_none}
+use Rattle.elasticlunr_parse.proofs.Readings.{reading_some, reading_none}
 use Rattle.elasticlunr_input.proofs.form.begins_with_an_object.Goals as goal
 
 pub returns-in-Ok : goal.returns-in-Ok

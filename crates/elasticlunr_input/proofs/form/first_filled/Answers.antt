@@ -1,7 +1,7 @@
 use Rattle.std.proofs.Common.{rules, tests}
 use Rattle.std.proofs.lemmas.Iterator.Search.{find_from_yields_List}
 use Rattle.std.proofs.lemmas.Iterator.Splits.{YieldsList-from_slice_split}
-use Rattle.elasticlunr_job.specs.Lines.{is_filled}
+use Rattle.elasticlunr_parse.specs.Lines.{is_filled}
 use Rattle.elasticlunr_input.proofs.form.first_filled.Goals as goal
 
 pub returns : goal.returns

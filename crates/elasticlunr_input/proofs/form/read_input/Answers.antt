@@ -1,7 +1,7 @@
 use Rattle.std.proofs.Common.{not, sym, ap, ◌∙◌, subst, true≢false}
 use Rattle.elasticlunr_input.specs.Inputs.{IsInput}
 use Rattle.elasticlunr_input.proofs.FormLemmas.{input_as, lines_told, not_json}
-use Rattle.elasticlunr_job.proofs.Readings.{reading_some, reading_none}
+use Rattle.elasticlunr_parse.proofs.Readings.{reading_some, reading_none}
 use Rattle.elasticlunr_input.proofs.form.read_input.Goals as goal
 use Rattle.elasticlunr_input.proofs.form.read_input.Goals.{else-is_none-via-then-is_none+in_ok-begins_with_an_object-in-Err-2+else-branch, else-is_none-via-else-is_none}
 

@@ -1,6 +1,6 @@
 use Rattle.std.proofs.Common.{map, ap, sym, ◌∙◌, Some, string_bytes}
 use Rattle.serde_json.specs.View.{view}
-use Rattle.elasticlunr_job.specs.ObjectsTold.{options_told}
+use Rattle.elasticlunr_parse.specs.ObjectsTold.{options_told}
 use Rattle.elasticlunr_input.specs.Refused.{FailLines, FailLinesOf}
 use Rattle.elasticlunr_input.specs.RefusedPlaces.{IsLinesPlace, IsPlaceInLines}
 use Rattle.elasticlunr_input.specs.Settled.{settings_told}

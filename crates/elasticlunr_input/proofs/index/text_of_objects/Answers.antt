@@ -1,7 +1,8 @@
 use Rattle.std.proofs.Common.{map, string_bytes, subst}
 use Rattle.serde_json.specs.View.{view}
-use Rattle.elasticlunr_job.specs.Objects as spec
-use Rattle.elasticlunr_job.specs.ObjectsTold.{options_told}
+use Rattle.elasticlunr_job.specs.Objects.{IsLineOfObjects}
+use Rattle.elasticlunr_parse.specs.Objects as spec
+use Rattle.elasticlunr_parse.specs.ObjectsTold.{options_told}
 use Rattle.elasticlunr_input.specs.Asked.{options_of}
 use Rattle.elasticlunr_input.specs.FaultPlaces.{IsPlaceInObjects}
 use Rattle.elasticlunr_input.specs.Refused.{FailObjects}
@@ -18,7 +19,7 @@ returns-in_err-line-clause-err c =
     c.from_residual-in_err-line.ensures.1 c.in_err-line.ensures.err
 
 pub returns-clause-ok : goal.returns-clause-ok
-returns-clause-ok c = subst (λ (o : spec.Options). spec.IsLineOfObjects o (map view c.args.items.now) (string_bytes c.in_ok-line.line)) c.in_ok-options.ensures c.in_ok-line.ensures.ok
+returns-clause-ok c = subst (λ (o : spec.Options). IsLineOfObjects o (map view c.args.items.now) (string_bytes c.in_ok-line.line)) c.in_ok-options.ensures c.in_ok-line.ensures.ok
 
 pub returns-in_err-line-clause-place : goal.returns-in_err-line-clause-place
 returns-in_err-line-clause-place c =

@@ -1,6 +1,6 @@
 use Rattle.std.proofs.Common.{◌+◌, [], refl, arith}
 use Rattle.serde_json.specs.View.{view}
-use Rattle.elasticlunr_job.specs.ObjectsTold.{object_told, options_told}
+use Rattle.elasticlunr_parse.specs.ObjectsTold.{object_told, options_told}
 use Rattle.elasticlunr_input.specs.FaultPlaces.{IsPlaceOfProblem}
 use Rattle.elasticlunr_input.specs.Refused.{FailLinesOf}
 use Rattle.elasticlunr_input.specs.RefusedPlaces.{IsPlaceInLines}

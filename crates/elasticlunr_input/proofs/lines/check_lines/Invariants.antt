@@ -1,5 +1,5 @@
 use Rattle.std.proofs.Common.{◌≤◌, ◌+◌, length}
-use Rattle.elasticlunr_job.specs.ObjectsTold.{options_told}
+use Rattle.elasticlunr_parse.specs.ObjectsTold.{options_told}
 use Rattle.elasticlunr_input.proofs.LineLemmas.{Checked}
 use Rattle.elasticlunr_input.proofs.lines.check_lines.Given as goal
 

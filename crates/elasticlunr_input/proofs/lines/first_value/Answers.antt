@@ -1,6 +1,6 @@
 use Rattle.std.proofs.Common.{◌≡◌, None, [], refl}
-use Rattle.elasticlunr_job.specs.Answer.{reading}
-use Rattle.elasticlunr_job.specs.Lines.{HasUnreadLine}
+use Rattle.elasticlunr_parse.specs.Reading.{reading}
+use Rattle.elasticlunr_parse.specs.Lines.{HasUnreadLine}
 use Rattle.elasticlunr_input.proofs.LineLemmas.{unread_next}
 use Rattle.elasticlunr_input.proofs.Refusals.{refused_again}
 use Rattle.elasticlunr_input.proofs.lines.first_value.Goals as goal

@@ -1,5 +1,5 @@
 use Rattle.std.proofs.Common.{sym, ◌∙◌, true≢false}
-use Rattle.elasticlunr_job.proofs.Readings.{reading_some, reading_none}
+use Rattle.elasticlunr_parse.proofs.Readings.{reading_some, reading_none}
 use Rattle.elasticlunr_input.proofs.lines.line_value.Goals as goal
 
 pub returns-in-Ok-clause-ok : goal.returns-in-Ok-clause-ok

@@ -1,7 +1,7 @@
 use Rattle.std.proofs.Common.{[], Err, map, string_bytes, refl, ap, ◌∙◌, arith}
 use Rattle.serde_json.specs.View.{view}
 use Rattle.elasticlunr_lang.specs.Known.{language_name}
-use Rattle.elasticlunr_job.specs.ObjectsTold.{object_told, options_told}
+use Rattle.elasticlunr_parse.specs.ObjectsTold.{object_told, options_told}
 use Rattle.elasticlunr_job.proofs.Alike.{document_alike, has_room, plan_alike, still_works}
 use Rattle.elasticlunr_job.proofs.FilledLines.{gone_all, gone_next}
 use Rattle.elasticlunr_job.proofs.LineStops.{adding_stops}

@@ -2,7 +2,7 @@ use Rattle.std.proofs.Common.{◌≤◌, ◌+◌, length}
 use Rattle.elasticlunr.specs.Index.{IsDocument, IsFailed, SameSettings, StandsFor}
 use Rattle.elasticlunr_lang.specs.Known.{language_name}
 use Rattle.elasticlunr_job.specs.Commands.{language_tokens}
-use Rattle.elasticlunr_job.specs.ObjectsTold.{options_told}
+use Rattle.elasticlunr_parse.specs.ObjectsTold.{options_told}
 use Rattle.elasticlunr_job.proofs.FilledLines.{Gone}
 use Rattle.elasticlunr_job.proofs.lines.fill_and_print.Given as goal
 

@@ -3,7 +3,7 @@ use Rattle.elasticlunr.specs.Builder.{chosen}
 use Rattle.elasticlunr.specs.Fields.{all_differ}
 use Rattle.elasticlunr.specs.Index.{choices_of}
 use Rattle.elasticlunr_job.specs.Objects.{job_of}
-use Rattle.elasticlunr_job.specs.ObjectsTold.{options_told, texts_told}
+use Rattle.elasticlunr_parse.specs.ObjectsTold.{options_told, texts_told}
 use Rattle.elasticlunr_job.proofs.Alike.{holding_works}
 use Rattle.elasticlunr_job.proofs.Building.{begun_for, built_fields, built_for, given_told, told_fields}
 use Rattle.elasticlunr_job.proofs.FilledLines.{documents_fit}

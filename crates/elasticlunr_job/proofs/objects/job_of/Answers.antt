@@ -1,7 +1,7 @@
 use Rattle.std.proofs.Common.{map, ap, ◌∙◌}
 use Rattle.std.proofs.lemmas.List.{take_all}
 use Rattle.elasticlunr_job.specs.Objects as spec
-use Rattle.elasticlunr_job.specs.ObjectsTold.{object_told, options_told, texts_told}
+use Rattle.elasticlunr_parse.specs.ObjectsTold.{object_told, options_told, texts_told}
 use Rattle.elasticlunr_job.proofs.objects.job_of.Goals as goal
 
 pub returns : goal.returns

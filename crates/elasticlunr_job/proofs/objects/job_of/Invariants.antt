@@ -1,6 +1,6 @@
 use Rattle.std.proofs.Common.{◌≡◌, map, take}
-use Rattle.elasticlunr_job.specs.JobTold.{document_told}
-use Rattle.elasticlunr_job.specs.ObjectsTold.{object_told}
+use Rattle.elasticlunr_parse.specs.JobTold.{document_told}
+use Rattle.elasticlunr_parse.specs.ObjectsTold.{object_told}
 use Rattle.elasticlunr_job.proofs.objects.job_of.Given as goal
 
 -- the documents so far

@@ -1,6 +1,6 @@
 use Rattle.serde_json.specs.View.{view}
-use Rattle.elasticlunr_job.specs.Objects.{IsDocumentOf}
-use Rattle.elasticlunr_job.specs.ObjectsTold.{object_told, options_told}
+use Rattle.elasticlunr_parse.specs.Objects.{IsDocumentOf}
+use Rattle.elasticlunr_parse.specs.ObjectsTold.{object_told, options_told}
 use Rattle.elasticlunr_job.proofs.Several.{fails_at, next_pair}
 use Rattle.elasticlunr_job.proofs.objects.objects_of.Goals as goal
 

@@ -1,7 +1,7 @@
 use Rattle.std.proofs.Common.{rules, tests}
 use Rattle.std.proofs.lemmas.Iterator.Consumers.{map_from_collect, YieldsList-at, YieldsList-from_filter}
 use Rattle.std.proofs.lemmas.Iterator.Splits.{YieldsList-from_slice_split}
-use Rattle.elasticlunr_job.specs.Lines.{is_filled}
+use Rattle.elasticlunr_parse.specs.Lines.{is_filled}
 use Rattle.elasticlunr_place.proofs.member.filled_lines.Goals as goal
 
 pub returns : goal.returns

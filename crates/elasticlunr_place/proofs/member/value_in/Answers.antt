@@ -1,7 +1,7 @@
 use Rattle.std.proofs.Common.{Some, None, Bor, List, ℕ, option_map, sym, ap, ◌∙◌, true≢false}
 use Rattle.serde_json.specs.View.{view}
 use Rattle.elasticlunr_place.proofs.Members.{value_is}
-use Rattle.elasticlunr_job.proofs.Readings.{reading_some, reading_none}
+use Rattle.elasticlunr_parse.proofs.Readings.{reading_some, reading_none}
 use Rattle.elasticlunr_place.proofs.member.value_in.Goals as goal
 
 pub returns-in-Ok : goal.returns-in-Ok

@@ -1,0 +1,13 @@
+pub mod Job
+pub mod JobTold
+pub mod Reading
+pub mod Stop
+pub mod Keys
+pub mod IndexStop
+pub mod Kinds
+pub mod JobKeys
+pub mod JobFaults
+pub mod FaultSteps
+pub mod Objects
+pub mod ObjectsTold
+pub mod Lines

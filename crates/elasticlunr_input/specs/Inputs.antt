@@ -1,10 +1,9 @@
 -- An input that was read, for private clauses.
-use Rattle.std.specs.Prelude.{◌≡◌, Option, Some}
+use Rattle.std.specs.Prelude.{◌≡◌, Some}
 use Rattle.serde_json.specs.View.{view}
 use Rattle.serde_json.specs.declared.value.Value.{Value}
 use Rattle.elasticlunr_text.specs.Text.{Bytes}
 use Rattle.elasticlunr_parse.specs.Reading.{reading}
-use Rattle.elasticlunr_input.specs.Forms.{HasForm}
 use Rattle.elasticlunr_input.specs.declared.form.Form.{Form}
 use Rattle.elasticlunr_input.specs.declared.form.Form.TheVariants as form
 use Rattle.elasticlunr_input.specs.declared.form.Input.{Input}
@@ -16,8 +15,8 @@ input_of form.Job value = input.Job value
 input_of form.Objects value = input.Objects value
 input_of form.Lines value = input.Lines
 
--- the text has this form, and the value, where it was read, is that of the text
-abbrev pub IsInput : Option Form → Bytes → Input → Type 0
-IsInput asked text (input.Job value) = HasForm asked text form.Job × (reading text ≡ Some (view value))
-IsInput asked text (input.Objects value) = HasForm asked text form.Objects × (reading text ≡ Some (view value))
-IsInput asked text input.Lines = HasForm asked text form.Lines
+-- it is an input of this form, and the value, where it was read, is that of the text
+abbrev pub IsInput : Form → Bytes → Input → Type 0
+IsInput its text (input.Job value) = (its ≡ form.Job) × (reading text ≡ Some (view value))
+IsInput its text (input.Objects value) = (its ≡ form.Objects) × (reading text ≡ Some (view value))
+IsInput its text input.Lines = its ≡ form.Lines

@@ -8,7 +8,7 @@ use Rattle.elasticlunr_parse.specs.Reading.{reading}
 use Rattle.elasticlunr_parse.specs.declared.outcome.Refusal.{Refusal}
 use Rattle.elasticlunr_input.specs.Asked.{options_of}
 use Rattle.elasticlunr_input.specs.FaultPlaces.{IsPlaceInJob, IsPlaceInObjects}
-use Rattle.elasticlunr_input.specs.Forms.{HasForm, IsNotJson}
+use Rattle.elasticlunr_input.specs.Forms.{IsNotJson, asked_or_told}
 use Rattle.elasticlunr_parse.specs.Lines.{AreLineValues, HasUnreadLine}
 use Rattle.elasticlunr_parse.specs.Objects.{Options}
 use Rattle.elasticlunr_place.specs.Members.{IsPlaceOf}
@@ -53,5 +53,5 @@ IsPlaceAs Lines settings text place = IsLinesPlace settings text place
 
 -- it is in the text, which is not JSON, or it is that of what the input is refused for in the form that it has
 abbrev pub IsInputPlace : Option Form → Settings → Bytes → Place → Type 0
-IsInputPlace asked settings text place = (IsNotJson asked text × IsPlaceIn text place)
-    ⊎ ((form : Form) × HasForm asked text form × IsPlaceAs form settings text place)
+IsInputPlace asked settings text place = (IsNotJson (asked_or_told asked text) text × IsPlaceIn text place)
+    ⊎ IsPlaceAs (asked_or_told asked text) settings text place

@@ -1,9 +1,7 @@
 //! In which form the documents come.
-ghost use Rattle.std.specs.Prelude.{◌≡◌, ◌≢◌, IfOk, IfErr, IfSome, IfNone, Some, find, option_map};
-ghost use Rattle.elasticlunr_parse.specs.Reading.{reading};
-ghost use Rattle.elasticlunr_parse.specs.Lines.{is_filled, lines_of};
-ghost use Rattle.elasticlunr_text.specs.Text.{Bytes};
-ghost use Rattle.elasticlunr_input.specs.Forms.{HasForm, IsNotJson, begins_with_an_object, form_word, has, is_object_line, value_form};
+ghost use Rattle.std.specs.Prelude.{◌≡◌, ◌≢◌, not, IfOk, IfErr, IfSome, IfNone, find, option_map};
+ghost use Rattle.elasticlunr_parse.specs.Lines.{is_filled, is_space, lines_of};
+ghost use Rattle.elasticlunr_input.specs.Forms.{IsNotJson, asked_or_told, begins_an_array, form_word, has, is_object_line, line_form, told_form, value_form};
 ghost use Rattle.elasticlunr_input.specs.Inputs.{IsInput, input_of};
 ghost use Rattle.elasticlunr_place.specs.Places.{IsPlaceIn};
 ghost use Rattle.elasticlunr_input.specs.Refused.{IsMemoryOr};
@@ -48,60 +46,87 @@ pub fn form_of(word: &str) -> Option<Form>
     }
 }
 
-/// Reads an input in this form; where none was asked for, an array is one of objects, an object
-/// with a key `docs` or `fields` is a job, and any other text that begins with an object on a line
-/// of its own is lines.
-pub(crate) fn read_input(alloc: Global, bytes: &[u8], asked: Option<Form>) -> Result<Input, Trouble>
-    ensures ok { IfOk result (IsInput asked bytes.now) }
-    ensures err { IfErr result (IsMemoryOr (IsNotJson asked bytes.now)) }
-    ensures place { IfErr result (IfPlaced (IsPlaceIn bytes.now)) }
-{
-    if asked == Some(Form::Lines) {
-        return Ok(Input::Lines);
-    }
-    match Value::from_slice(alloc, bytes) {
-        Ok(value) => {
-            let form = form_in(&value, asked);
-            Ok(input_of(value, form))
-        }
-        Err(e) if e.is_memory() => Err(Trouble::Memory),
-        Err(e) => {
-            if asked.is_none() && begins_with_an_object(alloc, bytes)? {
-                return Ok(Input::Lines);
-            }
-            Err(Trouble::Refused(not_json(alloc, bytes, &e)?))
-        }
-    }
-}
-
-/// The form that was asked for, or else the one that a value tells.
-fn form_in(value: &Value, asked: Option<Form>) -> Form
-    ensures { (text : Bytes) → reading text ≡ Some (view value.now) → HasForm asked text result }
+/// The form that was asked for, or else the one that the text tells by its first line that isn't
+/// blank: one that begins with `[` begins an array of objects; an object with neither `docs` nor
+/// `fields` is the first of lines, and all else is a job, or begins one. So documents as lines, the
+/// first of which has a key `docs` or `fields`, have to be asked for.
+pub(crate) fn asked_or_told(
+    alloc: Global,
+    text: &[u8],
+    asked: Option<Form>,
+) -> Result<Form, AllocError>
+    ensures { IfOk result (λ form. form ≡ asked_or_told asked text.now) }
 {
     match asked {
-        Some(form) => form,
-        None => value_form(value),
+        Some(form) => Ok(form),
+        None => told_form(alloc, text),
     }
 }
 
-/// The form that a value tells.
+/// The form that a text tells.
+fn told_form(alloc: Global, text: &[u8]) -> Result<Form, AllocError>
+    ensures { IfOk result (λ form. form ≡ told_form text.now) }
+{
+    match first_filled(text) {
+        Some(line) => line_form(alloc, line),
+        None => Ok(Form::Job),
+    }
+}
+
+/// The form that a first line tells.
+fn line_form(alloc: Global, line: &[u8]) -> Result<Form, AllocError>
+    ensures { IfOk result (λ form. form ≡ line_form line.now) }
+{
+    if begins_an_array(line) {
+        return Ok(Form::Objects);
+    }
+    match Value::from_slice(alloc, line) {
+        Ok(value) => Ok(value_form(&value)),
+        Err(e) if e.is_memory() => Err(AllocError),
+        Err(_) => Ok(Form::Job),
+    }
+}
+
+/// Whether the first byte that is no space is `[`.
+fn begins_an_array(line: &[u8]) -> bool
+    ensures { result ≡ begins_an_array line.now }
+{
+    match first_byte(line) {
+        Some(byte) => byte == b'[',
+        None => false,
+    }
+}
+
+/// The first byte that is no space.
+fn first_byte(line: &[u8]) -> Option<u8>
+    ensures { result ≡ find (λ b. not (is_space b)) line.now }
+{
+    line.iter().copied().find(|byte| !is_space(*byte))
+}
+
+/// Whether a byte is a space, a tab, a carriage return or a line feed.
+fn is_space(byte: u8) -> bool
+    ensures { result ≡ is_space byte }
+{
+    byte == b' ' || byte == b'\t' || byte == b'\r' || byte == b'\n'
+}
+
+/// The form that a first line with this value tells.
 fn value_form(value: &Value) -> Form
     ensures { result ≡ value_form (view value.now) }
 {
-    if value.is_array() {
-        Form::Objects
-    } else if is_object_line(value) && !has(value, "fields") {
+    if is_object_line(value) {
         Form::Lines
     } else {
         Form::Job
     }
 }
 
-/// Whether a value is an object without documents.
+/// Whether a value is an object with neither documents nor fields.
 fn is_object_line(value: &Value) -> bool
     ensures { result ≡ is_object_line (view value.now) }
 {
-    value.is_object() && !has(value, "docs")
+    value.is_object() && !(has(value, "docs") || has(value, "fields"))
 }
 
 /// Whether a value has a member under this key.
@@ -109,6 +134,30 @@ fn has(value: &Value, key: &str) -> bool
     ensures { result ≡ has key.now (view value.now) }
 {
     value.get(key).is_some()
+}
+
+/// The first line that isn't blank.
+fn first_filled(text: &[u8]) -> Option<&[u8]>
+    ensures { option_map (λ line. line.now) result ≡ find is_filled (lines_of text.now) }
+{
+    text.split(|byte| *byte == b'\n')
+        .find(|line| !is_blank(line))
+}
+
+/// Reads an input in this form.
+pub(crate) fn read_input(alloc: Global, bytes: &[u8], form: Form) -> Result<Input, Trouble>
+    ensures ok { IfOk result (IsInput form bytes.now) }
+    ensures err { IfErr result (IsMemoryOr (IsNotJson form bytes.now)) }
+    ensures place { IfErr result (IfPlaced (IsPlaceIn bytes.now)) }
+{
+    if form == Form::Lines {
+        return Ok(Input::Lines);
+    }
+    match Value::from_slice(alloc, bytes) {
+        Ok(value) => Ok(input_of(value, form)),
+        Err(e) if e.is_memory() => Err(Trouble::Memory),
+        Err(e) => Err(Trouble::Refused(not_json(alloc, bytes, &e)?)),
+    }
 }
 
 /// The input of this form that a value is.
@@ -120,26 +169,4 @@ fn input_of(value: Value, form: Form) -> Input
         Form::Objects => Input::Objects(value),
         Form::Lines => Input::Lines,
     }
-}
-
-/// Whether the first line that isn't blank is an object, and no job.
-fn begins_with_an_object(alloc: Global, bytes: &[u8]) -> Result<bool, AllocError>
-    ensures { IfOk result (λ is_object. is_object ≡ begins_with_an_object bytes.now) }
-{
-    let Some(line) = first_filled(bytes) else {
-        return Ok(false);
-    };
-    match Value::from_slice(alloc, line) {
-        Ok(value) => Ok(is_object_line(&value)),
-        Err(e) if e.is_memory() => Err(AllocError),
-        Err(_) => Ok(false),
-    }
-}
-
-/// The first line that isn't blank.
-fn first_filled(text: &[u8]) -> Option<&[u8]>
-    ensures { option_map (λ line. line.now) result ≡ find is_filled (lines_of text.now) }
-{
-    text.split(|byte| *byte == b'\n')
-        .find(|line| !is_blank(line))
 }

@@ -14,7 +14,7 @@ ghost use Rattle.serde_json.specs.View.{view};
 use crate::documents::{
     Source, first_fields, note_objects, objects_text, problem_text, settings_fault,
 };
-use crate::form::{Form, Input, read_input};
+use crate::form::{Form, Input, asked_or_told, read_input};
 use crate::jobs::{job_refused, job_text, note_job};
 use crate::lines::{check_lines, first_value, note_lines};
 use crate::message::{Trouble, unplaced, wants};
@@ -30,15 +30,16 @@ use std::alloc::{AllocError, Global};
 pub fn index_text(
     alloc: Global,
     text: &[u8],
-    form: Option<Form>,
+    asked: Option<Form>,
     settings: &Settings,
     notes: &mut Notes,
 ) -> Result<String, Trouble>
     ensures ok { IfOk result (λ line.
-        IsIndexOf form (settings_told settings.now) text.now (string_bytes line)) }
-    ensures err { IfErr result (IsRefusedInput form (settings_told settings.now) text.now) }
-    ensures place { IfErr result (IfPlaced (IsInputPlace form (settings_told settings.now) text.now)) }
+        IsIndexOf asked (settings_told settings.now) text.now (string_bytes line)) }
+    ensures err { IfErr result (IsRefusedInput asked (settings_told settings.now) text.now) }
+    ensures place { IfErr result (IfPlaced (IsInputPlace asked (settings_told settings.now) text.now)) }
 {
+    let form = asked_or_told(alloc, text, asked)?;
     match read_input(alloc, text, form)? {
         Input::Job(value) => text_of_job(alloc, text, &value, settings, notes),
         Input::Objects(value) => text_of_array(alloc, text, &value, settings, notes),

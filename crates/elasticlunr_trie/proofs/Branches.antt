@@ -1,14 +1,14 @@
 -- Nodes for a new path.
-use Rattle.std.proofs.Common.{◌≡◌, inl, inr, ℕ, zero, suc, ◌+◌, ◌-◌, List, [], ◌∷◌, ◌++◌, length, get_or, refl, sym, ap, ◌∙◌, arith, length-append}
-use Rattle.std.proofs.lemmas.List.{get_or_append_left}
+use Rattle.std.proofs.Common.{◌≡◌, inl, inr, ℕ, zero, suc, ◌+◌, ◌-◌, ◌<◌, List, [], ◌∷◌, ◌++◌, length, get_or, set, refl, sym, ap, subst, ◌∙◌, arith, length-append}
+use Rattle.std.proofs.lemmas.List.{get_or_append_left, length-set}
 use Rattle.std.proofs.Math.Seq.{get_or-append_seam}
-use Rattle.std.proofs.lemmas.Bool.{cases_lt}
+use Rattle.std.proofs.lemmas.Bool.{cases_eq, cases_lt}
 use Rattle.std.specs.List.{slice_get}
 use Rattle.std.specs.FinMap as map
 use Rattle.elasticlunr_error.specs.Text.{Text}
 use Rattle.elasticlunr_trie.specs.Nodes.{children_of, entries_of}
-use Rattle.elasticlunr_trie.specs.Branch.{IsInner}
-use Rattle.elasticlunr_trie.proofs.Places.{get_before, get_behind}
+use Rattle.elasticlunr_trie.specs.Branch.{IsInner, HasBranch, KeepsOtherChildren}
+use Rattle.elasticlunr_trie.proofs.Places.{get_before, get_behind, get_set, get_set_other}
 use Rattle.elasticlunr_trie.specs.declared.inverted_index.nodes.Node.{Node}
 
 pub no_nodes : (n : ℕ) → IsInner n [] []
@@ -36,3 +36,27 @@ inner_push n cs front c node inner children none = record {
     beyond : (i : ℕ) → entries_of (slice_get (node ∷ []) i) ≡ map.empty
     beyond zero = none
     beyond (suc i) = refl
+
+-- nodes with another node at k, which has the postings of the old one, and with a branch behind them
+module _ (old branch new : List Node) (k : ℕ) (node : Node) (lt : k < length old) (same : node.postings ≡ entries_of (slice_get old k)) (is : new ≡ set old k node ++ branch) where
+  before : (j : ℕ) → j < length old → slice_get new j ≡ slice_get (set old k node) j
+  before j there = ap (λ ns. slice_get ns j) is ∙ get_before (set old k node) branch j (subst (λ n. j < n) (sym (length-set old k node)) there)
+
+  kept : (j : ℕ) → entries_of (slice_get (set old k node) j) ≡ entries_of (slice_get old j)
+  kept j = elim (cases_eq j k) [
+    | inl here ↦ ap (λ i. entries_of (slice_get (set old k node) i)) here ∙ ap entries_of (get_set old k node lt) ∙ same ∙ ap (λ i. entries_of (slice_get old i)) (sym here)
+    | inr apart ↦ ap entries_of (get_set_other old j k node apart)
+  ]
+
+  pub has_branch : HasBranch old new branch
+  has_branch = record {
+    count = ap length is ∙ length-append (set old k node) branch ∙ ap (λ n. n + length branch) (length-set old k node);
+    fresh = λ j. ap (λ ns. slice_get ns (length old + j)) is ∙ get_behind (set old k node) branch (length old + j) j (ap (λ n. n + j) (sym (length-set old k node)));
+    entries = λ j there. ap entries_of (before j there) ∙ kept j;
+  }
+
+  pub other_children : KeepsOtherChildren old new k
+  other_children j there apart = ap children_of (before j there ∙ get_set_other old j k node apart)
+
+  pub new_children : children_of (slice_get new k) ≡ node.children.items
+  new_children = ap children_of (before k lt ∙ get_set old k node lt)

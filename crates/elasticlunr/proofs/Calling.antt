@@ -24,7 +24,7 @@ use Rattle.elasticlunr.specs.Index.{SameSettings, plan_of}
 use Rattle.elasticlunr_printed.specs.Printed.{IsValue, IsTextAfter}
 use Rattle.elasticlunr.specs.Reading.{LanguageReads, ReadsOnly}
 use Rattle.elasticlunr_history.specs.Standing.{Plan}
-use Rattle.elasticlunr_history.proofs.OneZip.{one_zip}
+pub use Rattle.elasticlunr_history.proofs.OneZip.{one_zip}
 use Rattle.elasticlunr.specs.Tokenizers.{MayAnswer}
 use Rattle.elasticlunr.specs.declared.index.Index.{Index}
 use Rattle.elasticlunr.specs.declared.settings.Tokenizer.{Tokenizer}

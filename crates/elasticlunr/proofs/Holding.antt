@@ -10,11 +10,10 @@ use Rattle.serde_json.specs.Read.{read}
 use Rattle.elasticlunr_contents.specs.declared.contents.IndexContents.{IndexContents}
 use Rattle.elasticlunr_printed.specs.declared.parts.Parts.{Parts}
 use Rattle.elasticlunr_history.specs.Fields.{all_differ}
-use Rattle.elasticlunr_history.specs.History.{Commands, Agree}
+use Rattle.elasticlunr_history.specs.History.{Commands}
 use Rattle.elasticlunr_printed.specs.Parts.{IsPrinted, IsPrintedText}
-use Rattle.elasticlunr_printed.specs.Printed.{AreTrieValues, IsValue, IsValueOf, IsIndexValue, IsValueOfNoOther, IsTextOf, IsTextOfNoOther, IsTextAfter, IsReadAfter, IsReadAs, IsPrintOf, PrintAlike, index_object}
+use Rattle.elasticlunr_printed.specs.Printed.{AreTrieValues, IsIndexValue, IsTextOf, index_object}
 use Rattle.elasticlunr_history.specs.Standing.{Plan, Holds, IsTableOf}
-use Rattle.elasticlunr_history.proofs.Agreeing.{holds_agreed}
 
 -- what an answer shows
 pub if_ok : {T E : Type 0} (r : Result T E) (P Q : T → Type 0) → ((x : T) → P x → Q x) → IfOk r P → IfOk r Q

@@ -10,8 +10,8 @@ ghost use Rattle.elasticlunr_contents.specs.Texts.{texts_left, token_texts, with
 
 use crate::counts::{add_postings, count_tokens};
 use crate::documents::document_of;
-use elasticlunr_store::DocumentStore;
 use elasticlunr_error::IndexError;
+use elasticlunr_store::DocumentStore;
 use elasticlunr_trie::InvertedIndex;
 use std::alloc::{AllocError, Global};
 use std::collections::BTreeMap;

@@ -7,8 +7,8 @@ ghost use Rattle.serde_json.specs.Written.{compact_text};
 
 use crate::parts::Parts;
 use crate::write::write_index;
-use elasticlunr_json::{CompactText, PrettyText};
 use elasticlunr_error::IndexError;
+use elasticlunr_json::{CompactText, PrettyText};
 use std::alloc::Global;
 
 /// The compact text of the value of an index with these parts.

@@ -10,8 +10,8 @@ ghost use Rattle.serde_json.specs.View.{view};
 ghost use Rattle.serde_json.specs.Written.{has_float};
 
 use crate::parts::{ELASTICLUNR_VERSION, Parts};
-use elasticlunr_json::put_member;
 use elasticlunr_error::IndexError;
+use elasticlunr_json::put_member;
 use elasticlunr_trie::InvertedIndex;
 use serde_json::{Map, Value};
 use std::alloc::{AllocError, Global};

@@ -1,4 +1,4 @@
--- Tokens with how often they stand, and the postings that these make; for private clauses.
+-- Tokens with how often they stand, and the postings that these make.
 use Rattle.std.specs.Prelude.{◌≡◌, ◌≢◌, ℕ, List, [], ◌∷◌, ⊤, map, Some, IsSomeAnd, IsTrue, slice_get, unwrap_or, count_by, ◌↔◌, ◌⊎◌, String, string_bytes}
 use Rattle.std.specs.BTreeMap.{BTreeMap, get_by_text}
 use Rattle.std.specs.Str.{bytes_eq}

@@ -1,4 +1,4 @@
--- The texts that are stored of a document, and the lengths of its fields, put in one after the other; for private clauses.
+-- The texts that are stored of a document, and the lengths of its fields, put in one after the other.
 use Rattle.std.specs.Prelude.{List, [], ◌∷◌, length, map, Option, None, Some, option_map, String, Vec}
 use Rattle.std.specs.declared.alloc.Global.{Global}
 use Rattle.std.specs.FinMap as finite

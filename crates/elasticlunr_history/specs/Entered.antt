@@ -1,4 +1,4 @@
--- How one document, a removal or a compaction changes what an index holds; for private clauses.
+-- How one document, a removal or a compaction changes what an index holds.
 use Rattle.std.specs.Prelude.{◌≡◌, ◌≢◌, ℕ, ◌≤◌, false, List, [], length, map, Option, None, Some, IsSome, IsSomeAnd, IfSome, slice_get, count_by, Contains, IsTrue, ◌↔◌, ◌⊎◌, if◌then◌else◌}
 use Rattle.std.specs.Option.{option_map_or}
 use Rattle.std.specs.Str.{bytes_eq}

@@ -1,4 +1,4 @@
--- What the parts of an index print; for private clauses.
+-- What the parts of an index print.
 use Rattle.std.specs.Prelude.{ℕ, List, codes, map, string_bytes}
 use Rattle.serde_json.specs.Data.{Data, string, array, Members, no_members, member}
 use Rattle.elasticlunr_history.specs.Standing.{Plan}

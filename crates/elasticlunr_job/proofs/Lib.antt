@@ -15,3 +15,4 @@ pub mod Several
 pub mod JobFaults
 pub mod FilledLines
 pub mod LineStops
+pub mod LineParts

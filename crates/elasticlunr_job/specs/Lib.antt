@@ -14,3 +14,4 @@ pub mod Objects
 pub mod ObjectsTold
 pub mod Lines
 pub mod LinesTold
+pub mod LineRead

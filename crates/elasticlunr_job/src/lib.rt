@@ -14,3 +14,4 @@ pub mod laws;
 pub mod lines;
 pub mod objects;
 pub mod outcome;
+pub mod reader;

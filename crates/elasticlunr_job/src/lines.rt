@@ -18,11 +18,13 @@ ghost use Rattle.serde_json.specs.View.{view};
 use crate::answer::{line_of, read_json};
 use crate::objects::{Object, ObjectsError, Options, Problem, object_of, stop_at};
 use crate::outcome::{Refusal, Stop};
+use crate::reader::read_line;
 use elasticlunr::lang::{AnyLanguage, from_name};
 use elasticlunr::laws::calls::an_index_makes_what_its_language_makes;
 use elasticlunr::{Index, IndexBuilder};
 use serde_json::Value;
-use std::alloc::Global;
+use std::alloc::{AllocError, Global};
+use std::io::BufRead;
 
 /// Whether a line has no character but white space.
 pub fn is_blank(line: &[u8]) -> bool
@@ -132,4 +134,38 @@ pub fn lines_line(alloc: Global, options: &Options<'_>, text: &[u8]) -> Result<S
         .build()?;
     an_index_makes_what_its_language_makes(&index);
     fill_and_print(alloc, options, text, index)
+}
+
+/// What sees each document that is added.
+pub trait Watch {
+    /// Sees a document.
+    fn document(&mut self, object: &Object<'_>) -> Result<(), AllocError>;
+}
+
+/// Adds the documents of the lines of a reader to a new index: its text then, and a line feed.
+fn fill_from<R: BufRead, W: Watch>(
+    alloc: Global,
+    options: &Options<'_>,
+    reader: &mut R,
+    watch: &mut W,
+    mut index: Index<AnyLanguage>,
+) -> Result<String, ObjectsError> {
+    let mut number: usize = 0;
+    let mut line = Vec::new(alloc);
+    'lines: for _ in 0..u64::MAX {
+        let Ok(more) = read_line(reader, &mut line) else {
+            return Err(ObjectsError::Memory);
+        };
+        if !is_blank(&line) {
+            number = number.saturating_add(1);
+            let value = value_of(alloc, &line, number)?;
+            let object = numbered(alloc, options, &value, number)?;
+            watch.document(&object)?;
+            index.add_doc(object.reference.as_str(), &object.values)?;
+        }
+        if !more {
+            return Ok(line_of(&index, options.pretty)?);
+        }
+    }
+    Err(ObjectsError::Memory)
 }

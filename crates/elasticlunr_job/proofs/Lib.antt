@@ -16,3 +16,5 @@ pub mod JobFaults
 pub mod FilledLines
 pub mod LineStops
 pub mod LineParts
+pub mod WholeLines
+pub mod ReadLines

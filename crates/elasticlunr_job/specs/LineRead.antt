@@ -1,5 +1,5 @@
 -- A line as it is read.
-use Rattle.std.specs.Prelude.{◌≡◌, ◌≢◌, ◌++◌, ◌∷◌, ℕ, List, [], All, Option, IfSome}
+use Rattle.std.specs.Prelude.{◌≡◌, ◌≢◌, ◌⊎◌, ◌++◌, ◌∷◌, ℕ, List, [], All, Option, IfSome}
 use Rattle.elasticlunr_text.specs.Text.{Bytes}
 
 -- no line feed stands in it
@@ -13,3 +13,7 @@ fed line = line ++ 10 ∷ []
 -- where the bytes that were left are known, they are these
 abbrev pub AreAll : Option Bytes → Bytes → Type 0
 AreAll known text = IfSome known (λ bytes. bytes ≡ text)
+
+-- the text is empty, or ends with a line feed
+abbrev pub AreWhole : Bytes → Type 0
+AreWhole text = (text ≡ []) ⊎ ((front : Bytes) × (text ≡ fed front))

@@ -9,10 +9,12 @@ ghost use Rattle.elasticlunr_lang.specs.Known.{language_name};
 ghost use Rattle.elasticlunr_job.specs.Answer.{reading};
 ghost use Rattle.elasticlunr_job.specs.Commands.{language_tokens};
 ghost use Rattle.elasticlunr_job.specs.Filled.{IsBuiltFor};
+ghost use Rattle.elasticlunr_job.specs.LineRead.{AreAll};
 ghost use Rattle.elasticlunr_job.specs.Lines.{filled_lines, is_blank, is_filled, lines_of, FailsLines, IsLineOfLines};
 ghost use Rattle.elasticlunr_job.specs.LinesTold.{IsFilledLine, StopsAt, StopsFilling};
 ghost use Rattle.elasticlunr_job.specs.Objects.{HasProblem, IsDocumentOf, job_of};
 ghost use Rattle.elasticlunr_job.specs.ObjectsTold.{object_told, options_told};
+ghost use Rattle.elasticlunr_text.specs.Text.{Bytes};
 ghost use Rattle.serde_json.specs.View.{view};
 
 use crate::answer::{line_of, read_json};
@@ -149,20 +151,30 @@ fn fill_from<R: BufRead, W: Watch>(
     reader: &mut R,
     watch: &mut W,
     mut index: Index<AnyLanguage>,
-) -> Result<String, ObjectsError> {
+) -> Result<String, ObjectsError>
+    ensures { IfOk result (λ line. (language : AnyLanguage)
+        → IsBuiltFor (job_of (options_told options.now) []) language (plan_of language_name name_text index)
+        (IsDocument language_tokens leaves index) (StandsFor language_name name_text index)
+        → (text : Bytes) × AreAll (R.remaining reader.old) text
+        × IsFilledLine (options_told options.now) language text (string_bytes line)) }
+{
     let mut number: usize = 0;
     let mut line = Vec::new(alloc);
     'lines: for _ in 0..u64::MAX {
         let Ok(more) = read_line(reader, &mut line) else {
             return Err(ObjectsError::Memory);
         };
-        if !is_blank(&line) {
-            number = number.saturating_add(1);
-            let value = value_of(alloc, &line, number)?;
-            let object = numbered(alloc, options, &value, number)?;
-            watch.document(&object)?;
-            index.add_doc(object.reference.as_str(), &object.values)?;
+        if is_blank(&line) {
+            if more {
+                continue;
+            }
+            return Ok(line_of(&index, options.pretty)?);
         }
+        number += 1;
+        let value = value_of(alloc, &line, number)?;
+        let object = numbered(alloc, options, &value, number)?;
+        watch.document(&object)?;
+        index.add_doc(object.reference.as_str(), &object.values)?;
         if !more {
             return Ok(line_of(&index, options.pretty)?);
         }

@@ -1,12 +1,12 @@
 -- On a value that stands in a line between other lines.
-use Rattle.std.proofs.Common.{◌≡◌, ◌==◌, ◌<◌, ◌≤◌, ◌+◌, ◌-◌, ◌&&◌, ◌⊎◌, ltb, ℕ, zero, suc, List, [], ◌∷◌, ◌++◌, length, take, drop, All, Bool, true, false, cond, codes, Option, Some, None, option_and_then, count_by, inl, inr, zero-add, length-drop, if◌then◌else◌, slice_get, slice_range, refl, sym, ap, subst, ◌∙◌, append_assoc, append-nil, length-append, length-take, arith}
+use Rattle.std.proofs.Common.{◌≡◌, ◌≢◌, ◌==◌, ◌<◌, ◌≤◌, ◌+◌, ◌-◌, ◌&&◌, ◌⊎◌, ltb, ℕ, zero, suc, List, [], ◌∷◌, ◌++◌, length, take, drop, All, Bool, true, false, cond, codes, Option, Some, None, option_and_then, count_by, inl, inr, zero-add, length-drop, if◌then◌else◌, slice_get, slice_range, refl, sym, ap, subst, ◌∙◌, append_assoc, append-nil, length-append, length-take, arith}
 use Rattle.std.specs.List.{after_last, filter, list_all}
 use Rattle.std.proofs.lemmas.Option.{slice_get_within}
 use Rattle.serde_json.specs.Data.{Data, null, boolean}
-use borrow.Author.Tests.{ltb-true, ltb-false}
+use borrow.Author.Tests.{ltb-true, ltb-false, ne_eqb}
 use Rattle.std.proofs.lemmas.Bool.{cond-true}
 use Rattle.std.proofs.lemmas.List.{take-append-le, drop-append-le, drop_all, take_all}
-use Rattle.std.proofs.lemmas.List.Elements.{All-append, All-take, All-drop}
+use Rattle.std.proofs.lemmas.List.Elements.{All-append, All-drop, All-from_recursion, All-take, All-weaker}
 use Rattle.std.proofs.lemmas.List.Folds.{list_all-append}
 use Rattle.std.proofs.lemmas.List.Splits.{slice_split_at, slice_split_none}
 use Rattle.std.proofs.Math.Seq.{take-append-add, drop-append-add}
@@ -15,9 +15,11 @@ use Rattle.elasticlunr_job.specs.Answer.{reading}
 use Rattle.elasticlunr_job.specs.Lines.{filled_lines, is_blank, is_filled, is_space, lines_of}
 use Rattle.elasticlunr_place.specs.Members.{Move, follow, part_of, value_at, with_word, IsPlaceOf, StandsAt}
 use Rattle.elasticlunr_place.specs.Places.{is_first, is_line_feed, place_at}
-use Rattle.elasticlunr_place.specs.Whole.{AreWhole, EndsLine, HasNoFeed, below}
+use Rattle.elasticlunr_place.specs.Whole.{EndsLine, below}
+use Rattle.elasticlunr_job.specs.LineRead.{AreWhole, HasNoFeed}
 use Rattle.elasticlunr_place.specs.declared.place.Place.{Place}
-use Rattle.elasticlunr_place.proofs.WholeLines.{filled_append, place_below}
+use Rattle.elasticlunr_job.proofs.WholeLines.{filled_append}
+use Rattle.elasticlunr_place.proofs.WholeLines.{place_below}
 
 keep_first : (line : Bytes) (lines : List Bytes) → is_filled line ≡ true → filter is_filled (line ∷ lines) ≡ line ∷ filter is_filled lines
 keep_first line lines filled = cond-true (is_filled line) (line ∷ filter is_filled lines) (filter is_filled lines) filled
@@ -27,13 +29,16 @@ place_front line rest offset fits =
     let of_bytes : Bytes → Place = λ t. record { line = 1 + count_by is_line_feed t; column = 1 + count_by is_first (after_last is_line_feed t) } in
     ap of_bytes (take-append-le offset line rest fits)
 
+no_cut : (line : Bytes) → HasNoFeed line → All (λ b. (b == 10) ≡ false) line
+no_cut line none = All-weaker (λ b. b ≢ 10) (λ b. (b == 10) ≡ false) (λ b other. ne_eqb b 10 other) line none
+
 -- it is the first of the lines that begin with it
 first_line : (line rest : Bytes) → HasNoFeed line → is_filled line ≡ true → EndsLine rest → (more : List Bytes) × (filled_lines (line ++ rest) ≡ line ∷ more)
 first_line line rest none filled ends = elim ends [
-  | inl no_rest ↦ ([], ap (λ r. filled_lines (line ++ r)) no_rest ∙ (ap filled_lines (append-nil line) ∙ (ap (filter is_filled) (slice_split_none (λ b. b == 10) line none) ∙ keep_first line [] filled)))
+  | inl no_rest ↦ ([], ap (λ r. filled_lines (line ++ r)) no_rest ∙ (ap filled_lines (append-nil line) ∙ (ap (filter is_filled) (slice_split_none (λ b. b == 10) line (no_cut line none)) ∙ keep_first line [] filled)))
   | inr f ↦ (
     filter is_filled (lines_of f.0),
-    ap (λ r. filled_lines (line ++ r)) f.1 ∙ (ap (filter is_filled) (slice_split_at (λ b. b == 10) line 10 f.0 none refl) ∙ keep_first line (lines_of f.0) filled),
+    ap (λ r. filled_lines (line ++ r)) f.1 ∙ (ap (filter is_filled) (slice_split_at (λ b. b == 10) line 10 f.0 (no_cut line none) refl) ∙ keep_first line (lines_of f.0) filled),
   )
 ]
 
@@ -60,7 +65,7 @@ with_behind text line rest word start end first last =
 
 none_with : (line word : Bytes) (start end : ℕ) → HasNoFeed line → HasNoFeed word → HasNoFeed (with_word line start end word)
 none_with line word start end none also =
-    let P = λ (b : ℕ). (b == 10) ≡ false in
+    let P = λ (b : ℕ). b ≢ 10 in
     All-append P (take start line ++ word) (drop end line) (All-append P (take start line) word (All-take P start line none) also) (All-drop P end line none)
 
 blank_none : (x y : Bool) → ((x && false) && y) ≡ false
@@ -122,8 +127,8 @@ module _ (text line rest : Bytes) (whole : AreWhole text) (none : HasNoFeed line
         there = get_in text (line ++ rest) start ∙ get_front line rest start stands.first stands.there;
         no_space = stands.no_space;
         has_value = (value.0, value_behind text rest whole ends path line none filled ∙ value.1, ap reading (range_behind text line rest start end first last) ∙ value.2);
-        gives_null = word_behind (codes "null") null (refl, (refl, (refl, (refl, tt)))) refl stands.gives_null;
-        gives_true = word_behind (codes "true") (boolean true) (refl, (refl, (refl, (refl, tt)))) refl stands.gives_true;
+        gives_null = word_behind (codes "null") null (All-from_recursion (λ b. b ≢ 10) (codes "null") ((λ e. omega arith), ((λ e. omega arith), ((λ e. omega arith), ((λ e. omega arith), tt))))) refl stands.gives_null;
+        gives_true = word_behind (codes "true") (boolean true) (All-from_recursion (λ b. b ≢ 10) (codes "true") ((λ e. omega arith), ((λ e. omega arith), ((λ e. omega arith), ((λ e. omega arith), tt))))) refl stands.gives_true;
       }
 
 fits_or_not : (a b : ℕ) (t : Bool) → ltb a b ≡ t → (b ≤ a) ⊎ (a < b)

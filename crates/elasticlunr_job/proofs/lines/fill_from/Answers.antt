@@ -1,5 +1,4 @@
 use Rattle.std.proofs.Common.{◌≡◌, [], true, false, map, string_bytes, Some, inl, refl, sym, ap, ◌∙◌, arith}
-use borrow.Author.Tests.{not-false, not-true}
 use Rattle.serde_json.specs.View.{view}
 use Rattle.elasticlunr_lang.specs.Known.{language_name}
 use Rattle.elasticlunr_job.specs.Answer.{reading}
@@ -48,7 +47,7 @@ returns-then-not-more g c language built =
     all_filled _ (options_told c.args.options.now) language _ _ _ _ _ _ (string_bytes c.in_ok-line_of-2.field-0)
     (last_document _ (g.R.Read.remaining c.lines.reader) (options_told c.args.options.now) _ _ _ _ c.lines.invariant.added c.read_line.new.line.items c.in-Ok.ensures.line
     _ (view c.in_ok-value.value) (object_told object) _ _ made.0 blank (ap reading (sym c.deref-in-lines.ensures.value) ∙ c.in_ok-value.ensures.ok) c.in_ok-object.ensures.ok c.as_str.ensures.value (ap (map (λ s. s.now)) c.deref-in-lines-2.ensures.value)
-    (document_alike _ (λ z. (goal.PipelineFn-dyn g z).leaves z.1) c.args.index c.lines.index same _ _ made.0 made.1) made.2 (c.in-Ok.ensures.last (not-true c.in-Ok.more c.if-not-more.true)))
+    (document_alike _ (λ z. (goal.PipelineFn-dyn g z).leaves z.1) c.args.index c.lines.index same _ _ made.0 made.1) made.2 (c.in-Ok.ensures.last c.if-not-more.true))
     (plan_alike language_name (λ z. (goal.PipelineFn-dyn g z).name_text z.1) c.args.index c.add_doc.new.self (c.add_doc.ensures.settings ∙ same))
     built c.in_ok-line_of-2.ensures.ok
 
@@ -61,7 +60,7 @@ lines-preserved g c =
     record {
       added = added_document _ (g.R.Read.remaining c.lines.reader) (options_told c.args.options.now) _ _ _ _ c.lines.invariant.added c.read_line.new.line.items c.in-Ok.ensures.line
           _ (view c.in_ok-value.value) (object_told object) _ _ made.0 blank (ap reading (sym c.deref-in-lines.ensures.value) ∙ c.in_ok-value.ensures.ok) c.in_ok-object.ensures.ok c.as_str.ensures.value (ap (map (λ s. s.now)) c.deref-in-lines-2.ensures.value)
-          (document_alike _ (λ z. (goal.PipelineFn-dyn g z).leaves z.1) c.args.index c.lines.index same _ _ made.0 made.1) made.2 (g.R.Read.remaining c.read_line.new.reader) (c.in-Ok.ensures.more (not-false c.in-Ok.more c.if-not-more.false));
+          (document_alike _ (λ z. (goal.PipelineFn-dyn g z).leaves z.1) c.args.index c.lines.index same _ _ made.0 made.1) made.2 (g.R.Read.remaining c.read_line.new.reader) (c.in-Ok.ensures.more c.if-not-more.false);
       settings = c.add_doc.ensures.settings ∙ same;
       within = (let within = c.lines.invariant.within in omega arith);
     }

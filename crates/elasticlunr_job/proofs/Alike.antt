@@ -16,10 +16,6 @@ use Rattle.elasticlunr_job.specs.Commands.{compacted}
 use Rattle.elasticlunr_job.specs.Filled.{Follows}
 use Rattle.elasticlunr_parse.specs.JobTold.{document_told}
 use Rattle.elasticlunr_parse.specs.declared.job.Document as held
-use Rattle.elasticlunr_parse.specs.Job as asked
-use Rattle.elasticlunr_parse.specs.Objects.{Options, IsDocumentOf}
-use Rattle.elasticlunr_job.proofs.FilledLines.{values_long}
-use Rattle.serde_json.specs.Data.{Data}
 
 -- a call that was not refused has not too many values
 pub not_refused : {T E : Type 0} (r : Result T E) (ok : T) (failed too_many : E) (F M : Type 0) → r ≡ Ok ok → (r ≡ Err failed) ↔ F → (r ≡ Err too_many) ↔ (¬ F × M) → ¬ M
@@ -89,13 +85,4 @@ module _ {L P X Y : Type 0} {O : X → Type 0} {F : Y → Type 0} {p : _} {g : _
   too_many_told old new doc values same are many =
       let values_long : length (document_told doc).values ≡ length values = length-map doc.values.items (λ s. s.now) ∙ sym (ap length are) in
       let fields_long : length (fields_of new) ≡ length (fields_of old) = ap (λ c. length c.fields) same in
-      omega arith
-
-  -- a document of objects has no more values than there are fields
-  pub has_room : (old new : Index L P X Y O F p g) (options : Options) (d : Data) (doc : asked.Document) (values : List (Bor Bytes)) → choices_of new ≡ choices_of old → fields_of old ≡ options.fields → IsDocumentOf options d doc → map (λ s. s.now) values ≡ doc.values → ¬ (length (fields_of new) < length values)
-  has_room old new options d doc values same fields is texts over =
-      let fields_long : length (fields_of new) ≡ length (fields_of old) = ap (λ c. length c.fields) same in
-      let options_long : length (fields_of old) ≡ length options.fields = ap length fields in
-      let long : length doc.values ≡ length options.fields = values_long options d doc is in
-      let texts_long : length values ≡ length doc.values = sym (length-map values (λ s. s.now)) ∙ ap length texts in
       omega arith

@@ -9,4 +9,5 @@ pub mod OneLine
 pub mod OneAnswer
 pub mod Several
 pub mod FilledLines
+pub mod ReadLines
 pub mod LineStops

@@ -1,34 +1,34 @@
 -- How lines are added to an index; for private clauses.
-use Rattle.std.specs.Prelude.{◌≡◌, ⊤, ℕ, List}
+use Rattle.std.specs.Prelude.{◌≡◌, ⊤, ℕ, List, Option}
 use Rattle.serde_json.specs.Data.{Data}
 use Rattle.elasticlunr_text.specs.Text.{Bytes}
 use Rattle.elasticlunr_text.specs.IndexError.{IndexError}
-use Rattle.elasticlunr_text.specs.IndexError.TheVariants.{DuplicateField, TooManyValues}
+use Rattle.elasticlunr_text.specs.IndexError.TheVariants.{DuplicateField}
 use Rattle.elasticlunr_lang.specs.declared.any.AnyLanguage.{AnyLanguage}
 use Rattle.elasticlunr_job.specs.Answer.{IsIndexLine}
 use Rattle.elasticlunr_parse.specs.Job.{Document}
 use Rattle.elasticlunr_parse.specs.Lines.{AreLineValues}
-use Rattle.elasticlunr_job.specs.Lines.{IsFirstLineProblem}
+use Rattle.elasticlunr_job.specs.Lines.{StopsAtLine}
 use Rattle.elasticlunr_parse.specs.Objects.{Options, AreDocumentsOf}
 use Rattle.elasticlunr_job.specs.Objects.{job_of}
-use Rattle.elasticlunr_job.specs.declared.objects.ObjectsError.{ObjectsError}
-use Rattle.elasticlunr_job.specs.declared.objects.ObjectsError.TheVariants as error
+use Rattle.elasticlunr_job.specs.declared.lines.LastLine.{LastLine}
+use Rattle.elasticlunr_job.specs.declared.lines.LinesError.{LinesError}
+use Rattle.elasticlunr_job.specs.declared.lines.LinesError.TheVariants as error
 use Rattle.elasticlunr_parse.specs.declared.objects.Problem.{Problem}
 use Rattle.elasticlunr_parse.specs.declared.outcome.Refusal.TheVariants as refusal
-use Rattle.elasticlunr_parse.specs.declared.outcome.Stop.{Stop}
-use Rattle.elasticlunr_parse.specs.declared.outcome.Stop.TheVariants as stop
 
--- memory is wanting, or the document of this number has a problem
-abbrev pub StopsAt : ℕ → (Problem → Type 0) → ObjectsError → Type 0
-StopsAt number Has error.Memory = ⊤
-StopsAt number Has (error.Refused refusal) = ⊥
-StopsAt number Has (error.Document place problem) = (place ≡ number) × Has problem
+-- the line of this number has a problem, or memory is wanting
+abbrev pub StopsOn : ℕ → (Problem → Type 0) → LinesError → Type 0
+StopsOn number Has error.Memory = ⊤
+StopsOn number Has (error.Document place problem) = (place ≡ number) × Has problem
+StopsOn number Has _ = ⊥
 
--- memory is wanting, or a line is no document
-abbrev pub StopsFilling : Options → Bytes → ObjectsError → Type 0
-StopsFilling options input error.Memory = ⊤
-StopsFilling options input (error.Refused refusal) = ⊥
-StopsFilling options input (error.Document place problem) = IsFirstLineProblem options input place problem
+-- the line that was read last of what was left is the first that is no document, or something else fails that says nothing of it
+abbrev pub StopsFilling : Options → Option Bytes → LastLine → LinesError → Type 0
+StopsFilling options left last error.Memory = ⊤
+StopsFilling options left last (error.Device _) = ⊤
+StopsFilling options left last (error.Refused _) = ⊥
+StopsFilling options left last (error.Document number problem) = StopsAtLine options left last number problem
 
 -- the text of the index, in this language, of the documents that the lines are
 pub record IsFilledLine (options : Options) (language : AnyLanguage) (input text : Bytes) : Type 0 where
@@ -38,13 +38,7 @@ pub record IsFilledLine (options : Options) (language : AnyLanguage) (input text
   pub are_documents : AreDocumentsOf options items documents
   pub is_line : IsIndexLine (job_of options documents) language text
 
--- how a stop ends the work on objects
-abbrev pub error_of : Stop → ObjectsError
-error_of stop.Memory = error.Memory
-error_of (stop.Refused refusal) = error.Refused refusal
-
--- how a refusal of the index does; the others do not come from objects
-abbrev pub index_error_of : IndexError → ObjectsError
+-- how a refusal of the builder ends the work on lines; the others are want of memory
+abbrev pub index_error_of : IndexError → LinesError
 index_error_of DuplicateField = error.Refused refusal.DuplicateField
-index_error_of TooManyValues = error.Refused refusal.TooManyValues
 index_error_of _ = error.Memory

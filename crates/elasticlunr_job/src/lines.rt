@@ -1,95 +1,213 @@
-//! Documents as lines of JSON, an object each.
+//! The text of the index of documents as lines of JSON, an object each.
 //!
-//! Lines are read one by one: the value of a line is let go before the next line is read. Lines of
+//! Lines are read one by one: a line and its value are let go before the next one is read. Lines of
 //! white space are passed over.
 
 ghost use Rattle.std.specs.Prelude.{◌≡◌, [], Some, None, string_bytes, IfOk, IfErr};
-ghost use Rattle.elasticlunr.specs.Index.{fields_of, plan_of, IsDocument, IsFailed, StandsFor};
+ghost use Rattle.elasticlunr.specs.Index.{plan_of, IsDocument, StandsFor};
+ghost use Rattle.elasticlunr.specs.History.{Commands};
+ghost use Rattle.elasticlunr.specs.Printed.{IsTextAfter};
 ghost use Rattle.elasticlunr_lang.specs.Known.{language_name};
-ghost use Rattle.elasticlunr_parse.specs.Reading.{reading};
+ghost use Rattle.elasticlunr_job.specs.Answer.{line, printed_text};
+ghost use Rattle.elasticlunr_text.specs.Text.{Bytes};
 ghost use Rattle.elasticlunr_job.specs.Commands.{language_tokens};
 ghost use Rattle.elasticlunr_job.specs.Filled.{IsBuiltFor};
 ghost use Rattle.elasticlunr_job.specs.Lines.{FailsLines, IsLineOfLines};
-ghost use Rattle.elasticlunr_job.specs.LinesTold.{IsFilledLine, StopsAt, StopsFilling};
-ghost use Rattle.elasticlunr_parse.specs.Objects.{HasProblem, IsDocumentOf};
+ghost use Rattle.elasticlunr_job.specs.LinesTold.{IsFilledLine, StopsFilling, StopsOn};
 ghost use Rattle.elasticlunr_job.specs.Objects.{job_of};
+ghost use Rattle.elasticlunr_parse.specs.LineRead.{AreAll};
+ghost use Rattle.elasticlunr_parse.specs.Objects.{HasProblem, IsDocumentOf};
 ghost use Rattle.elasticlunr_parse.specs.ObjectsTold.{object_told, options_told};
+ghost use Rattle.elasticlunr_parse.specs.Reading.{reading};
 ghost use Rattle.serde_json.specs.View.{view};
 
 use crate::answer::line_of;
-use crate::objects::{Object, ObjectsError, Options, Problem, object_of, stop_at};
+use crate::objects::{AddError, Object, Options, Problem, object_of};
 use crate::outcome::{Refusal, Stop};
 use elasticlunr::lang::{AnyLanguage, from_name};
 use elasticlunr::laws::calls::an_index_makes_what_its_language_makes;
-use elasticlunr::{Index, IndexBuilder};
+use elasticlunr::{Index, IndexBuilder, IndexError};
 pub use elasticlunr_parse::lines::{is_blank, next_filled};
 use elasticlunr_parse::read::read_json;
+use elasticlunr_parse::reader::read_line;
 use serde_json::Value;
-use std::alloc::Global;
+use std::alloc::{AllocError, Global};
+use std::io::{self, BufRead, ErrorKind};
 
-/// The value of the line with this number.
-fn value_of(alloc: Global, line: &[u8], number: usize) -> Result<Value, ObjectsError>
-    ensures ok { IfOk result (λ value. reading line.now ≡ Some (view value)) }
-    ensures err { IfErr result (StopsAt number (λ problem.
-        (reading line.now ≡ None) × (problem ≡ Problem.NotJson))) }
-{
-    match read_json(alloc, line) {
-        Ok(value) => Ok(value),
-        Err(Stop::Memory) => Err(ObjectsError::Memory),
-        Err(Stop::Refused(_)) => Err(ObjectsError::Document(number, Problem::NotJson)),
+/// The line that was read last, without its line feed.
+#[derive(Drop)]
+pub struct LastLine {
+    pub text: Vec<u8>,
+    /// How many line feeds stand before it.
+    pub before: usize,
+}
+
+impl LastLine {
+    /// Of nothing that was read yet.
+    pub fn new(alloc: Global) -> LastLine {
+        LastLine {
+            text: Vec::new(alloc),
+            before: 0,
+        }
     }
 }
 
-/// The document with this number.
-fn numbered<'a>(
+/// What sees each document that is added.
+pub trait Watch {
+    /// Sees the next document.
+    fn document(&mut self, object: &Object<'_>) -> Result<(), AllocError>;
+}
+
+/// Why the index of lines is not printed.
+#[derive(Debug, Drop)]
+pub enum LinesError {
+    /// The language is unknown, or a field stands twice.
+    Refused(Refusal),
+    /// The number of the first line that is no document, from 1 without the blank ones, and what is
+    /// wrong with it.
+    Document(usize, Problem),
+    /// The reader failed.
+    Device(io::Error),
+    Memory,
+}
+
+impl From<AllocError> for LinesError {
+    ghost use Rattle.elasticlunr_job.specs.declared.lines.LinesError.TheVariants.{Memory};
+    ghost use Rattle.std.specs.Prelude.{◌≡◌};
+
+    ghost from_gives = { λ _ e. e ≡ Memory };
+
+    fn from(_refused: AllocError) -> LinesError {
+        LinesError::Memory
+    }
+}
+
+impl From<io::Error> for LinesError {
+    ghost use Rattle.elasticlunr_job.specs.declared.lines.LinesError.TheVariants.{Device};
+    ghost use Rattle.std.specs.Prelude.{◌≡◌};
+
+    ghost from_gives = { λ failed e. e ≡ Device failed };
+
+    fn from(failed: io::Error) -> LinesError {
+        LinesError::Device(failed)
+    }
+}
+
+impl From<IndexError> for LinesError {
+    ghost use Rattle.std.specs.Prelude.{◌≡◌};
+    ghost use Rattle.elasticlunr_job.specs.LinesTold.{index_error_of};
+
+    ghost from_gives = { λ refused e. e ≡ index_error_of refused };
+
+    fn from(refused: IndexError) -> LinesError {
+        match refused {
+            IndexError::DuplicateField => LinesError::Refused(Refusal::DuplicateField),
+            _ => LinesError::Memory,
+        }
+    }
+}
+
+/// The value of the line of this number.
+fn value_on(alloc: Global, line: &[u8], number: usize) -> Result<Value, LinesError>
+    ensures ok { IfOk result (λ value. reading line.now ≡ Some (view value)) }
+    ensures err { IfErr result (StopsOn number (λ problem. (reading line.now ≡ None) × (problem ≡ Problem.NotJson))) }
+{
+    match read_json(alloc, line) {
+        Ok(value) => Ok(value),
+        Err(Stop::Memory) => Err(LinesError::Memory),
+        Err(Stop::Refused(_)) => Err(LinesError::Document(number, Problem::NotJson)),
+    }
+}
+
+/// The document in the line of this number.
+fn object_on<'a>(
     alloc: Global,
     options: &Options<'_>,
     value: &'a Value,
     number: usize,
-) -> Result<Object<'a>, ObjectsError>
+) -> Result<Object<'a>, LinesError>
     ensures ok { IfOk result (λ object. IsDocumentOf (options_told options.now) (view value.now) (object_told object)) }
-    ensures err { IfErr result (StopsAt number (HasProblem (options_told options.now) (view value.now))) }
+    ensures err { IfErr result (StopsOn number (HasProblem (options_told options.now) (view value.now))) }
 {
     match object_of(alloc, options, value) {
         Ok(object) => Ok(object),
-        Err(e) => Err(stop_at(number, e)),
+        Err(AddError::Memory) => Err(LinesError::Memory),
+        Err(AddError::Problem(problem)) => Err(LinesError::Document(number, problem)),
     }
 }
 
-/// Adds the documents of the lines to a new index: its text then, and a line feed.
-fn fill_and_print(
+/// The text of an index, and a line feed.
+fn printed(index: &Index<AnyLanguage>, pretty: bool) -> Result<String, LinesError>
+    ensures ok { IfOk result (λ line_text. (commands : Commands)
+        → StandsFor language_name name_text index.now commands
+        → (text : Bytes)
+        × IsTextAfter (printed_text pretty) (plan_of language_name name_text index.now) commands text
+        × (string_bytes line_text ≡ line text)) }
+    ensures err { IfErr result (λ e. e ≡ LinesError.Memory) }
+{
+    match line_of(index, pretty) {
+        Ok(line) => Ok(line),
+        Err(_) => Err(LinesError::Memory),
+    }
+}
+
+/// Adds the documents in the lines of a reader to a new index: its text then, and a line feed.
+fn fill_and_print<R: BufRead, W: Watch>(
     alloc: Global,
     options: &Options<'_>,
-    text: &[u8],
+    reader: &mut R,
+    last: &mut LastLine,
+    watch: &mut W,
     mut index: Index<AnyLanguage>,
-) -> Result<String, ObjectsError>
+) -> Result<String, LinesError>
     ensures ok { IfOk result (λ line. (language : AnyLanguage)
         → IsBuiltFor (job_of (options_told options.now) []) language (plan_of language_name name_text index)
         (IsDocument language_tokens leaves index) (StandsFor language_name name_text index)
-        → IsFilledLine (options_told options.now) language text.now (string_bytes line)) }
-    ensures err { IfErr result (λ e. ¬ IsFailed index → fields_of index ≡ (options_told options.now).fields
-        → StopsFilling (options_told options.now) text.now e) }
+        → (text : Bytes) × AreAll (R.remaining reader.old) text
+        × IsFilledLine (options_told options.now) language text (string_bytes line)) }
+    ensures err { IfErr result (StopsFilling (options_told options.now) (R.remaining reader.old) last.new) }
 {
     let mut number: usize = 0;
-    let mut rest = text;
-    while let Some((line, after)) = next_filled(rest) {
+    'lines: for before in 0..usize::MAX {
+        let more = read_line(reader, &mut last.text)?;
+        last.before = before;
+        if is_blank(&last.text) {
+            if more {
+                continue;
+            }
+            return printed(&index, options.pretty);
+        }
         number += 1;
-        let value = value_of(alloc, line, number)?;
-        let object = numbered(alloc, options, &value, number)?;
-        index.add_doc(object.reference.as_str(), &object.values)?;
-        rest = after;
+        let value = value_on(alloc, &last.text, number)?;
+        let object = object_on(alloc, options, &value, number)?;
+        watch.document(&object)?;
+        let Ok(()) = index.add_doc(object.reference.as_str(), &object.values) else {
+            // It has a value for each field, so it is not refused: memory is wanting.
+            return Err(LinesError::Memory);
+        };
+        if !more {
+            return printed(&index, options.pretty);
+        }
     }
-    Ok(line_of(&index, options.pretty)?)
+    Err(LinesError::Device(io::Error::from(ErrorKind::Other)))
 }
 
-/// The text of the index of the documents in the lines of a text, and a line feed. It takes the
-/// memory of the index, and of the value of one line.
-pub fn lines_line(alloc: Global, options: &Options<'_>, text: &[u8]) -> Result<String, ObjectsError>
-    ensures ok { IfOk result (λ line. IsLineOfLines (options_told options.now) text.now (string_bytes line)) }
-    ensures err { IfErr result (FailsLines (options_told options.now) text.now) }
+/// The text of the index of the documents in the lines of a reader, and a line feed. It takes the
+/// memory of the index, of one line and of its value. The watch sees each document before it is
+/// added. After an error of a document its line is the one that was read last.
+pub fn lines_line<R: BufRead, W: Watch>(
+    alloc: Global,
+    options: &Options<'_>,
+    reader: &mut R,
+    last: &mut LastLine,
+    watch: &mut W,
+) -> Result<String, LinesError>
+    ensures ok { IfOk result (λ line. (text : Bytes) × AreAll (R.remaining reader.old) text
+        × IsLineOfLines (options_told options.now) text (string_bytes line)) }
+    ensures err { IfErr result (FailsLines (options_told options.now) (R.remaining reader.old) last.new) }
 {
     let Some(language) = from_name(options.language) else {
-        return Err(ObjectsError::Refused(Refusal::UnknownLanguage));
+        return Err(LinesError::Refused(Refusal::UnknownLanguage));
     };
     let index = IndexBuilder::with_language(alloc, language)?
         .save_docs(options.save)
@@ -97,5 +215,5 @@ pub fn lines_line(alloc: Global, options: &Options<'_>, text: &[u8]) -> Result<S
         .add_fields(&options.fields)?
         .build()?;
     an_index_makes_what_its_language_makes(&index);
-    fill_and_print(alloc, options, text, index)
+    fill_and_print(alloc, options, reader, last, watch, index)
 }

@@ -11,7 +11,6 @@ ghost use Rattle.elasticlunr_job.specs.ObjectsTold.{stop_at};
 
 use crate::answer::job_line;
 use crate::outcome::{Refusal, Stop};
-use elasticlunr::IndexError;
 use elasticlunr_parse::job::{Document, Job};
 pub use elasticlunr_parse::objects::{AddError, Object, Options, Problem, object_of};
 use serde_json::Value;
@@ -49,37 +48,8 @@ impl<T: Drop> From<AllocFailed<T>> for ObjectsError {
     }
 }
 
-impl From<Stop> for ObjectsError {
-    ghost use Rattle.std.specs.Prelude.{◌≡◌};
-    ghost use Rattle.elasticlunr_job.specs.LinesTold.{error_of};
-
-    ghost from_gives = { λ stop e. e ≡ error_of stop };
-
-    fn from(stop: Stop) -> ObjectsError {
-        match stop {
-            Stop::Refused(refusal) => ObjectsError::Refused(refusal),
-            Stop::Memory => ObjectsError::Memory,
-        }
-    }
-}
-
-impl From<IndexError> for ObjectsError {
-    ghost use Rattle.std.specs.Prelude.{◌≡◌};
-    ghost use Rattle.elasticlunr_job.specs.LinesTold.{index_error_of};
-
-    ghost from_gives = { λ refused e. e ≡ index_error_of refused };
-
-    fn from(refused: IndexError) -> ObjectsError {
-        match refused {
-            IndexError::DuplicateField => ObjectsError::Refused(Refusal::DuplicateField),
-            IndexError::TooManyValues => ObjectsError::Refused(Refusal::TooManyValues),
-            _ => ObjectsError::Memory,
-        }
-    }
-}
-
 /// How a document with this number that is not added stops all.
-pub(crate) fn stop_at(number: usize, e: AddError) -> ObjectsError
+fn stop_at(number: usize, e: AddError) -> ObjectsError
     ensures { result ≡ stop_at number e }
 {
     match e {

@@ -5,3 +5,5 @@ pub mod Readings
 pub mod FieldTexts
 pub mod JobFaults
 pub mod LineSplits
+pub mod WholeLines
+pub mod LineParts

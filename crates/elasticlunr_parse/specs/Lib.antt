@@ -11,3 +11,4 @@ pub mod FaultSteps
 pub mod Objects
 pub mod ObjectsTold
 pub mod Lines
+pub mod LineRead

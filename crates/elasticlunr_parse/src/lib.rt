@@ -11,3 +11,4 @@ pub mod lines;
 pub mod objects;
 pub mod outcome;
 pub mod read;
+pub mod reader;

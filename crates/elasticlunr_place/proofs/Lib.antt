@@ -1,2 +1,4 @@
 pub mod Members
 pub mod Depths
+pub mod WholeLines
+pub mod LineValues

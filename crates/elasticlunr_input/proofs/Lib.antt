@@ -4,6 +4,7 @@ pub mod LinePlaces
 pub mod FormLemmas
 pub mod Refusals
 pub mod Called
-pub mod IndexLemmas
 pub mod FirstFaults
 pub mod Scripts
+pub mod HeadLemmas
+pub mod InputLemmas

@@ -2,10 +2,11 @@
 use Rattle.std.proofs.Common.{◌≡◌, Result, Ok, Err, IfErr, IsErrAnd, sym, subst}
 use Rattle.elasticlunr_input.specs.Refused.{IsMemoryOr}
 use Rattle.elasticlunr_input.specs.declared.message.Trouble.{Trouble}
-use Rattle.elasticlunr_input.specs.declared.message.Trouble.TheVariants.{Refused, Memory}
+use Rattle.elasticlunr_input.specs.declared.message.Trouble.TheVariants.{Refused, Memory, Device}
 
-for_reason : (A B : Type 0) (e : Trouble) → (A → B) → IsMemoryOr A e → IsMemoryOr B e
+pub for_reason : (A B : Type 0) (e : Trouble) → (A → B) → IsMemoryOr A e → IsMemoryOr B e
 for_reason A B Memory more is = tt
+for_reason A B (Device failed) more is = tt
 for_reason A B (Refused message) more is = more is
 
 -- a reason that follows from another one
@@ -21,4 +22,5 @@ refused_again A B e (Err x) more same is = for_reason A B x more (subst (IsMemor
 -- for this reason
 pub for_this : (A : Type 0) (e : Trouble) → A → IsMemoryOr A e
 for_this A Memory reason = tt
+for_this A (Device failed) reason = tt
 for_this A (Refused message) reason = reason

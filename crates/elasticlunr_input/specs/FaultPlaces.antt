@@ -18,8 +18,6 @@ use Rattle.elasticlunr_parse.specs.declared.outcome.Refusal.{Refusal}
 use Rattle.elasticlunr_parse.specs.declared.outcome.Refusal.TheVariants.{UnknownLanguage, DuplicateField, TooManyValues}
 use Rattle.elasticlunr_input.specs.FirstFaults.{IsFirstTooLong, IsFirstTwice}
 use Rattle.elasticlunr_place.specs.Members.{Move, item, under, IsPlaceOf}
-use Rattle.elasticlunr_input.specs.declared.form.Form.{Form}
-use Rattle.elasticlunr_input.specs.declared.form.Form.TheVariants as form
 use Rattle.elasticlunr_place.specs.declared.place.Place.{Place}
 
 -- from a value that is no document to what is wrong in it
@@ -68,11 +66,17 @@ problem_key options _ = options.reference_key
 abbrev pub problem_path : Options → Problem → List Move
 problem_path options problem = if is_of_member problem then under (problem_key options problem) ∷ [] else []
 
--- the place is that of a problem of the object with this number, from 1: in its line, or in the array
-abbrev pub IsPlaceOfProblem : Form → Bytes → Options → ℕ → Problem → Place → Type 0
-IsPlaceOfProblem form.Lines text options number problem place = IsPlaceOf (Some (number - 1)) (problem_path options problem) text place
-IsPlaceOfProblem _ text options number problem place = IsPlaceOf None (item (number - 1) ∷ problem_path options problem) text place
+-- the place is that of a problem of the object with this number, from 1, in an array, or in its line
+abbrev pub IsPlaceOfItem : Bytes → Options → ℕ → Problem → Place → Type 0
+IsPlaceOfItem text options number problem place = IsPlaceOf None (item (number - 1) ∷ problem_path options problem) text place
 
--- the place is that of the first problem of these objects, which stand in the text
-abbrev pub IsPlaceInObjects : Form → Bytes → Options → List Data → Place → Type 0
-IsPlaceInObjects form text options items place = (number : ℕ) × (problem : Problem) × IsFirstProblem options items number problem × IsPlaceOfProblem form text options number problem place
+abbrev pub IsPlaceOfLine : Bytes → Options → ℕ → Problem → Place → Type 0
+IsPlaceOfLine text options number problem place = IsPlaceOf (Some (number - 1)) (problem_path options problem) text place
+
+-- the place is that of the first problem of these objects, which stand in an array
+abbrev pub IsPlaceInObjects : Bytes → Options → List Data → Place → Type 0
+IsPlaceInObjects text options items place = (number : ℕ) × (problem : Problem) × IsFirstProblem options items number problem × IsPlaceOfItem text options number problem place
+
+-- or each in a line
+abbrev pub IsPlaceInObjectLines : Bytes → Options → List Data → Place → Type 0
+IsPlaceInObjectLines text options items place = (number : ℕ) × (problem : Problem) × IsFirstProblem options items number problem × IsPlaceOfLine text options number problem place

@@ -68,9 +68,9 @@ FailsAs Lines settings text = FailLines settings text
 abbrev pub IsIndexOf : Option Form → Settings → Bytes → Bytes → Type 0
 IsIndexOf asked settings text line = IsIndexAs (asked_or_told asked text) settings text line
 
--- the input is not JSON, or fails a check in the form that it has
-abbrev pub FailsInput : Option Form → Settings → Bytes → Type 0
-FailsInput asked settings text = IsNotJson (asked_or_told asked text) text ⊎ FailsAs (asked_or_told asked text) settings text
+-- an input of this form is not JSON, or fails a check
+abbrev pub FailsInput : Form → Settings → Bytes → Type 0
+FailsInput form settings text = IsNotJson form text ⊎ FailsAs form settings text
 
-abbrev pub IsRefusedInput : Option Form → Settings → Bytes → Trouble → Type 0
-IsRefusedInput asked settings text = IsMemoryOr (FailsInput asked settings text)
+abbrev pub IsRefusedInput : Form → Settings → Bytes → Trouble → Type 0
+IsRefusedInput form settings text = IsMemoryOr (FailsInput form settings text)

@@ -1,22 +1,52 @@
--- An input that was read, for private clauses.
-use Rattle.std.specs.Prelude.{◌≡◌, Some}
-use Rattle.serde_json.specs.View.{view}
-use Rattle.serde_json.specs.declared.value.Value.{Value}
+-- The head of an input that is read, and a line that is refused; for private clauses.
+use Rattle.std.specs.Prelude.{◌≡◌, ◌⊎◌, ◌++◌, ◌∷◌, ◌==◌, ⊤, ℕ, List, [], true, Option, Some, None, IfSome, count_by}
+use Rattle.serde_json.specs.Data.{Data}
 use Rattle.elasticlunr_text.specs.Text.{Bytes}
+use Rattle.elasticlunr_parse.specs.LineRead.{AreWhole, HasNoFeed, fed}
+use Rattle.elasticlunr_parse.specs.Lines.{filled_lines, is_filled}
+use Rattle.elasticlunr_parse.specs.Objects.{Options, HasProblem}
 use Rattle.elasticlunr_parse.specs.Reading.{reading}
-use Rattle.elasticlunr_input.specs.declared.form.Form.{Form}
-use Rattle.elasticlunr_input.specs.declared.form.Form.TheVariants as form
-use Rattle.elasticlunr_input.specs.declared.form.Input.{Input}
-use Rattle.elasticlunr_input.specs.declared.form.Input.TheVariants as input
+use Rattle.elasticlunr_parse.specs.declared.objects.Problem.{Problem}
+use Rattle.elasticlunr_job.specs.declared.lines.LastLine.{LastLine}
+use Rattle.elasticlunr_place.specs.Members.{IsPlaceOf}
+use Rattle.elasticlunr_place.specs.Places.{IsPlaceIn}
+use Rattle.elasticlunr_place.specs.Whole.{below}
+use Rattle.elasticlunr_place.specs.declared.place.Place.{Place}
+use Rattle.elasticlunr_input.specs.FaultPlaces.{problem_path}
+use Rattle.elasticlunr_input.specs.declared.message.Trouble.{Trouble}
+use Rattle.elasticlunr_input.specs.declared.message.Trouble.TheVariants as trouble
 
--- a value as an input of a form
-abbrev pub input_of : Form → Value → Input
-input_of form.Job value = input.Job value
-input_of form.Objects value = input.Objects value
-input_of form.Lines value = input.Lines
+-- the line that was read last ends the head of a text, and all before it is blank; it is not, or nothing is behind it
+pub record IsHeadOf (head rest line : Bytes) (feeds : ℕ) : Type 0 where
+  pub before : Bytes
+  pub whole : AreWhole before
+  pub blank : filled_lines before ≡ []
+  pub feeds_are : feeds ≡ count_by (λ b. b == 10) before
+  pub no_feed : HasNoFeed line
+  pub ends : ((head ≡ before ++ fed line) × (is_filled line ≡ true)) ⊎ ((head ≡ before ++ line) × (rest ≡ []))
 
--- it is an input of this form, and the value, where it was read, is that of the text
-abbrev pub IsInput : Form → Bytes → Input → Type 0
-IsInput its text (input.Job value) = (its ≡ form.Job) × (reading text ≡ Some (view value))
-IsInput its text (input.Objects value) = (its ≡ form.Objects) × (reading text ≡ Some (view value))
-IsInput its text input.Lines = its ≡ form.Lines
+-- of a text whose bytes are known its head was read
+abbrev pub HasHead : (left now : Option Bytes) → Bytes → LastLine → Type 0
+HasHead None now head last = ⊤
+HasHead (Some text) None head last = ⊥
+HasHead (Some text) (Some rest) head last = (text ≡ head ++ rest) × IsHeadOf head rest last.text.items last.before
+
+-- a place is so many lines below another, where both are known
+abbrev pub IsLowered : (at : Option Place) → ℕ → (place : Option Place) → Type 0
+IsLowered None lines place = place ≡ None
+IsLowered (Some at) lines place = IfSome place (λ found. found ≡ below lines at)
+
+-- the place is in a line that is not JSON, or that of a problem of its value
+abbrev pub IsPlaceInLine : Options → Bytes → Problem → Place → Type 0
+IsPlaceInLine options line problem place = ((reading line ≡ None) × IsPlaceIn line place)
+    ⊎ ((d : Data) × (reading line ≡ Some d) × IsPlaceOf None (problem_path options problem) line place)
+
+-- the place is so many lines below one that is so
+abbrev pub IsBelow : ℕ → (Place → Type 0) → Place → Type 0
+IsBelow lines Is place = (at : Place) × (place ≡ below lines at) × Is at
+
+-- the first of the values is no document, and the place is that of its problem, which stands in the line that was read last
+abbrev pub IsRefusedFirst : Options → List Data → LastLine → Trouble → Type 0
+IsRefusedFirst options items last (trouble.Refused message) = (d : Data) × (rest : List Data) × (problem : Problem) × (items ≡ d ∷ rest) × HasProblem options d problem
+    × IfSome message.place (IsBelow last.before (IsPlaceInLine options last.text.items problem))
+IsRefusedFirst options items last _ = ⊤

@@ -9,5 +9,6 @@ pub mod Inputs
 pub mod FirstFaults
 pub mod FaultPlaces
 pub mod RefusedPlaces
+pub mod RefusedRead
 pub mod Script
 pub mod Status

@@ -14,11 +14,12 @@ use Rattle.elasticlunr_job.specs.declared.objects.ObjectsError.TheVariants as er
 use Rattle.elasticlunr_input.specs.Asked.{options_of}
 use Rattle.elasticlunr_input.specs.Settled.{Settings, IsRefusedWith}
 use Rattle.elasticlunr_input.specs.declared.message.Trouble.{Trouble}
-use Rattle.elasticlunr_input.specs.declared.message.Trouble.TheVariants.{Refused, Memory}
+use Rattle.elasticlunr_input.specs.declared.message.Trouble.TheVariants.{Refused, Memory, Device}
 
--- memory is wanting, or it is refused for this reason
+-- memory is wanting, or the reader failed, or it is refused for this reason
 abbrev pub IsMemoryOr : Type 0 → Trouble → Type 0
 IsMemoryOr reason Memory = ⊤
+IsMemoryOr reason (Device _) = ⊤
 IsMemoryOr reason (Refused _) = reason
 
 -- the values fail a check of objects that are read so

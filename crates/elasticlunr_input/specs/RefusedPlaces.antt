@@ -1,5 +1,5 @@
 -- The place of a refusal: where that stands in the input for which it is refused.
-use Rattle.std.specs.Prelude.{◌≡◌, ◌⊎◌, ⊤, List, Option, Some, None, [], IfSome}
+use Rattle.std.specs.Prelude.{◌≡◌, ◌⊎◌, ⊤, List, Some, None, [], IfSome}
 use Rattle.serde_json.specs.Data.{Data}
 use Rattle.serde_json.specs.Find.{as_array}
 use Rattle.serde_json.specs.View.{items_of}
@@ -7,8 +7,8 @@ use Rattle.elasticlunr_text.specs.Text.{Bytes}
 use Rattle.elasticlunr_parse.specs.Reading.{reading}
 use Rattle.elasticlunr_parse.specs.declared.outcome.Refusal.{Refusal}
 use Rattle.elasticlunr_input.specs.Asked.{options_of}
-use Rattle.elasticlunr_input.specs.FaultPlaces.{IsPlaceInJob, IsPlaceInObjects}
-use Rattle.elasticlunr_input.specs.Forms.{IsNotJson, asked_or_told}
+use Rattle.elasticlunr_input.specs.FaultPlaces.{IsPlaceInJob, IsPlaceInObjectLines, IsPlaceInObjects}
+use Rattle.elasticlunr_input.specs.Forms.{IsNotJson}
 use Rattle.elasticlunr_parse.specs.Lines.{AreLineValues, HasUnreadLine}
 use Rattle.elasticlunr_parse.specs.Objects.{Options}
 use Rattle.elasticlunr_place.specs.Members.{IsPlaceOf}
@@ -17,12 +17,13 @@ use Rattle.elasticlunr_input.specs.Settled.{Settings, IsRefusedWith}
 use Rattle.elasticlunr_input.specs.declared.form.Form.{Form}
 use Rattle.elasticlunr_input.specs.declared.form.Form.TheVariants.{Job, Objects, Lines}
 use Rattle.elasticlunr_input.specs.declared.message.Trouble.{Trouble}
-use Rattle.elasticlunr_input.specs.declared.message.Trouble.TheVariants.{Refused, Memory}
+use Rattle.elasticlunr_input.specs.declared.message.Trouble.TheVariants.{Refused, Memory, Device}
 use Rattle.elasticlunr_place.specs.declared.place.Place.{Place}
 
 -- the place of a refusal is so, where its message has one
 abbrev pub IfPlaced : (Place → Type 0) → Trouble → Type 0
 IfPlaced Is Memory = ⊤
+IfPlaced Is (Device _) = ⊤
 IfPlaced Is (Refused message) = IfSome message.place Is
 
 -- it is that of what the value is refused for as a job with these settings
@@ -32,18 +33,18 @@ IsJobPlace settings text d place = (refusal : Refusal) × IsRefusedWith settings
 -- that of the value, which is no array, or of the first problem of what is in it
 abbrev pub IsArrayPlace : Settings → Bytes → Data → Place → Type 0
 IsArrayPlace settings text d place = ((as_array d ≡ None) × IsPlaceOf None [] text place)
-    ⊎ ((items : List Data) × (as_array d ≡ Some (items_of items)) × IsPlaceInObjects Objects text (options_of settings items) items place)
+    ⊎ ((items : List Data) × (as_array d ≡ Some (items_of items)) × IsPlaceInObjects text (options_of settings items) items place)
 
 -- it is in the text, a line of which is not JSON, or it is that of the first problem of the values of the lines, as
 -- they are read with these options
 abbrev pub IsPlaceInLines : Bytes → Options → Place → Type 0
 IsPlaceInLines text options place = (HasUnreadLine text × IsPlaceIn text place)
-    ⊎ ((items : List Data) × AreLineValues text items × IsPlaceInObjects Lines text options items place)
+    ⊎ ((items : List Data) × AreLineValues text items × IsPlaceInObjectLines text options items place)
 
 -- the same with these settings
 abbrev pub IsLinesPlace : Settings → Bytes → Place → Type 0
 IsLinesPlace settings text place = (HasUnreadLine text × IsPlaceIn text place)
-    ⊎ ((items : List Data) × AreLineValues text items × IsPlaceInObjects Lines text (options_of settings items) items place)
+    ⊎ ((items : List Data) × AreLineValues text items × IsPlaceInObjectLines text (options_of settings items) items place)
 
 -- it is that of what an input of this form is refused for
 abbrev pub IsPlaceAs : Form → Settings → Bytes → Place → Type 0
@@ -51,7 +52,6 @@ IsPlaceAs Job settings text place = (d : Data) × (reading text ≡ Some d) × I
 IsPlaceAs Objects settings text place = (d : Data) × (reading text ≡ Some d) × IsArrayPlace settings text d place
 IsPlaceAs Lines settings text place = IsLinesPlace settings text place
 
--- it is in the text, which is not JSON, or it is that of what the input is refused for in the form that it has
-abbrev pub IsInputPlace : Option Form → Settings → Bytes → Place → Type 0
-IsInputPlace asked settings text place = (IsNotJson (asked_or_told asked text) text × IsPlaceIn text place)
-    ⊎ IsPlaceAs (asked_or_told asked text) settings text place
+-- it is in the text, which is not JSON, or it is that of what the input of this form is refused for
+abbrev pub IsInputPlace : Form → Settings → Bytes → Place → Type 0
+IsInputPlace form settings text place = (IsNotJson form text × IsPlaceIn text place) ⊎ IsPlaceAs form settings text place

@@ -1,20 +1,19 @@
-//! The index of documents that are objects: an array of them, or a line for each.
-ghost use Rattle.std.specs.Prelude.{◌≡◌, ◌-◌, map, take, length, string_bytes, if◌then◌else◌, IfOk, IfErr, IfSome};
+//! The index of documents that are objects in an array, and what is wrong with documents.
+ghost use Rattle.std.specs.Prelude.{◌≡◌, ◌-◌, ◌∷◌, None, map, take, length, string_bytes, if◌then◌else◌, IfOk, IfErr, IfSome};
 ghost use Rattle.elasticlunr_job.specs.Objects.{IsLineOfObjects};
 ghost use Rattle.elasticlunr_parse.specs.ObjectsTold.{options_told, texts_told};
-ghost use Rattle.elasticlunr_input.specs.FaultPlaces.{is_of_member, problem_key, IsPlaceInObjects, IsPlaceOfProblem};
+ghost use Rattle.elasticlunr_input.specs.FaultPlaces.{is_of_member, problem_key, problem_path, IsPlaceInObjects};
+ghost use Rattle.elasticlunr_place.specs.Members.{item, IsPlaceOf};
 ghost use Rattle.elasticlunr_input.specs.Fields.{is_field, text_keys};
 ghost use Rattle.elasticlunr_input.specs.Refused.{IsRefusedObjects};
 ghost use Rattle.elasticlunr_input.specs.RefusedPlaces.{IfPlaced};
 ghost use Rattle.serde_json.specs.View.{view};
 
-use crate::form::Form;
 use crate::jobs::duplicate_field;
 use crate::language::unknown_language;
 use crate::message::{Message, Trouble, kind_words, unplaced};
 use crate::notes::Notes;
 use crate::tokens::Tokens;
-use elasticlunr_job::lines::is_blank;
 use elasticlunr_job::objects::{ObjectsError, Options, Problem, object_of, objects_line};
 use elasticlunr_job::outcome::Refusal;
 use elasticlunr_place::member::{Step, place_of};
@@ -22,24 +21,17 @@ use elasticlunr_place::place::Place;
 use serde_json::Value;
 use std::alloc::{AllocError, Global};
 
-/// The text that objects were read of: an array, or a line for each.
-#[derive(Clone, Copy, Debug, PartialEq, Eq)]
-pub(crate) struct Source<'a> {
-    pub text: &'a [u8],
-    pub form: Form,
-}
-
 /// The text of the index of objects, and a line feed.
 pub(crate) fn objects_text(
     alloc: Global,
-    source: Source<'_>,
+    text: &[u8],
     items: &[Value],
     options: &Options<'_>,
 ) -> Result<String, Trouble>
     ensures ok { IfOk result (λ line.
         IsLineOfObjects (options_told options.now) (map view items.now) (string_bytes line)) }
     ensures err { IfErr result (IsRefusedObjects (options_told options.now) (map view items.now)) }
-    ensures place { IfErr result (IfPlaced (IsPlaceInObjects source.entry.form source.entry.text.now
+    ensures place { IfErr result (IfPlaced (IsPlaceInObjects text.now
         (options_told options.now) (map view items.now))) }
 {
     match objects_line(alloc, options, items) {
@@ -50,8 +42,8 @@ pub(crate) fn objects_text(
         }
         Err(ObjectsError::Document(number, problem)) => {
             let item = items.get(number.saturating_sub(1));
+            let place = problem_place(alloc, text, options, number, problem)?;
             let text = problem_text(alloc, options, number, item, problem)?;
-            let place = problem_place(alloc, source, options, number, problem)?;
             Err(Trouble::Refused(Message { place, text }))
         }
     }
@@ -70,48 +62,24 @@ pub(crate) fn settings_fault(
     }
 }
 
-/// The place of what is wrong with the document of this number.
-pub(crate) fn problem_place(
+/// The place of what is wrong with the document of this number in an array.
+fn problem_place(
     alloc: Global,
-    source: Source<'_>,
+    text: &[u8],
     options: &Options<'_>,
     number: usize,
     problem: Problem,
 ) -> Result<Option<Place>, AllocError>
     ensures { IfOk result (λ place. IfSome place
-        (IsPlaceOfProblem source.entry.form source.entry.text.now (options_told options.now) number problem)) }
+        (IsPlaceOf None (item (number - 1) ∷ problem_path (options_told options.now) problem) text.now)) }
 {
-    let item = number.saturating_sub(1);
+    let item = Step::Item(number.saturating_sub(1));
     let key = Step::Key(problem_key(options, problem));
-    if source.form == Form::Lines {
-        place_of(alloc, source.text, Some(item), path_of(&[key], problem))
-    } else {
-        place_of(
-            alloc,
-            source.text,
-            None,
-            path_of(&[Step::Item(item), key], problem),
-        )
-    }
-}
-
-/// The line of the object with this number, from 0, and how many lines stand before it.
-pub(crate) fn line_of(text: &[u8], item: usize) -> (usize, &[u8]) {
-    let mut left = item;
-    for (before, line) in text.split(|byte| *byte == b'\n').enumerate() {
-        if is_blank(line) {
-            continue;
-        }
-        if left == 0 {
-            return (before, line);
-        }
-        left -= 1;
-    }
-    (0, text)
+    place_of(alloc, text, None, path_of(&[item, key], problem))
 }
 
 /// The steps to what a problem is about: the document, or a member of it.
-fn path_of<'p, 'a>(path: &'p [Step<'a>], problem: Problem) -> &'p [Step<'a>]
+pub(crate) fn path_of<'p, 'a>(path: &'p [Step<'a>], problem: Problem) -> &'p [Step<'a>]
     ensures { result.now ≡ (if is_of_member problem then path.now else take (length path.now - 1) path.now) }
 {
     match problem {
@@ -121,7 +89,7 @@ fn path_of<'p, 'a>(path: &'p [Step<'a>], problem: Problem) -> &'p [Step<'a>]
 }
 
 /// The key of the member that a problem is about.
-fn problem_key<'a>(options: &Options<'a>, problem: Problem) -> &'a str
+pub(crate) fn problem_key<'a>(options: &Options<'a>, problem: Problem) -> &'a str
     ensures { result.now ≡ problem_key (options_told options.now) problem }
 {
     match problem {

@@ -1,8 +1,8 @@
 //! In which form the documents come.
-ghost use Rattle.std.specs.Prelude.{◌≡◌, ◌≢◌, not, IfOk, IfErr, IfSome, IfNone, find, option_map};
+ghost use Rattle.std.specs.Prelude.{◌≡◌, ◌≢◌, Some, None, not, IfOk, IfErr, IfSome, IfNone, find, option_map};
 ghost use Rattle.elasticlunr_parse.specs.Lines.{is_filled, is_space, lines_of};
-ghost use Rattle.elasticlunr_input.specs.Forms.{IsNotJson, asked_or_told, begins_an_array, form_word, has, is_object_line, line_form, told_form, value_form};
-ghost use Rattle.elasticlunr_input.specs.Inputs.{IsInput, input_of};
+ghost use Rattle.elasticlunr_input.specs.Forms.{asked_or_told, begins_an_array, form_word, has, is_object_line, line_form, told_form, value_form};
+ghost use Rattle.elasticlunr_parse.specs.Reading.{reading};
 ghost use Rattle.elasticlunr_place.specs.Places.{IsPlaceIn};
 ghost use Rattle.elasticlunr_input.specs.Refused.{IsMemoryOr};
 ghost use Rattle.elasticlunr_input.specs.RefusedPlaces.{IfPlaced};
@@ -22,14 +22,6 @@ pub enum Form {
     /// An array of objects, each a document.
     Objects,
     /// A line for each object.
-    Lines,
-}
-
-/// An input, as far as it was read: lines are read one by one.
-#[derive(Drop)]
-pub(crate) enum Input {
-    Job(Value),
-    Objects(Value),
     Lines,
 }
 
@@ -144,29 +136,15 @@ fn first_filled(text: &[u8]) -> Option<&[u8]>
         .find(|line| !is_blank(line))
 }
 
-/// Reads an input in this form.
-pub(crate) fn read_input(alloc: Global, bytes: &[u8], form: Form) -> Result<Input, Trouble>
-    ensures ok { IfOk result (IsInput form bytes.now) }
-    ensures err { IfErr result (IsMemoryOr (IsNotJson form bytes.now)) }
-    ensures place { IfErr result (IfPlaced (IsPlaceIn bytes.now)) }
+/// Reads the value that a whole text is.
+pub(crate) fn read_value(alloc: Global, text: &[u8]) -> Result<Value, Trouble>
+    ensures ok { IfOk result (λ value. reading text.now ≡ Some (view value)) }
+    ensures err { IfErr result (IsMemoryOr (reading text.now ≡ None)) }
+    ensures place { IfErr result (IfPlaced (IsPlaceIn text.now)) }
 {
-    if form == Form::Lines {
-        return Ok(Input::Lines);
-    }
-    match Value::from_slice(alloc, bytes) {
-        Ok(value) => Ok(input_of(value, form)),
+    match Value::from_slice(alloc, text) {
+        Ok(value) => Ok(value),
         Err(e) if e.is_memory() => Err(Trouble::Memory),
-        Err(e) => Err(Trouble::Refused(not_json(alloc, bytes, &e)?)),
-    }
-}
-
-/// The input of this form that a value is.
-fn input_of(value: Value, form: Form) -> Input
-    ensures { result ≡ input_of form value }
-{
-    match form {
-        Form::Job => Input::Job(value),
-        Form::Objects => Input::Objects(value),
-        Form::Lines => Input::Lines,
+        Err(e) => Err(Trouble::Refused(not_json(alloc, text, &e)?)),
     }
 }

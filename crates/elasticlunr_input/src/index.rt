@@ -1,49 +1,61 @@
 //! The index of an input, of each form.
-ghost use Rattle.std.specs.Prelude.{◌≡◌, map, string_bytes, unwrap_or, IfOk, IfErr};
+ghost use Rattle.std.specs.Prelude.{◌≡◌, ◌++◌, map, string_bytes, unwrap_or, IfOk, IfErr, IfSome};
 ghost use Rattle.elasticlunr_parse.specs.ObjectsTold.{options_told, texts_told};
-ghost use Rattle.elasticlunr_input.specs.Asked.{IsArrayLineWith, IsObjectsLineWith, options_of};
+ghost use Rattle.elasticlunr_input.specs.Asked.{IsObjectsLineWith, options_of};
 ghost use Rattle.elasticlunr_input.specs.FaultPlaces.{IsPlaceInObjects};
 ghost use Rattle.elasticlunr_input.specs.Fields.{fields_of_first};
-ghost use Rattle.elasticlunr_input.specs.Forms.{IsIndexOf, IsRefusedInput};
+ghost use Rattle.elasticlunr_input.specs.Forms.{asked_or_told, IsIndexAs, IsIndexOf, IsRefusedInput};
+ghost use Rattle.elasticlunr_input.specs.Inputs.{IsHeadOf};
 ghost use Rattle.elasticlunr_input.specs.Lines.{IsLinesLineWith};
-ghost use Rattle.elasticlunr_input.specs.Refused.{AreRefusedLines, IsRefusedArray, IsRefusedJob, IsRefusedObjects};
-ghost use Rattle.elasticlunr_input.specs.RefusedPlaces.{IfPlaced, IsArrayPlace, IsInputPlace, IsJobPlace, IsLinesPlace};
-ghost use Rattle.elasticlunr_input.specs.Settled.{IsLineWith, settings_told};
+ghost use Rattle.elasticlunr_input.specs.Refused.{IsRefusedObjects};
+ghost use Rattle.elasticlunr_input.specs.RefusedPlaces.{IfPlaced, IsInputPlace};
+ghost use Rattle.elasticlunr_input.specs.RefusedRead.{AreRefusedFrom, IsRefusedFrom};
+ghost use Rattle.elasticlunr_input.specs.Settled.{settings_told};
+ghost use Rattle.elasticlunr_input.specs.declared.form.Form.TheVariants as form;
 ghost use Rattle.serde_json.specs.View.{view};
 
-use crate::documents::{
-    Source, first_fields, note_objects, objects_text, problem_text, settings_fault,
-};
-use crate::form::{Form, Input, asked_or_told, read_input};
+use crate::documents::{first_fields, note_objects, objects_text, settings_fault};
+use crate::form::{Form, asked_or_told, read_value};
 use crate::jobs::{job_refused, job_text, note_job};
-use crate::lines::{check_lines, first_value, note_lines};
+use crate::lines::{Watcher, check_first, first_value, line_refused, read_head};
 use crate::message::{Trouble, unplaced, wants};
 use crate::notes::Notes;
 use crate::settings::{Settings, text_or, texts_of};
-use elasticlunr_job::lines::lines_line;
-use elasticlunr_job::objects::{ObjectsError, Options};
+use crate::tokens::Tokens;
+use elasticlunr_job::lines::{LastLine, LinesError, lines_line};
+use elasticlunr_job::objects::Options;
 use elasticlunr_job::outcome::Stop;
 use serde_json::Value;
 use std::alloc::{AllocError, Global};
+use std::io::{BufRead, Read};
 
-/// The text of the index of an input, and a line feed; what is unwise goes to the notes.
-pub fn index_text(
+/// The text of the index of an input, and a line feed; what is unwise goes to the notes, whose
+/// warnings are of no use after an error. Lines are read one by one, and the value of a line is let
+/// go before the next one is read; of an input in another form all is read, and held.
+pub fn index_from<R: BufRead>(
     alloc: Global,
-    text: &[u8],
+    reader: &mut R,
     asked: Option<Form>,
     settings: &Settings,
     notes: &mut Notes,
 ) -> Result<String, Trouble>
-    ensures ok { IfOk result (λ line.
-        IsIndexOf asked (settings_told settings.now) text.now (string_bytes line)) }
-    ensures err { IfErr result (IsRefusedInput asked (settings_told settings.now) text.now) }
-    ensures place { IfErr result (IfPlaced (IsInputPlace asked (settings_told settings.now) text.now)) }
+    ensures ok { IfOk result (λ line. IfSome (R.remaining reader.old) (λ text.
+        IsIndexOf asked (settings_told settings.now) text (string_bytes line))) }
+    ensures err { IfErr result (λ e. IfSome (R.remaining reader.old) (λ text.
+        IsRefusedFrom (asked_or_told asked text) (settings_told settings.now) text e)) }
 {
-    let form = asked_or_told(alloc, text, asked)?;
-    match read_input(alloc, text, form)? {
-        Input::Job(value) => text_of_job(alloc, text, &value, settings, notes),
-        Input::Objects(value) => text_of_array(alloc, text, &value, settings, notes),
-        Input::Lines => text_of_lines(alloc, text, settings, notes),
+    let mut last = LastLine::new(alloc);
+    let mut text = read_head(alloc, reader, &mut last)?;
+    match asked_or_told(alloc, &text, asked)? {
+        Form::Lines => text_of_lines(alloc, &text, &mut last, reader, settings, notes),
+        Form::Job => {
+            reader.read_to_end(&mut text)?;
+            text_of_job(alloc, &text, settings, notes)
+        }
+        Form::Objects => {
+            reader.read_to_end(&mut text)?;
+            text_of_array(alloc, &text, settings, notes)
+        }
     }
 }
 
@@ -51,23 +63,22 @@ pub fn index_text(
 fn text_of_job(
     alloc: Global,
     text: &[u8],
-    value: &Value,
     settings: &Settings,
     notes: &mut Notes,
 ) -> Result<String, Trouble>
-    ensures ok { IfOk result (λ line.
-        IsLineWith (settings_told settings.now) (view value.now) (string_bytes line)) }
-    ensures err { IfErr result (IsRefusedJob (settings_told settings.now) (view value.now)) }
-    ensures place { IfErr result (IfPlaced (IsJobPlace (settings_told settings.now) text.now (view value.now))) }
+    ensures ok { IfOk result (λ line. IsIndexAs form.Job (settings_told settings.now) text.now (string_bytes line)) }
+    ensures err { IfErr result (IsRefusedInput form.Job (settings_told settings.now) text.now) }
+    ensures place { IfErr result (IfPlaced (IsInputPlace form.Job (settings_told settings.now) text.now)) }
 {
-    match job_text(alloc, value, settings) {
+    let value = read_value(alloc, text)?;
+    match job_text(alloc, &value, settings) {
         Ok(line) => {
-            note_job(alloc, value, settings, notes)?;
+            note_job(alloc, &value, settings, notes)?;
             Ok(line)
         }
         Err(Stop::Memory) => Err(Trouble::Memory),
         Err(Stop::Refused(refusal)) => {
-            Err(Trouble::Refused(job_refused(alloc, text, value, refusal)?))
+            Err(Trouble::Refused(job_refused(alloc, text, &value, refusal)?))
         }
     }
 }
@@ -76,56 +87,55 @@ fn text_of_job(
 fn text_of_array(
     alloc: Global,
     text: &[u8],
-    value: &Value,
     settings: &Settings,
     notes: &mut Notes,
 ) -> Result<String, Trouble>
-    ensures ok { IfOk result (λ line.
-        IsArrayLineWith (settings_told settings.now) (view value.now) (string_bytes line)) }
-    ensures err { IfErr result (IsRefusedArray (settings_told settings.now) (view value.now)) }
-    ensures place { IfErr result (IfPlaced (IsArrayPlace (settings_told settings.now) text.now (view value.now))) }
+    ensures ok { IfOk result (λ line. IsIndexAs form.Objects (settings_told settings.now) text.now (string_bytes line)) }
+    ensures err { IfErr result (IsRefusedInput form.Objects (settings_told settings.now) text.now) }
+    ensures place { IfErr result (IfPlaced (IsInputPlace form.Objects (settings_told settings.now) text.now)) }
 {
+    let value = read_value(alloc, text)?;
     let Some(items) = value.as_array() else {
-        let message = wants(alloc, text, &[], "the input", value, "a list of objects")?;
+        let message = wants(alloc, text, &[], "the input", &value, "a list of objects")?;
         return Err(Trouble::Refused(message));
     };
-    let source = Source {
-        text,
-        form: Form::Objects,
-    };
-    text_of_objects(alloc, source, items, settings, notes)
+    text_of_objects(alloc, text, items, settings, notes)
 }
 
-/// The text of the index of a line for each object.
-fn text_of_lines(
+/// The text of the index of a line for each object, the first of which was read last and ends the
+/// head.
+fn text_of_lines<R: BufRead>(
     alloc: Global,
-    text: &[u8],
+    head: &[u8],
+    last: &mut LastLine,
+    reader: &mut R,
     settings: &Settings,
     notes: &mut Notes,
 ) -> Result<String, Trouble>
-    ensures ok { IfOk result (λ line.
-        IsLinesLineWith (settings_told settings.now) text.now (string_bytes line)) }
-    ensures err { IfErr result (AreRefusedLines (settings_told settings.now) text.now) }
-    ensures place { IfErr result (IfPlaced (IsLinesPlace (settings_told settings.now) text.now)) }
+    ensures ok { IfOk result (λ line. IfSome (R.remaining reader.old) (λ rest. IsHeadOf head.now rest last.old.text.items last.old.before
+        → IsLinesLineWith (settings_told settings.now) (head.now ++ rest) (string_bytes line))) }
+    ensures err { IfErr result (λ e. IfSome (R.remaining reader.old) (λ rest. IsHeadOf head.now rest last.old.text.items last.old.before
+        → AreRefusedFrom (settings_told settings.now) (head.now ++ rest) e)) }
 {
-    let first = first_value(alloc, text)?;
+    let first = first_value(alloc, last)?;
     let options = options_of(alloc, settings, &first)?;
-    match lines_line(alloc, &options, text) {
+    check_first(alloc, &options, &first, last)?;
+    let tokens = Tokens::of_language(alloc, options.language)?;
+    let mut watcher = Watcher { tokens, notes };
+    let mut all = head.chain(reader);
+    match lines_line(alloc, &options, &mut all, last, &mut watcher) {
         Ok(line) => {
-            note_lines(alloc, text, &options, notes)?;
+            watcher.notes.end(&options.fields)?;
             Ok(line)
         }
-        Err(ObjectsError::Memory) => Err(Trouble::Memory),
-        Err(ObjectsError::Refused(refusal)) => {
-            check_lines(alloc, text, &options)?;
+        Err(LinesError::Memory) => Err(Trouble::Memory),
+        Err(LinesError::Device(e)) => Err(Trouble::Device(e)),
+        Err(LinesError::Refused(refusal)) => {
             let said = settings_fault(alloc, &options, refusal)?;
             Err(Trouble::Refused(unplaced(said)))
         }
-        Err(ObjectsError::Document(number, problem)) => {
-            // It finds the line again, and says where it stands.
-            check_lines(alloc, text, &options)?;
-            let said = problem_text(alloc, &options, number, None, problem)?;
-            Err(Trouble::Refused(unplaced(said)))
+        Err(LinesError::Document(number, problem)) => {
+            Err(line_refused(alloc, &options, last, number, problem)?)
         }
     }
 }
@@ -133,7 +143,7 @@ fn text_of_lines(
 /// The text of the index of objects.
 fn text_of_objects(
     alloc: Global,
-    source: Source<'_>,
+    text: &[u8],
     items: &[Value],
     settings: &Settings,
     notes: &mut Notes,
@@ -142,11 +152,11 @@ fn text_of_objects(
         IsObjectsLineWith (settings_told settings.now) (map view items.now) (string_bytes line)) }
     ensures err { IfErr result (IsRefusedObjects
         (options_of (settings_told settings.now) (map view items.now)) (map view items.now)) }
-    ensures place { IfErr result (IfPlaced (IsPlaceInObjects source.entry.form source.entry.text.now
+    ensures place { IfErr result (IfPlaced (IsPlaceInObjects text.now
         (options_of (settings_told settings.now) (map view items.now)) (map view items.now))) }
 {
     let options = options_of(alloc, settings, items)?;
-    let line = objects_text(alloc, source, items, &options)?;
+    let line = objects_text(alloc, text, items, &options)?;
     note_objects(alloc, &options, items, notes)?;
     Ok(line)
 }

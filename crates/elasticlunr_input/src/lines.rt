@@ -1,131 +1,173 @@
 //! Documents that are lines of JSON, read one by one.
-ghost use Rattle.std.specs.Prelude.{◌≡◌, map, take, Some, None, IfOk, IfErr, OnOk};
-ghost use Rattle.elasticlunr_parse.specs.Reading.{reading};
-ghost use Rattle.elasticlunr_parse.specs.Lines.{readings, HasUnreadLine};
+ghost use Rattle.std.specs.Prelude.{◌≡◌, ◌∷◌, [], List, map, filter, true, Some, None, IfOk, IfErr, IfSome, IfNone, OnOk};
+ghost use Rattle.elasticlunr_parse.specs.Job.{Document};
+ghost use Rattle.elasticlunr_parse.specs.Lines.{is_filled};
+ghost use Rattle.elasticlunr_parse.specs.Objects.{HasProblem, IsDocumentOf};
 ghost use Rattle.elasticlunr_parse.specs.ObjectsTold.{options_told};
-ghost use Rattle.elasticlunr_input.specs.FaultPlaces.{IsPlaceOfProblem};
+ghost use Rattle.elasticlunr_parse.specs.Reading.{reading};
+ghost use Rattle.elasticlunr_place.specs.Members.{IsPlaceOf};
 ghost use Rattle.elasticlunr_place.specs.Places.{IsPlaceIn};
-ghost use Rattle.elasticlunr_input.specs.Refused.{AreDocumentLines, FailLinesOf, HaveValues, IsMemoryOr};
-ghost use Rattle.elasticlunr_input.specs.RefusedPlaces.{IfPlaced, IsPlaceInLines};
-ghost use Rattle.elasticlunr_input.specs.declared.form.Form.TheVariants as form;
+ghost use Rattle.elasticlunr_input.specs.FaultPlaces.{problem_path};
+ghost use Rattle.elasticlunr_input.specs.Inputs.{HasHead, IsBelow, IsPlaceInLine, IsRefusedFirst};
+ghost use Rattle.elasticlunr_input.specs.Refused.{IsMemoryOr};
+ghost use Rattle.elasticlunr_input.specs.RefusedPlaces.{IfPlaced};
+ghost use Rattle.serde_json.specs.Data.{Data};
 ghost use Rattle.serde_json.specs.View.{view};
 
-use crate::documents::{Source, line_of, note_object, problem_place, problem_text};
-use crate::form::Form;
-use crate::message::{Message, Trouble, unread_line};
+use crate::documents::{path_of, problem_key, problem_text};
+use crate::message::{Message, Trouble, lowered, not_json};
 use crate::notes::Notes;
 use crate::tokens::Tokens;
-use elasticlunr_job::lines::next_filled;
-use elasticlunr_job::objects::{AddError, Options, Problem, object_of};
-use serde_json::Value;
+use elasticlunr_job::lines::{LastLine, Watch, is_blank, read_line};
+use elasticlunr_job::objects::{AddError, Object, Options, Problem, object_of};
+use elasticlunr_place::member::{Step, place_of};
+use serde_json::{Error, Value};
 use std::alloc::{AllocError, Global};
+use std::io::{self, BufRead, ErrorKind};
 
-/// The value of a line of a text, which has this number among those that are not blank, from 1.
-fn line_value(alloc: Global, text: &[u8], line: &[u8], number: usize) -> Result<Value, Trouble>
-    ensures ok { IfOk result (λ value. reading line.now ≡ Some (view value)) }
-    ensures err { IfErr result (IsMemoryOr (reading line.now ≡ None)) }
-    ensures place { IfErr result (IfPlaced (IsPlaceIn text.now)) }
+/// Reads a text up to the end of its first line that isn't blank, or to its own end, and gives what
+/// it read. The line that it read last stays.
+pub(crate) fn read_head<R: BufRead>(
+    alloc: Global,
+    reader: &mut R,
+    last: &mut LastLine,
+) -> Result<Vec<u8>, Trouble>
+    ensures ok { IfOk result (λ head. HasHead (R.remaining reader.old) (R.remaining reader.new) head.items last.new) }
+    ensures err { IfErr result (IsMemoryOr ⊥) }
 {
-    match Value::from_slice(alloc, line) {
-        Ok(value) => Ok(value),
-        Err(e) if e.is_memory() => Err(Trouble::Memory),
-        Err(e) => {
-            let (before, _) = line_of(text, number.saturating_sub(1));
-            let message = unread_line(alloc, text, line, before, &e)?;
-            Err(Trouble::Refused(message))
+    let mut head = Vec::new(alloc);
+    'lines: for before in 0..usize::MAX {
+        let more = read_line(reader, &mut last.text)?;
+        last.before = before;
+        head.extend_from_slice(&last.text)?;
+        if !more {
+            return Ok(head);
         }
+        head.push(b'\n')?;
+        if !is_blank(&last.text) {
+            return Ok(head);
+        }
+    }
+    Err(Trouble::Device(io::Error::from(ErrorKind::Other)))
+}
+
+/// What notes what is unwise in documents.
+#[derive(Drop)]
+pub(crate) struct Watcher<'n> {
+    pub tokens: Tokens,
+    pub notes: &'n mut Notes,
+}
+
+impl Watch for Watcher<'_> {
+    fn document(&mut self, object: &Object<'_>) -> Result<(), AllocError> {
+        self.notes
+            .document(&self.tokens, object.reference.as_str(), &object.values)
     }
 }
 
-/// The value of the first line, where there is one.
-pub(crate) fn first_value(alloc: Global, text: &[u8]) -> Result<Vec<Value>, Trouble>
-    ensures ok { IfOk result (λ values. map Some (map view values.items) ≡ take 1 (readings text.now)) }
-    ensures err { IfErr result (IsMemoryOr (HasUnreadLine text.now)) }
-    ensures place { IfErr result (IfPlaced (IsPlaceIn text.now)) }
+/// The value of the first line, which was read last, where it isn't blank.
+pub(crate) fn first_value(alloc: Global, last: &LastLine) -> Result<Vec<Value>, Trouble>
+    ensures ok { IfOk result (λ values. map Some (map view values.items)
+        ≡ map reading (filter is_filled (last.now.text.items ∷ []))) }
+    ensures err { IfErr result (IsMemoryOr ((is_filled last.now.text.items ≡ true) × (reading last.now.text.items ≡ None))) }
+    ensures place { IfErr result (IfPlaced (IsBelow last.now.before (IsPlaceIn last.now.text.items))) }
 {
     let mut values = Vec::new(alloc);
-    if let Some((line, _)) = next_filled(text) {
-        values.push(line_value(alloc, text, line, 1)?)?;
+    if is_blank(&last.text) {
+        return Ok(values);
     }
-    Ok(values)
-}
-
-/// Refuses the first line that is not JSON.
-fn check_json(alloc: Global, text: &[u8]) -> Result<(), Trouble>
-    ensures ok { OnOk result (HaveValues text.now) }
-    ensures err { IfErr result (IsMemoryOr (HasUnreadLine text.now)) }
-    ensures place { IfErr result (IfPlaced (IsPlaceIn text.now)) }
-{
-    let mut number: usize = 0;
-    let mut rest = text;
-    while let Some((line, after)) = next_filled(rest) {
-        number = number.saturating_add(1);
-        drop(line_value(alloc, text, line, number)?);
-        rest = after;
-    }
-    Ok(())
-}
-
-/// Refuses the first line that is not JSON, or else the first that is no document.
-pub(crate) fn check_lines(alloc: Global, text: &[u8], options: &Options<'_>) -> Result<(), Trouble>
-    ensures ok { OnOk result (AreDocumentLines (options_told options.now) text.now) }
-    ensures err { IfErr result (IsMemoryOr (FailLinesOf (options_told options.now) text.now)) }
-    ensures place { IfErr result (IfPlaced (IsPlaceInLines text.now (options_told options.now))) }
-{
-    let mut number: usize = 0;
-    let mut rest = text;
-    while let Some((line, after)) = next_filled(rest) {
-        number += 1;
-        let value = line_value(alloc, text, line, number)?;
-        match object_of(alloc, options, &value) {
-            Ok(object) => drop(object),
-            Err(AddError::Memory) => return Err(Trouble::Memory),
-            Err(AddError::Problem(problem)) => {
-                check_json(alloc, text)?;
-                return Err(line_refused(alloc, text, options, number, &value, problem)?);
-            }
+    match Value::from_slice(alloc, &last.text) {
+        Ok(value) => {
+            values.push(value)?;
+            Ok(values)
         }
-        rest = after;
+        Err(e) if e.is_memory() => Err(Trouble::Memory),
+        Err(e) => Err(line_unread(alloc, last, &e)?),
     }
-    Ok(())
 }
 
-/// The trouble with the line of this number, which is no document.
-fn line_refused(
+/// What keeps a value from being a document.
+fn problem_of(
     alloc: Global,
-    text: &[u8],
     options: &Options<'_>,
-    number: usize,
     value: &Value,
+) -> Result<Option<Problem>, AllocError>
+    ensures some { IfOk result (λ found. IfSome found (HasProblem (options_told options.now) (view value.now))) }
+    ensures none { IfOk result (λ found. IfNone found
+        ((doc : Document) × IsDocumentOf (options_told options.now) (view value.now) doc)) }
+{
+    match object_of(alloc, options, value) {
+        Ok(object) => {
+            drop(object);
+            Ok(None)
+        }
+        Err(AddError::Problem(problem)) => Ok(Some(problem)),
+        Err(AddError::Memory) => Err(AllocError),
+    }
+}
+
+/// Refuses the first of the values where it is no document; it stands in the line that was read
+/// last.
+pub(crate) fn check_first(
+    alloc: Global,
+    options: &Options<'_>,
+    values: &[Value],
+    last: &LastLine,
+) -> Result<(), Trouble>
+    ensures ok { OnOk result ((d : Data) → (rest : List Data) → map view values.now ≡ d ∷ rest
+        → (doc : Document) × IsDocumentOf (options_told options.now) d doc) }
+    ensures err { IfErr result (IsRefusedFirst (options_told options.now) (map view values.now) last.now) }
+{
+    let Some(value) = values.first() else {
+        return Ok(());
+    };
+    match problem_of(alloc, options, value)? {
+        None => Ok(()),
+        Some(problem) => Err(line_refused(alloc, options, last, 1, problem)?),
+    }
+}
+
+/// What is wrong with the line that was read last, which is not JSON.
+fn line_unread(alloc: Global, last: &LastLine, error: &Error) -> Result<Trouble, AllocError>
+    ensures { IfOk result (IfPlaced (IsBelow last.now.before (IsPlaceIn last.now.text.items))) }
+{
+    let message = not_json(alloc, &last.text, error)?;
+    Ok(Trouble::Refused(lowered(message, last.before)))
+}
+
+/// What is wrong with the value of the line that was read last, which has this number and is no
+/// document.
+fn value_refused(
+    alloc: Global,
+    options: &Options<'_>,
+    last: &LastLine,
+    value: &Value,
+    number: usize,
     problem: Problem,
 ) -> Result<Trouble, AllocError>
-    ensures { IfOk result (IfPlaced
-        (IsPlaceOfProblem form.Lines text.now (options_told options.now) number problem)) }
+    ensures { IfOk result (IfPlaced (IsBelow last.now.before
+        (IsPlaceOf None (problem_path (options_told options.now) problem) last.now.text.items))) }
 {
-    let source = Source {
-        text,
-        form: Form::Lines,
-    };
     let text = problem_text(alloc, options, number, Some(value), problem)?;
-    let place = problem_place(alloc, source, options, number, problem)?;
-    Ok(Trouble::Refused(Message { place, text }))
+    let key = Step::Key(problem_key(options, problem));
+    let place = place_of(alloc, &last.text, None, path_of(&[key], problem))?;
+    Ok(Trouble::Refused(lowered(Message { place, text }, last.before)))
 }
 
-/// Notes what is unwise in lines that are documents.
-pub(crate) fn note_lines(
+/// What is wrong with the line that was read last, which has this number and is no document.
+pub(crate) fn line_refused(
     alloc: Global,
-    text: &[u8],
     options: &Options<'_>,
-    notes: &mut Notes,
-) -> Result<(), AllocError> {
-    let tokens = Tokens::of_language(alloc, options.language)?;
-    let mut rest = text;
-    while let Some((line, after)) = next_filled(rest) {
-        let Ok(value) = Value::from_slice(alloc, line) else {
-            return Err(AllocError);
-        };
-        note_object(alloc, options, &tokens, &value, notes)?;
-        rest = after;
+    last: &LastLine,
+    number: usize,
+    problem: Problem,
+) -> Result<Trouble, AllocError>
+    ensures { IfOk result (IfPlaced (IsBelow last.now.before
+        (IsPlaceInLine (options_told options.now) last.now.text.items problem))) }
+{
+    match Value::from_slice(alloc, &last.text) {
+        Ok(value) => value_refused(alloc, options, last, &value, number, problem),
+        Err(e) if e.is_memory() => Ok(Trouble::Memory),
+        Err(e) => line_unread(alloc, last, &e),
     }
-    notes.end(&options.fields)
 }

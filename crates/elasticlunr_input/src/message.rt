@@ -2,13 +2,15 @@
 ghost use Rattle.std.specs.Prelude.{◌≡◌, None, IfOk, IfSome};
 ghost use Rattle.elasticlunr_place.specs.Members.{path_told, IsPlaceOf};
 ghost use Rattle.elasticlunr_place.specs.Places.{IsOffsetOf, IsPlaceIn};
+ghost use Rattle.elasticlunr_input.specs.Inputs.{IsLowered};
 
 use elasticlunr_job::kind::{Kind, kind_of};
 use elasticlunr_job::lines::is_blank;
 use elasticlunr_place::member::{Step, place_of};
-use elasticlunr_place::place::{Place, line_start, place_at};
+use elasticlunr_place::place::{Place, below, line_start, place_at};
 use serde_json::{Error, Value};
 use std::alloc::{AllocError, AllocFailed, Global};
+use std::io;
 
 /// A line for the user, and the place that it speaks of.
 #[derive(Debug, Drop)]
@@ -24,6 +26,8 @@ pub struct Message {
 pub enum Trouble {
     /// The input is refused.
     Refused(Message),
+    /// The input could not be read.
+    Device(io::Error),
     /// Memory is wanting.
     Memory,
 }
@@ -47,6 +51,17 @@ impl<T: Drop> From<AllocFailed<T>> for Trouble {
 
     fn from(_refused: AllocFailed<T>) -> Trouble {
         Trouble::Memory
+    }
+}
+
+impl From<io::Error> for Trouble {
+    ghost use Rattle.elasticlunr_input.specs.declared.message.Trouble.TheVariants.{Device};
+    ghost use Rattle.std.specs.Prelude.{◌≡◌};
+
+    ghost from_gives = { λ failed e. e ≡ Device failed };
+
+    fn from(failed: io::Error) -> Trouble {
+        Trouble::Device(failed)
     }
 }
 
@@ -127,22 +142,17 @@ pub fn not_json(alloc: Global, text: &[u8], error: &Error) -> Result<Message, Al
     })
 }
 
-/// A message that a line of a text, before which there are so many, is not JSON.
-pub(crate) fn unread_line(
-    alloc: Global,
-    text: &[u8],
-    line: &[u8],
-    before: usize,
-    error: &Error,
-) -> Result<Message, AllocError>
-    ensures { IfOk result (λ message. IfSome message.place (IsPlaceIn text.now)) }
+/// The same message, about the place so many lines below.
+pub(crate) fn lowered(message: Message, lines: usize) -> Message
+    ensures { IsLowered message.place lines result.place }
 {
-    let message = not_json(alloc, line, error)?;
-    let offset = offset_of(text, before.saturating_add(1), error.column());
-    Ok(Message {
-        place: Some(place_at(text, offset)),
+    Message {
+        place: match message.place {
+            Some(place) => below(lines, place),
+            None => None,
+        },
         text: message.text,
-    })
+    }
 }
 
 /// What keeps a text from being JSON.

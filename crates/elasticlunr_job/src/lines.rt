@@ -29,7 +29,7 @@ use elasticlunr::laws::calls::an_index_makes_what_its_language_makes;
 use elasticlunr::{Index, IndexBuilder, IndexError};
 pub use elasticlunr_parse::lines::{is_blank, next_filled};
 use elasticlunr_parse::read::read_json;
-use elasticlunr_parse::reader::read_line;
+pub use elasticlunr_parse::reader::read_line;
 use serde_json::Value;
 use std::alloc::{AllocError, Global};
 use std::io::{self, BufRead, ErrorKind};

@@ -27,7 +27,7 @@ split_append p (x ∷ xs) y ys cut = split_cons p x xs y ys (p x) refl (split_ap
 lines_append : (front more : Bytes) → lines_of (front ++ 10 ∷ more) ≡ lines_of front ++ lines_of more
 lines_append front more = split_append (λ b. eqb b 10) front 10 more refl
 
-filled_front : (front more : Bytes) → filled_lines (front ++ 10 ∷ more) ≡ filter is_filled (lines_of front) ++ filled_lines more
+pub filled_front : (front more : Bytes) → filled_lines (front ++ 10 ∷ more) ≡ filter is_filled (lines_of front) ++ filled_lines more
 filled_front front more = ap (filter is_filled) (lines_append front more) ∙ filter-append is_filled (lines_of front) (lines_of more)
 
 -- its lines are those of both

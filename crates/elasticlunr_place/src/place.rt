@@ -1,6 +1,7 @@
 //! The line and the column of a byte of a text.
-ghost use Rattle.std.specs.Prelude.{◌≡◌};
+ghost use Rattle.std.specs.Prelude.{◌≡◌, IfSome};
 ghost use Rattle.elasticlunr_place.specs.Places.{is_first, place_at, IsLineStart};
+ghost use Rattle.elasticlunr_place.specs.Whole.{below};
 
 /// A line and a column, both from 1. A column is a character.
 #[derive(Clone, Copy, Debug, PartialEq, Eq)]
@@ -27,6 +28,17 @@ pub fn place_at(text: &[u8], offset: usize) -> Place
         }
     }
     Place { line, column }
+}
+
+/// The place so many lines below another one, where its line has a number.
+pub fn below(lines: usize, place: Place) -> Option<Place>
+    ensures { IfSome result (λ found. found ≡ below lines place) }
+{
+    let line = lines.checked_add(place.line)?;
+    Some(Place {
+        line,
+        column: place.column,
+    })
 }
 
 /// The offset at which a line begins, from 1; the end of the text where it has fewer lines.

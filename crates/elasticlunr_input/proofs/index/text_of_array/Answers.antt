@@ -1,13 +1,28 @@
 use Rattle.std.proofs.Common.{map, ap, sym, ◌∙◌, Some, inr}
 use Rattle.serde_json.specs.View.{view, items_of}
 use Rattle.elasticlunr_input.specs.Asked.{options_of}
-use Rattle.elasticlunr_input.specs.Refused.{FailObjects, FailsArray}
+use Rattle.elasticlunr_input.specs.FaultPlaces.{IsPlaceInObjects}
+use Rattle.elasticlunr_input.specs.Forms.{FailsInput}
+use Rattle.elasticlunr_input.specs.Refused.{FailObjects}
+use Rattle.elasticlunr_input.specs.RefusedPlaces.{IsInputPlace}
 use Rattle.elasticlunr_input.specs.Settled.{settings_told}
+use Rattle.elasticlunr_input.specs.declared.form.Form.TheVariants as form
+use Rattle.elasticlunr_input.proofs.LinePlaces.{placed_as}
 use Rattle.elasticlunr_input.proofs.Refusals.{refused_for}
 use Rattle.elasticlunr_input.proofs.index.text_of_array.Goals as goal
 
 pub returns-clause-err : goal.returns-clause-err
 returns-clause-err c =
     let items = map view c.deref.result.now in
-    refused_for (FailObjects (options_of (settings_told c.args.settings.now) items) items) (FailsArray (settings_told c.args.settings.now) (view c.args.value.now)) c.text_of_objects.result
-    (λ fails. inr (items, sym c.in-Some.ensures ∙ ap (λ vs. Some (items_of (map view vs))) (sym c.deref.ensures.value), fails)) c.text_of_objects.ensures.err
+    let settings = settings_told c.args.settings.now in
+    let are = sym c.in-Some.ensures ∙ ap (λ vs. Some (items_of (map view vs))) (sym c.deref.ensures.value) in
+    refused_for (FailObjects (options_of settings items) items) (FailsInput form.Objects settings c.args.text.now) c.text_of_objects.result
+    (λ fails. inr (view c.in_ok-value.value, c.in_ok-value.ensures.ok, inr (items, are, fails))) c.text_of_objects.ensures.err
+
+pub returns-clause-place : goal.returns-clause-place
+returns-clause-place c =
+    let items = map view c.deref.result.now in
+    let settings = settings_told c.args.settings.now in
+    let are = sym c.in-Some.ensures ∙ ap (λ vs. Some (items_of (map view vs))) (sym c.deref.ensures.value) in
+    placed_as (IsPlaceInObjects c.args.text.now (options_of settings items) items) (IsInputPlace form.Objects settings c.args.text.now) c.text_of_objects.result
+    (λ place is. inr (view c.in_ok-value.value, c.in_ok-value.ensures.ok, inr (items, are, is))) c.text_of_objects.ensures.place

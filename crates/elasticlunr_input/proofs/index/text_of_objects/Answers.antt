@@ -24,7 +24,7 @@ returns-clause-ok c = subst (λ (o : spec.Options). IsLineOfObjects o (map view 
 pub returns-in_err-line-clause-place : goal.returns-in_err-line-clause-place
 returns-in_err-line-clause-place c =
     let items = map view c.args.items.now in
-    let place_in = λ (o : spec.Options). IsPlaceInObjects c.args.source.form c.args.source.text.now o items in
+    let place_in = λ (o : spec.Options). IsPlaceInObjects c.args.text.now o items in
     placed_again (place_in (options_told c.in_ok-options.options)) (place_in (options_of (settings_told c.args.settings.now) items)) c.in_err-line.field-0.0 c.from_residual-in_err-line.result
     (λ place is. subst (λ (o : spec.Options). place_in o place) c.in_ok-options.ensures is)
     c.from_residual-in_err-line.ensures.1 c.in_err-line.ensures.place

@@ -1,0 +1,31 @@
+-- An input that is refused, as far as it was read.
+use Rattle.std.specs.Prelude.{◌≡◌, ◌⊎◌, ◌++◌, ⊤, IfSome}
+use Rattle.elasticlunr_text.specs.Text.{Bytes}
+use Rattle.elasticlunr_parse.specs.LineRead.{AreWhole, EndsLine}
+use Rattle.elasticlunr_input.specs.Forms.{FailsInput}
+use Rattle.elasticlunr_input.specs.Refused.{FailLines}
+use Rattle.elasticlunr_input.specs.RefusedPlaces.{IsInputPlace, IsLinesPlace}
+use Rattle.elasticlunr_input.specs.Settled.{Settings}
+use Rattle.elasticlunr_input.specs.declared.form.Form.{Form}
+use Rattle.elasticlunr_input.specs.declared.form.Form.TheVariants.{Lines}
+use Rattle.elasticlunr_input.specs.declared.message.Trouble.{Trouble}
+use Rattle.elasticlunr_input.specs.declared.message.Trouble.TheVariants.{Refused}
+
+-- the text begins with these lines
+abbrev pub BeginsWith : (text read : Bytes) → Type 0
+BeginsWith text read = (rest : Bytes) × (AreWhole read ⊎ EndsLine rest) × (text ≡ read ++ rest)
+
+-- what has to be read of an input of this form to refuse it: of lines some, of the others all
+abbrev pub IsReadOf : Form → (text read : Bytes) → Type 0
+IsReadOf Lines text read = BeginsWith text read
+IsReadOf _ text read = read ≡ text
+
+-- what was read of an input of this form is refused, and the place is that of what it is refused for; or memory is wanting, or the reader failed
+abbrev pub IsRefusedFrom : Form → Settings → Bytes → Trouble → Type 0
+IsRefusedFrom form settings text (Refused message) = (read : Bytes) × IsReadOf form text read × FailsInput form settings read × IfSome message.place (IsInputPlace form settings read)
+IsRefusedFrom form settings text _ = ⊤
+
+-- the same of lines
+abbrev pub AreRefusedFrom : Settings → Bytes → Trouble → Type 0
+AreRefusedFrom settings text (Refused message) = (read : Bytes) × BeginsWith text read × FailLines settings read × IfSome message.place (IsLinesPlace settings read)
+AreRefusedFrom settings text _ = ⊤

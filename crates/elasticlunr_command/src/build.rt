@@ -1,21 +1,27 @@
 //! `build` and `check`.
 
-use crate::files::{input_name, read_input, write_output};
+use crate::files::{Input, input_name, open_input, write_output};
 use crate::given::settings_given;
 use crate::tell::{failed, troubled, warn};
 use clap::ArgMatches;
 use elasticlunr_input::ended::Ended;
 use elasticlunr_input::form::form_of;
-use elasticlunr_input::index::index_text;
+use elasticlunr_input::index::index_from;
 use elasticlunr_input::language::{language_name, unknown_language};
 use elasticlunr_input::notes::Notes;
 use elasticlunr_input::script::script_of;
 use elasticlunr_input::settings::Settings;
-use std::io::{self, IsTerminal};
+use std::io::{self, BufReader, IsTerminal, Read};
 use std::time::Instant;
 
 /// The bytes of an input whose index takes more than a moment.
 const MUCH: usize = 1_000_000;
+
+/// The bytes after which it is said again how far an input was read.
+const STEP: usize = 16_000_000;
+
+/// The bytes of an input that are read at once.
+const BUFFER: usize = 65_536;
 
 /// What is done with the text of an index.
 #[derive(Clone, Copy, Debug, PartialEq, Eq)]
@@ -49,6 +55,30 @@ impl Task<'_, '_> {
     }
 }
 
+/// An input that says how far it was read.
+#[derive(Drop)]
+struct Watched<'r, 'a> {
+    input: Input,
+    rt: &'r HostRuntime,
+    task: &'r Task<'r, 'a>,
+    /// How many bytes were read.
+    bytes: usize,
+    /// After how many it is said again; after none where its end was.
+    next: usize,
+}
+
+impl Read for Watched<'_, '_> {
+    fn read(&mut self, buf: &mut [u8]) -> io::Result<usize> {
+        let count = self.input.read(buf)?;
+        self.bytes = self.bytes.saturating_add(count);
+        if self.next > 0 && (count == 0 || self.bytes >= self.next) {
+            self.next = if count == 0 { 0 } else { self.bytes.saturating_add(STEP) };
+            self.task.progress(self.rt, "read", self.bytes)?;
+        }
+        Ok(count)
+    }
+}
+
 /// Builds an index in the language that is asked for.
 pub(crate) fn build(rt: &HostRuntime, given: &ArgMatches<'_>, wanted: Use) -> io::Result<Ended> {
     let task = Task {
@@ -69,7 +99,7 @@ pub(crate) fn build(rt: &HostRuntime, given: &ArgMatches<'_>, wanted: Use) -> io
     }
 }
 
-/// Reads the input, and builds its index.
+/// Opens the input, and builds its index.
 fn build_from(
     rt: &HostRuntime,
     task: &Task<'_, '_>,
@@ -77,11 +107,8 @@ fn build_from(
 ) -> io::Result<Ended> {
     let settings = settings_given(rt.alloc(), task.given, language)?;
     let file = task.given.get_str("file");
-    match read_input(rt, file) {
-        Ok(bytes) => {
-            task.progress(rt, "read", bytes.len())?;
-            build_of(rt, task, &settings, &bytes)
-        }
+    match open_input(rt, file) {
+        Ok(input) => build_of(rt, task, &settings, input),
         Err(e) => failed(rt, input_name(file), &e),
     }
 }
@@ -91,21 +118,42 @@ fn build_of(
     rt: &HostRuntime,
     task: &Task<'_, '_>,
     settings: &Settings,
-    bytes: &[u8],
+    input: Input,
 ) -> io::Result<Ended> {
     let name = input_name(task.given.get_str("file"));
     let form = task.given.get_str("format").and_then(form_of);
     let mut notes = Notes::new(rt.alloc());
-    let built = index_text(rt.alloc(), bytes, form, settings, &mut notes);
-    if let Ok(line) = &built {
-        task.progress(rt, "made an index of", line.len())?;
-    }
-    warn(rt, name, &notes.warnings)?;
-    match built {
-        Ok(_) if task.given.get_flag("strict") && !notes.warnings.is_empty() => Ok(Ended::Refused),
-        Ok(line) if task.wanted == Use::Write => write_index(rt, task, line.as_str(), &notes),
-        Ok(_) => Ok(Ended::Done),
+    let watched = Watched {
+        input,
+        rt,
+        task,
+        bytes: 0,
+        next: STEP,
+    };
+    let mut reader = BufReader::with_capacity(rt.alloc(), BUFFER, watched)?;
+    match index_from(rt.alloc(), &mut reader, form, settings, &mut notes) {
+        Ok(line) => {
+            task.progress(rt, "made an index of", line.len())?;
+            warn(rt, name, &notes.warnings)?;
+            use_index(rt, task, line.as_str(), &notes)
+        }
         Err(trouble) => troubled(rt, name, trouble),
+    }
+}
+
+/// Does with the text of an index what is wanted.
+fn use_index(
+    rt: &HostRuntime,
+    task: &Task<'_, '_>,
+    line: &str,
+    notes: &Notes,
+) -> io::Result<Ended> {
+    if task.given.get_flag("strict") && !notes.warnings.is_empty() {
+        return Ok(Ended::Refused);
+    }
+    match task.wanted {
+        Use::Write => write_index(rt, task, line, notes),
+        Use::Check => Ok(Ended::Done),
     }
 }
 

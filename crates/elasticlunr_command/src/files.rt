@@ -1,8 +1,32 @@
 //! Files, standard input and standard output.
 
-use std::fs::OpenOptions;
-use std::io::{ErrorKind, Read, Write};
+use std::fs::{File, OpenOptions};
+use std::io::{ErrorKind, Read, Stdin, Write};
 use std::{fs, io, process};
+
+/// What is read: standard input, or a file.
+#[derive(Drop)]
+pub(crate) enum Input {
+    Standard(Stdin),
+    File(File),
+}
+
+impl Read for Input {
+    fn read(&mut self, buf: &mut [u8]) -> io::Result<usize> {
+        match self {
+            Input::Standard(stdin) => stdin.read(buf),
+            Input::File(file) => file.read(buf),
+        }
+    }
+}
+
+/// Opens a file; standard input where no file is named, or `-`.
+pub(crate) fn open_input(rt: &HostRuntime, file: Option<&str>) -> io::Result<Input> {
+    match file {
+        None | Some("-") => Ok(Input::Standard(rt.stdin())),
+        Some(path) => Ok(Input::File(File::open(rt, path)?)),
+    }
+}
 
 /// The name of an input in a message.
 pub(crate) fn input_name(file: Option<&str>) -> &str {

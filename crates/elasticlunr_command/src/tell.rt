@@ -20,6 +20,7 @@ pub(crate) fn troubled(rt: &HostRuntime, file: &str, trouble: Trouble) -> io::Re
             tell(rt, file, &message)?;
             Ok(Ended::Refused)
         }
+        Trouble::Device(e) => failed(rt, file, &e),
         Trouble::Memory => {
             eprintln!(rt; "elasticlunr: out of memory")?;
             Ok(Ended::Failed)

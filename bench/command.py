@@ -30,8 +30,8 @@ TABLE = os.path.join(HERE, "command_rows.jsonl")
 SECONDS = re.compile(rb"\d+\.\d s\n")
 DOCUMENTS = 100_000
 MEGABYTES = 340  # that the lines of so many documents may take, most of them for their index
-OTHERS = 40  # numbers in a member of each line that no field takes
-MORE = 12  # megabytes that they may take beside their text, in all lines
+OTHERS = 200  # numbers in a member of each line that no field takes
+MORE = 4  # megabytes that they may take, in all lines
 LEAST = 20  # requests for memory that must have been refused
 
 JOB = {
@@ -245,7 +245,7 @@ def check_many(counts):
 
 
 def check_one_line(counts):
-    """Of the lines one value is held at a time: what no field takes costs no more than its text."""
+    """Of the lines one is held at a time, with its value: what no field takes costs nothing in all."""
     with tempfile.TemporaryDirectory() as folder:
         sizes, peaks, texts = [], [], []
         for others in ({}, {"others": [0] * OTHERS}):
@@ -258,7 +258,8 @@ def check_one_line(counts):
             peaks.append(ended.megabytes if ended.status == 0 else None)
             with open(answered, "rb") as file:
                 texts.append(file.read())
-        good = None not in peaks and peaks[1] - peaks[0] <= sizes[1] - sizes[0] + MORE and texts[0] == texts[1]
+        is_more = sizes[1] - sizes[0] > 10 * MORE
+        good = None not in peaks and is_more and peaks[1] - peaks[0] <= MORE and texts[0] == texts[1]
         counts.note("the memory of one line", good, f"{sizes} megabytes of text took {peaks}")
 
 

@@ -8,7 +8,7 @@ use Rattle.elasticlunr_parse.specs.Reading.{reading}
 use Rattle.elasticlunr_job.specs.Answer.{FailsAt}
 use Rattle.elasticlunr_parse.specs.Job.{Document}
 use Rattle.elasticlunr_parse.specs.Lines.{filled_lines, readings, AreLineValues, HasUnreadLine}
-use Rattle.elasticlunr_job.specs.Lines.{FailsLines, HasLineProblem, IsLineOfLines}
+use Rattle.elasticlunr_job.specs.Lines.{IsLineOfLines}
 use Rattle.elasticlunr_parse.specs.Objects as objects
 use Rattle.elasticlunr_parse.specs.Objects.{AreDocumentsOf, HasProblem, IsDocumentOf, IsFirstProblem}
 use Rattle.elasticlunr_job.specs.Objects.{IsLineOfObjects, job_of}
@@ -21,7 +21,7 @@ use Rattle.elasticlunr_parse.proofs.FieldTexts.{AllZip-push}
 use Rattle.elasticlunr_input.specs.Asked.{options_of, reference_key_of}
 use Rattle.elasticlunr_input.specs.Fields.{fields_of_first, text_keys}
 use Rattle.elasticlunr_input.specs.Lines.{IsLinesLineWith}
-use Rattle.elasticlunr_input.specs.Refused.{AreDocumentLines, FailLines, FailLinesOf, FailObjects, HaveValues}
+use Rattle.elasticlunr_input.specs.Refused.{FailLines, FailLinesOf, FailObjects}
 use Rattle.elasticlunr_input.specs.Settled.{Settings}
 
 -- the values of a text begin with those that were read, and the next

@@ -8,7 +8,6 @@ use Rattle.elasticlunr_parse.specs.Objects.{Options, HasProblem, IsFirstProblem}
 use Rattle.elasticlunr_parse.specs.declared.objects.Problem.{Problem}
 use Rattle.elasticlunr_input.specs.Asked.{options_of}
 use Rattle.elasticlunr_input.specs.FaultPlaces.{IsPlaceInObjectLines}
-use Rattle.elasticlunr_input.specs.Refused.{HaveValues}
 use Rattle.elasticlunr_input.specs.RefusedPlaces.{IfPlaced, IsLinesPlace, IsPlaceInLines}
 use Rattle.elasticlunr_input.specs.Settled.{Settings}
 use Rattle.elasticlunr_input.specs.declared.message.Trouble.{Trouble}

@@ -34,14 +34,6 @@ FailsJob settings d = (refusal : Refusal) × IsRefusedWith settings d refusal
 abbrev pub FailsArray : Settings → Data → Type 0
 FailsArray settings d = (as_array d ≡ None) ⊎ ((items : List Data) × (as_array d ≡ Some (items_of items)) × FailObjects (options_of settings items) items)
 
--- each line has a value
-abbrev pub HaveValues : Bytes → Type 0
-HaveValues text = (items : List Data) × AreLineValues text items
-
--- each line is a document, as it is read with these options
-abbrev pub AreDocumentLines : Options → Bytes → Type 0
-AreDocumentLines options text = (items : List Data) × (docs : List Document) × AreLineValues text items × AreDocumentsOf options items docs
-
 -- a line is not JSON, or the values of the lines fail a check of objects that are read so
 abbrev pub FailLinesOf : Options → Bytes → Type 0
 FailLinesOf options text = HasUnreadLine text ⊎ ((items : List Data) × AreLineValues text items × FailObjects options items)
@@ -52,12 +44,3 @@ FailLines settings text = HasUnreadLine text ⊎ ((items : List Data) × AreLine
 
 abbrev pub IsRefusedObjects : Options → List Data → Trouble → Type 0
 IsRefusedObjects options items = IsMemoryOr (FailObjects options items)
-
-abbrev pub IsRefusedJob : Settings → Data → Trouble → Type 0
-IsRefusedJob settings d = IsMemoryOr (FailsJob settings d)
-
-abbrev pub IsRefusedArray : Settings → Data → Trouble → Type 0
-IsRefusedArray settings d = IsMemoryOr (FailsArray settings d)
-
-abbrev pub AreRefusedLines : Settings → Bytes → Trouble → Type 0
-AreRefusedLines settings text = IsMemoryOr (FailLines settings text)

@@ -109,8 +109,7 @@ pub all_filled : (options : Options) (language : AnyLanguage) (left : Option Byt
 all_filled options language left text number made old new before after line_text all added same built prints =
     let job = job_of options added.documents in
     let entered = added.taken.documents in
-    let order : in_order job entered ≡ map add entered = append-nil (map add entered ++ []) ∙ append-nil (map add entered) in
-    (
+    let order : in_order job entered ≡ map add entered = append-nil (map add entered ++ []) ∙ append-nil (map add entered) in (
       text,
       all,
       record {

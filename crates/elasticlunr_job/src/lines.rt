@@ -27,7 +27,7 @@ use crate::outcome::{Refusal, Stop};
 use elasticlunr::lang::{AnyLanguage, from_name};
 use elasticlunr::laws::calls::an_index_makes_what_its_language_makes;
 use elasticlunr::{Index, IndexBuilder, IndexError};
-pub use elasticlunr_parse::lines::{is_blank, next_filled};
+pub use elasticlunr_parse::lines::is_blank;
 use elasticlunr_parse::read::read_json;
 pub use elasticlunr_parse::reader::read_line;
 use serde_json::Value;

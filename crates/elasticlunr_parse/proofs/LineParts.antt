@@ -1,10 +1,10 @@
 -- Lines that are read in parts.
-use Rattle.std.proofs.Common.{◌≡◌, ◌≢◌, ◌<◌, ◌+◌, ◌-◌, ℕ, List, [], ◌∷◌, ◌++◌, length, take, drop, get_or, All, Option, None, Some, refl, sym, ap, subst, ◌∙◌, append_assoc, append-nil, length-drop, arith}
+use Rattle.std.proofs.Common.{◌≡◌, ◌≢◌, ◌<◌, ◌+◌, ◌-◌, ℕ, [], ◌∷◌, ◌++◌, length, take, drop, get_or, Option, None, Some, refl, sym, ap, subst, ◌∙◌, append_assoc, append-nil, length-drop, arith}
 use Rattle.std.proofs.Math.Seq.{take-append-add}
 use Rattle.std.specs.Io.{StartsWith, StopsAt, appended_bytes}
 use Rattle.std.specs.Io.KnownBytes.{Consumes, IsAtEnd}
 use Rattle.std.proofs.lemmas.List.{get_or_read, take-append-drop, take_more, take_all}
-use Rattle.std.proofs.lemmas.List.Elements.{All-append, All-push, All-nil}
+use Rattle.std.proofs.lemmas.List.Elements.{All-append, All-push}
 use Rattle.elasticlunr_error.specs.Text.{Bytes}
 use Rattle.elasticlunr_parse.specs.LineRead.{AreAll, HasNoFeed, fed}
 
@@ -43,10 +43,6 @@ last_apart bytes b some is =
 -- what a look at the last byte gave
 pub last_read : (bytes : Bytes) (n b : ℕ) → n ≡ length bytes → 0 < length bytes → b ≡ get_or bytes (n - 1) b → b ≡ get_or bytes (length bytes - 1) 0
 last_read bytes n b all some is = get_or_read bytes (length bytes - 1) b (omega arith) (is ∙ ap (λ k. get_or bytes (k - 1) b) all) 0
-
--- nothing was read
-pub same_none : (old new : Bytes) → StartsWith new old → length new ≡ length old → new ≡ old
-same_none old new starts same = sym (take_all (length old) new (omega arith)) ∙ starts
 
 module _ (old new : Bytes) (none : HasNoFeed old) (starts : StartsWith new old) (stops : StopsAt (appended_bytes old new) 10) (more : length old < length new) where
   pub before_last : HasNoFeed (take (length new - 1) new)

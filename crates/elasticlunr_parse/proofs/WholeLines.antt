@@ -1,5 +1,5 @@
 -- On a text that goes on behind whole lines.
-use Rattle.std.proofs.Common.{◌≡◌, ◌<◌, ℕ, List, [], ◌∷◌, ◌++◌, length, Bool, true, false, eqb, inl, inr, refl, sym, ap, ◌∙◌, append_assoc, arith}
+use Rattle.std.proofs.Common.{◌≡◌, ◌<◌, List, [], ◌∷◌, ◌++◌, length, Bool, true, false, eqb, inl, inr, refl, sym, ap, ◌∙◌, append_assoc, arith}
 use Rattle.std.specs.List.{filter, slice_split, onto_first}
 use Rattle.std.proofs.lemmas.List.{append-nil}
 use Rattle.std.proofs.lemmas.List.Elements.{filter-append}
@@ -35,6 +35,6 @@ pub filled_append : (text more : Bytes) → AreWhole text → filled_lines (text
 filled_append text more whole = elim whole [
   | inl none ↦ ap (λ t. filled_lines (t ++ more)) none ∙ ap (λ t. filled_lines t ++ filled_lines more) (sym none)
   | inr f ↦
-    let here : filled_lines text ≡ filter is_filled (lines_of f.0) = ap filled_lines f.1 ∙ (filled_front f.0 [] ∙ append-nil (filter is_filled (lines_of f.0))) in
-    ap (λ t. filled_lines (t ++ more)) f.1 ∙ (ap filled_lines (append_assoc f.0 (10 ∷ []) more) ∙ (filled_front f.0 more ∙ ap (λ ls. ls ++ filled_lines more) (sym here)))
+      let here : filled_lines text ≡ filter is_filled (lines_of f.0) = ap filled_lines f.1 ∙ (filled_front f.0 [] ∙ append-nil (filter is_filled (lines_of f.0))) in
+      ap (λ t. filled_lines (t ++ more)) f.1 ∙ (ap filled_lines (append_assoc f.0 (10 ∷ []) more) ∙ (filled_front f.0 more ∙ ap (λ ls. ls ++ filled_lines more) (sym here)))
 ]

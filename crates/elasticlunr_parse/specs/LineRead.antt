@@ -1,5 +1,5 @@
 -- A line as it is read.
-use Rattle.std.specs.Prelude.{◌≡◌, ◌≢◌, ◌==◌, ◌⊎◌, ◌++◌, ◌∷◌, ℕ, List, [], All, Option, IfSome, count_by, true}
+use Rattle.std.specs.Prelude.{◌≡◌, ◌≢◌, ◌==◌, ◌⊎◌, ◌++◌, ◌∷◌, ℕ, [], All, Option, IfSome, count_by, true}
 use Rattle.elasticlunr_error.specs.Text.{Bytes}
 use Rattle.elasticlunr_parse.specs.Lines.{is_filled}
 

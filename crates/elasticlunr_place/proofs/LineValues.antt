@@ -1,6 +1,6 @@
 -- On a value that stands in a line between other lines.
-use Rattle.std.proofs.Common.{◌≡◌, ◌≢◌, ◌==◌, ◌<◌, ◌≤◌, ◌+◌, ◌-◌, ◌&&◌, ◌⊎◌, ltb, ℕ, zero, suc, List, [], ◌∷◌, ◌++◌, length, take, drop, All, Bool, true, false, cond, codes, Option, Some, None, option_and_then, count_by, inl, inr, zero-add, length-drop, if◌then◌else◌, slice_get, slice_range, refl, sym, ap, subst, ◌∙◌, append_assoc, append-nil, length-append, length-take, arith}
-use Rattle.std.specs.List.{after_last, filter, list_all}
+use Rattle.std.proofs.Common.{◌≡◌, ◌≢◌, ◌==◌, ◌<◌, ◌≤◌, ◌+◌, ◌-◌, ◌&&◌, ◌⊎◌, ltb, ℕ, zero, suc, List, [], ◌∷◌, ◌++◌, length, take, drop, All, Bool, true, false, codes, Some, None, option_and_then, count_by, inl, inr, zero-add, length-drop, if◌then◌else◌, slice_get, slice_range, refl, sym, ap, ◌∙◌, append_assoc, append-nil, arith}
+use Rattle.std.specs.List.{after_last, filter}
 use Rattle.std.proofs.lemmas.Option.{slice_get_within}
 use Rattle.serde_json.specs.Data.{Data, null, boolean}
 use borrow.Author.Tests.{ltb-true, ltb-false, ne_eqb}

@@ -1,4 +1,4 @@
-use Rattle.std.proofs.Common.{◌≡◌, ◌<◌, ◌-◌, length, take, sym, ap, subst, ◌∙◌, refl, arith}
+use Rattle.std.proofs.Common.{◌≡◌, ◌<◌, ◌-◌, length, take, sym, ap, subst, ◌∙◌, arith}
 use Rattle.std.specs.Io.KnownBytes.{Consumes}
 use Rattle.elasticlunr_parse.specs.LineRead.{HasNoFeed, fed}
 use Rattle.elasticlunr_parse.proofs.LineParts.{before_last, consumes_more, fed_is, joined, last_read, still_none}

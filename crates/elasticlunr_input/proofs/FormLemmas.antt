@@ -1,13 +1,10 @@
 -- On the form of an input.
-use Rattle.std.proofs.Common.{◌≡◌, ◌≢◌, false, Option, None, Some, option_map, unwrap_or, if◌then◌else◌, refl, ap, ◌∙◌}
+use Rattle.std.proofs.Common.{◌≡◌, false, Option, option_map, unwrap_or, if◌then◌else◌, ap, ◌∙◌}
 use Rattle.serde_json.specs.Data.{Data}
-use Rattle.serde_json.specs.View.{view}
-use Rattle.serde_json.specs.declared.value.Value.{Value}
 use Rattle.elasticlunr_text.specs.Text.{Bytes}
 use Rattle.elasticlunr_parse.specs.Reading.{reading}
 use Rattle.elasticlunr_input.specs.Forms.{begins_an_array, line_form, value_form}
-use Rattle.elasticlunr_input.specs.declared.form.Form.{Form}
-use Rattle.elasticlunr_input.specs.declared.form.Form.TheVariants.{Job, Objects, Lines}
+use Rattle.elasticlunr_input.specs.declared.form.Form.TheVariants.{Job, Objects}
 
 -- what a line tells that begins no array
 pub line_tells : (line : Bytes) (o : Option Data) → begins_an_array line ≡ false → reading line ≡ o → line_form line ≡ unwrap_or (option_map value_form o) Job

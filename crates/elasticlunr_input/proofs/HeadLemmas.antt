@@ -1,5 +1,5 @@
 -- On the head of an input, and on lines that are refused.
-use Rattle.std.proofs.Common.{◌≡◌, ◌==◌, ◌≤◌, ◌<◌, ◌+◌, ◌-◌, ◌⊎◌, ◌∷◌, ◌++◌, ℕ, List, [], length, take, map, Bool, true, false, cond, count_by, if◌then◌else◌, Option, None, Some, IfSome, option_map, unwrap_or, slice_get, Result, Ok, Err, IfErr, IsErrAnd, String, Global, inl, inr, refl, sym, ap, subst, ◌∙◌, append_assoc, append-nil, length-append, arith}
+use Rattle.std.proofs.Common.{◌≡◌, ◌==◌, ◌+◌, ◌-◌, ◌⊎◌, ◌∷◌, ◌++◌, ℕ, List, [], length, take, map, Bool, true, false, cond, count_by, if◌then◌else◌, Option, None, Some, IfSome, option_map, unwrap_or, slice_get, Result, Ok, Err, IfErr, IsErrAnd, inl, inr, refl, sym, ap, subst, ◌∙◌, append_assoc, append-nil, length-append, arith}
 use Rattle.std.specs.Io.KnownBytes.{Consumes}
 use Rattle.std.specs.List.{filter, find}
 use Rattle.std.proofs.lemmas.List.{length-map, map-append}
@@ -31,16 +31,16 @@ use Rattle.elasticlunr_place.specs.declared.place.Place.{Place}
 use Rattle.elasticlunr_place.proofs.LineValues.{place_behind}
 use Rattle.elasticlunr_place.proofs.WholeLines.{place_below}
 use Rattle.elasticlunr_input.specs.Asked.{options_of}
-use Rattle.elasticlunr_input.specs.FaultPlaces.{problem_path, IsPlaceInObjectLines}
+use Rattle.elasticlunr_input.specs.FaultPlaces.{problem_path}
 use Rattle.elasticlunr_input.specs.Forms.{asked_or_told, line_form, told_form}
 use Rattle.elasticlunr_input.specs.Lines.{IsLinesLineWith}
 use Rattle.elasticlunr_input.specs.Inputs.{HasHead, IsBelow, IsHeadOf, IsPlaceInLine, IsRefusedFirst}
-use Rattle.elasticlunr_input.specs.Refused.{FailLines, FailLinesOf, FailObjects, IsMemoryOr}
+use Rattle.elasticlunr_input.specs.Refused.{FailLinesOf, FailObjects, IsMemoryOr}
 use Rattle.elasticlunr_input.specs.RefusedPlaces.{IfPlaced, IsLinesPlace, IsPlaceInLines}
 use Rattle.elasticlunr_input.specs.RefusedRead.{AreRefusedFrom, BeginsWith}
 use Rattle.elasticlunr_input.specs.Settled.{Settings}
 use Rattle.elasticlunr_input.specs.declared.form.Form.{Form}
-use Rattle.elasticlunr_input.specs.declared.form.Form.TheVariants.{Job, Lines}
+use Rattle.elasticlunr_input.specs.declared.form.Form.TheVariants.{Job}
 use Rattle.elasticlunr_input.specs.declared.message.Message.{Message}
 use Rattle.elasticlunr_input.specs.declared.message.Trouble.{Trouble}
 use Rattle.elasticlunr_input.specs.declared.message.Trouble.TheVariants.{Refused, Memory, Device}
@@ -91,11 +91,11 @@ module _ (head rest line : Bytes) (feeds : ℕ) (is : IsHeadOf head rest line fe
   told_head (Some form) = refl
   told_head None = elim is.ends [
     | inl f ↦
-      let here : filled_lines head ≡ line ∷ [] = head_lines ∙ filled_first line [] (not_blank (is_blank line) f.1) in
-      let all = lines_front head rest head_ends in
-      let there : filled_lines (head ++ rest) ≡ line ∷ all.0 = all.1 ∙ ap (λ ls. ls ++ all.0) here in
-      let form_of : Option Bytes → Form = λ o. unwrap_or (option_map line_form o) Job in
-      ap form_of (find_first is_filled (lines_of (head ++ rest)) line all.0 there ∙ sym (find_first is_filled (lines_of head) line [] here))
+        let here : filled_lines head ≡ line ∷ [] = head_lines ∙ filled_first line [] (not_blank (is_blank line) f.1) in
+        let all = lines_front head rest head_ends in
+        let there : filled_lines (head ++ rest) ≡ line ∷ all.0 = all.1 ∙ ap (λ ls. ls ++ all.0) here in
+        let form_of : Option Bytes → Form = λ o. unwrap_or (option_map line_form o) Job in
+        ap form_of (find_first is_filled (lines_of (head ++ rest)) line all.0 there ∙ sym (find_first is_filled (lines_of head) line [] here))
     | inr f ↦ ap (λ r. told_form (head ++ r)) f.1 ∙ ap told_form (append-nil head)
   ]
 
@@ -104,10 +104,10 @@ module _ (head rest line : Bytes) (feeds : ℕ) (is : IsHeadOf head rest line fe
   unfolding head_lines head_ends
   first_begins items are = elim is.ends [
     | inl f ↦
-      let one : filter is_filled (line ∷ []) ≡ line ∷ [] = filled_first line [] (not_blank (is_blank line) f.1) in
-      let all = lines_front head rest head_ends in
-      let there : filled_lines (head ++ rest) ≡ line ∷ all.0 = all.1 ∙ ap (λ ls. ls ++ all.0) (head_lines ∙ one) in
-      are ∙ (ap (map reading) one ∙ sym (ap (λ ls. take 1 (map reading ls)) there))
+        let one : filter is_filled (line ∷ []) ≡ line ∷ [] = filled_first line [] (not_blank (is_blank line) f.1) in
+        let all = lines_front head rest head_ends in
+        let there : filled_lines (head ++ rest) ≡ line ∷ all.0 = all.1 ∙ ap (λ ls. ls ++ all.0) (head_lines ∙ one) in
+        are ∙ (ap (map reading) one ∙ sym (ap (λ ls. take 1 (map reading ls)) there))
     | inr f ↦ are ∙ (few (is_filled line) ∙ sym (ap (λ r. take 1 (readings (head ++ r))) f.1 ∙ (ap (λ t. take 1 (readings t)) (append-nil head) ∙ ap (λ ls. take 1 (map reading ls)) head_lines)))
   ] where
     few : (b : Bool) → map reading (cond b (line ∷ []) []) ≡ take 1 (map reading (cond b (line ∷ []) []))
@@ -150,9 +150,9 @@ module _ (text before line : Bytes) (feeds : ℕ) (after : IsLineAfter (Some tex
       let all = lines_front (before ++ line) line_begins.0 line_begins.1 in
       let there : readings text ≡ readings (before ++ line) ++ map reading all.0 = ap readings line_begins.2 ∙ (ap (map reading) all.1 ∙ map-append reading (filled_lines (before ++ line)) all.0) in
       ap (take 1) there ∙ (ap (λ os. take 1 (os ++ map reading all.0)) line_readings ∙ (some (readings before) ∙ sym (ap (take 1) line_readings))) where
-    some : (os : List (Option Data)) → take 1 ((os ++ reading line ∷ []) ++ map reading (lines_front (before ++ line) line_begins.0 line_begins.1).0) ≡ take 1 (os ++ reading line ∷ [])
-    some [] = refl
-    some (o ∷ os) = refl
+        some : (os : List (Option Data)) → take 1 ((os ++ reading line ∷ []) ++ map reading (lines_front (before ++ line) line_begins.0 line_begins.1).0) ≡ take 1 (os ++ reading line ∷ [])
+        some [] = refl
+        some (o ∷ os) = refl
 
   -- a place in the line is one so many lines below
   pub in_below : (place : Place) → IsBelow feeds (IsPlaceIn line) place → IsPlaceIn (before ++ line) place
@@ -199,18 +199,18 @@ module _ (text before line : Bytes) (feeds : ℕ) (after : IsLineAfter (Some tex
     place_in place is = elim is.2 [
       | inl f ↦ inl (unread no.items no.are_values f.0, in_below place (is.0, is.1, f.1))
       | inr f ↦
-        let has : HasProblem options f.0 problem = subst (λ o. HasLineProblem options o problem) f.1 no.has in
-        let its : number ≡ length (filled_lines before) + 1 = no.number_is ∙ ap (λ n. n + 1) (sym (length-map no.items Some) ∙ (ap length no.are_values ∙ length-map (filled_lines before) reading)) in
-        inr (
-          no.items ++ f.0 ∷ [],
-          values f.0 f.1,
-          (
-            number,
-            problem,
-            subst (λ n. IsFirstProblem options (no.items ++ f.0 ∷ []) n problem) (sym no.number_is) (first_among options no.items (no.items ++ f.0 ∷ []) no.documents f.0 [] problem (sym (map-append Some no.items (f.0 ∷ []))) no.are_documents has),
-            of_below (problem_path options problem) number place its (is.0, is.1, f.2),
-          ),
-        )
+          let has : HasProblem options f.0 problem = subst (λ o. HasLineProblem options o problem) f.1 no.has in
+          let its : number ≡ length (filled_lines before) + 1 = no.number_is ∙ ap (λ n. n + 1) (sym (length-map no.items Some) ∙ (ap length no.are_values ∙ length-map (filled_lines before) reading)) in
+          inr (
+            no.items ++ f.0 ∷ [],
+            values f.0 f.1,
+            (
+              number,
+              problem,
+              subst (λ n. IsFirstProblem options (no.items ++ f.0 ∷ []) n problem) (sym no.number_is) (first_among options no.items (no.items ++ f.0 ∷ []) no.documents f.0 [] problem (sym (map-append Some no.items (f.0 ∷ []))) no.are_documents has),
+              of_below (problem_path options problem) number place its (is.0, is.1, f.2),
+            ),
+          )
     ]
 
     pub refused_line : (trouble : Trouble) → IfPlaced (IsBelow feeds (IsPlaceInLine options line problem)) trouble → AreRefusedFrom settings text trouble
@@ -218,8 +218,7 @@ module _ (text before line : Bytes) (feeds : ℕ) (after : IsLineAfter (Some tex
     refused_line Memory placed = tt
     refused_line (Device failed) placed = tt
     refused_line (Refused message) placed =
-        let read = before ++ line in
-        (
+        let read = before ++ line in (
           read,
           line_begins,
           fail_with settings read options first (begins ∙ first_same) told (fails_of (reading line) refl no.has),
@@ -338,8 +337,7 @@ module _ (head : Bytes) (left : Option Bytes) (settings : Settings) (last : Last
       at (Some rest) = λ is_head.
           (let docs = one_document options last.text.items first are each in
           let values = first_of_head head rest last.text.items last.before is_head first are in
-          let of_first : FailObjects options first = (error.Refused refusal, (λ same. cc), (docs.0, docs.1, fails_also options docs.0 refusal fails)) in
-          (
+          let of_first : FailObjects options first = (error.Refused refusal, (λ same. cc), (docs.0, docs.1, fails_also options docs.0 refusal fails)) in (
             head,
             (rest, head_ends head rest last.text.items last.before is_head, refl),
             inr (first, values, subst (λ (o : objects.Options). FailObjects o first) told of_first),

@@ -1,23 +1,19 @@
 -- On lines that are read one by one.
-use Rattle.std.proofs.Common.{◌≡◌, ◌+◌, ℕ, List, [], ◌∷◌, ◌++◌, length, take, map, Option, Some, None, unwrap_or, inl, inr, refl, sym, ap, subst, ◌∙◌, append_assoc, append-nil, arith}
+use Rattle.std.proofs.Common.{◌≡◌, ◌+◌, List, [], ◌∷◌, ◌++◌, length, take, map, Option, Some, unwrap_or, inl, inr, refl, sym, ap, subst, ◌∙◌, arith}
 use Rattle.std.specs.List.{slice_get}
-use Rattle.std.proofs.lemmas.List.{length-append, map-append}
 use Rattle.serde_json.specs.Data.{Data}
 use Rattle.elasticlunr_text.specs.Text.{Bytes}
-use Rattle.elasticlunr_parse.specs.Reading.{reading}
 use Rattle.elasticlunr_job.specs.Answer.{FailsAt}
 use Rattle.elasticlunr_parse.specs.Job.{Document}
-use Rattle.elasticlunr_parse.specs.Lines.{filled_lines, readings, AreLineValues, HasUnreadLine}
+use Rattle.elasticlunr_parse.specs.Lines.{readings, AreLineValues}
 use Rattle.elasticlunr_job.specs.Lines.{IsLineOfLines}
 use Rattle.elasticlunr_parse.specs.Objects as objects
 use Rattle.elasticlunr_parse.specs.Objects.{AreDocumentsOf, HasProblem, IsDocumentOf, IsFirstProblem}
 use Rattle.elasticlunr_job.specs.Objects.{IsLineOfObjects, job_of}
-use Rattle.elasticlunr_job.specs.declared.objects.ObjectsError.{ObjectsError}
 use Rattle.elasticlunr_job.specs.declared.objects.ObjectsError.TheVariants as error
 use Rattle.elasticlunr_parse.specs.declared.objects.Problem.{Problem}
 use Rattle.elasticlunr_parse.specs.declared.outcome.Refusal.{Refusal}
 use Rattle.elasticlunr_parse.specs.declared.outcome.Refusal.TheVariants.{NotJson, NotAJob, UnknownLanguage, DuplicateField, TooManyValues}
-use Rattle.elasticlunr_parse.proofs.FieldTexts.{AllZip-push}
 use Rattle.elasticlunr_input.specs.Asked.{options_of, reference_key_of}
 use Rattle.elasticlunr_input.specs.Fields.{fields_of_first, text_keys}
 use Rattle.elasticlunr_input.specs.Lines.{IsLinesLineWith}

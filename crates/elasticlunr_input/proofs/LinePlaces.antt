@@ -1,11 +1,9 @@
 -- On the places of lines that are no documents.
-use Rattle.std.proofs.Common.{◌≡◌, ◌+◌, ℕ, List, ◌∷◌, ◌++◌, take, map, Option, Some, None, Result, Ok, Err, IfErr, IfOk, IfSome, IsErrAnd, inl, inr, sym, ap, subst, ◌∙◌}
+use Rattle.std.proofs.Common.{◌≡◌, List, take, map, Option, Some, None, Result, Ok, Err, IfErr, IfOk, IfSome, IsErrAnd, inl, inr, sym, subst}
 use Rattle.serde_json.specs.Data.{Data}
 use Rattle.elasticlunr_text.specs.Text.{Bytes}
-use Rattle.elasticlunr_parse.specs.Reading.{reading}
-use Rattle.elasticlunr_parse.specs.Lines.{filled_lines, readings}
-use Rattle.elasticlunr_parse.specs.Objects.{Options, HasProblem, IsFirstProblem}
-use Rattle.elasticlunr_parse.specs.declared.objects.Problem.{Problem}
+use Rattle.elasticlunr_parse.specs.Lines.{readings}
+use Rattle.elasticlunr_parse.specs.Objects.{Options}
 use Rattle.elasticlunr_input.specs.Asked.{options_of}
 use Rattle.elasticlunr_input.specs.FaultPlaces.{IsPlaceInObjectLines}
 use Rattle.elasticlunr_input.specs.RefusedPlaces.{IfPlaced, IsLinesPlace, IsPlaceInLines}

@@ -4,9 +4,8 @@ use Rattle.serde_json.specs.Data.{Data}
 use Rattle.serde_json.specs.Find.{as_array}
 use Rattle.serde_json.specs.View.{items_of}
 use Rattle.elasticlunr_text.specs.Text.{Bytes}
-use Rattle.elasticlunr_parse.specs.Job.{Document}
 use Rattle.elasticlunr_parse.specs.Lines.{AreLineValues, HasUnreadLine}
-use Rattle.elasticlunr_parse.specs.Objects.{Options, AreDocumentsOf}
+use Rattle.elasticlunr_parse.specs.Objects.{Options}
 use Rattle.elasticlunr_job.specs.Objects.{FailsObjects}
 use Rattle.elasticlunr_parse.specs.declared.outcome.Refusal.{Refusal}
 use Rattle.elasticlunr_job.specs.declared.objects.ObjectsError.{ObjectsError}

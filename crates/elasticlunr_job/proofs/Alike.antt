@@ -1,5 +1,5 @@
 -- Indexes of the same settings.
-use Rattle.std.proofs.Common.{◌≡◌, ◌⊎◌, ◌<◌, ◌≤◌, List, Bool, true, false, Option, None, Some, Result, Ok, Err, IsNone, IsSomeAnd, ◌↔◌, Bor, true≢false, inl, inr, sym, ap, subst, ◌∙◌, length, map, arith}
+use Rattle.std.proofs.Common.{◌≡◌, ◌⊎◌, ◌<◌, ◌≤◌, List, Bool, true, false, Option, None, Some, Result, Ok, Err, IsNone, IsSomeAnd, ◌↔◌, Bor, true≢false, inl, inr, sym, ap, subst, ◌∙◌, length, arith}
 use Rattle.std.proofs.lemmas.Bool.{cases_lt}
 use Rattle.std.proofs.lemmas.List.{length-map}
 use Rattle.elasticlunr_text.specs.Stages.{names_of, IsRun}

@@ -1,5 +1,5 @@
 -- Documents as lines of JSON, an object each: the text of their index, and why there is none.
-use Rattle.std.specs.Prelude.{◌≡◌, ◌++◌, ◌+◌, ⊤, ℕ, true, List, [], length, Option, Some, None}
+use Rattle.std.specs.Prelude.{◌≡◌, ◌+◌, ⊤, ℕ, true, List, [], length, Option, Some, None}
 use Rattle.serde_json.specs.Data.{Data}
 use Rattle.elasticlunr_text.specs.Text.{Bytes}
 use Rattle.elasticlunr.specs.Fields.{all_differ}

@@ -4,7 +4,7 @@ use Rattle.elasticlunr_input.specs.Forms.{asked_or_told, IsRefusedInput}
 use Rattle.elasticlunr_input.specs.Inputs.{HasHead}
 use Rattle.elasticlunr_input.specs.RefusedPlaces.{IfPlaced, IsInputPlace}
 use Rattle.elasticlunr_input.specs.Settled.{settings_told}
-use Rattle.elasticlunr_input.specs.declared.form.Form.TheVariants.{Job, Lines, Objects}
+use Rattle.elasticlunr_input.specs.declared.form.Form.TheVariants.{Job, Objects}
 use Rattle.elasticlunr_input.proofs.HeadLemmas.{exit_at}
 use Rattle.elasticlunr_input.proofs.InputLemmas.{err_both, lines_err, lines_ok, not_read, whole_err, whole_ok}
 use Rattle.elasticlunr_input.proofs.index.index_from.Goals as goal

@@ -1,12 +1,12 @@
-use Rattle.std.proofs.Common.{◌≡◌, ◌∷◌, map, ap, subst, sym, ◌∙◌, Some, string_bytes, refl}
+use Rattle.std.proofs.Common.{map, ap, subst, sym, ◌∙◌, Some, string_bytes, refl}
 use Rattle.serde_json.specs.View.{view}
 use Rattle.elasticlunr_text.specs.Text.{Bytes}
 use Rattle.elasticlunr_parse.specs.LineRead.{AreAll}
 use Rattle.elasticlunr_parse.specs.ObjectsTold.{options_told}
-use Rattle.elasticlunr_job.specs.Lines.{FailsLines, IsLineOfLines}
+use Rattle.elasticlunr_job.specs.Lines.{IsLineOfLines}
 use Rattle.elasticlunr_input.specs.Inputs.{IsRefusedFirst}
 use Rattle.elasticlunr_input.specs.Settled.{settings_told}
-use Rattle.elasticlunr_input.specs.declared.message.Trouble.TheVariants.{Memory, Refused}
+use Rattle.elasticlunr_input.specs.declared.message.Trouble.TheVariants.{Memory}
 use Rattle.elasticlunr_input.proofs.HeadLemmas.{chained_document, chained_first, chained_line, chained_memory, chained_settings, chained_unread, exit_at, fails_document, fails_refused}
 use Rattle.elasticlunr_input.proofs.index.text_of_lines.Goals as goal
 

@@ -1,4 +1,4 @@
-use Rattle.std.proofs.Common.{◌≡◌, [], Err, true, false, map, string_bytes, if◌then◌else◌, inl, inr, refl, sym, ap, subst, ◌∙◌, ◌+◌, ◌++◌, ◌∷◌, append_assoc, arith}
+use Rattle.std.proofs.Common.{◌≡◌, [], true, false, map, string_bytes, if◌then◌else◌, inl, inr, refl, sym, ap, subst, ◌∙◌, ◌+◌, ◌++◌, ◌∷◌, append_assoc, arith}
 use Rattle.std.specs.Io.KnownBytes.{Consumes}
 use Rattle.serde_json.specs.View.{view}
 use Rattle.elasticlunr_lang.specs.Known.{language_name}

@@ -7,7 +7,7 @@ use Rattle.serde_json.specs.Data.{Data}
 use Rattle.elasticlunr_text.specs.Text.{Bytes}
 use Rattle.elasticlunr_parse.specs.Job.{Document}
 use Rattle.elasticlunr_parse.specs.LineRead.{AreAll, AreWhole, EndsLine, HasNoFeed, IsLineAfter, fed}
-use Rattle.elasticlunr_parse.specs.Lines.{filled_lines, is_blank, is_filled, lines_of, readings, AreLineValues, HasUnreadLine}
+use Rattle.elasticlunr_parse.specs.Lines.{filled_lines, is_blank, is_filled, lines_of, readings, AreLineValues}
 use Rattle.elasticlunr_parse.specs.Objects as objects
 use Rattle.elasticlunr_parse.specs.Objects.{AreDocumentsOf, HasProblem, IsDocumentOf, IsFirstProblem}
 use Rattle.elasticlunr_parse.specs.Reading.{reading}
@@ -35,7 +35,7 @@ use Rattle.elasticlunr_input.specs.FaultPlaces.{problem_path}
 use Rattle.elasticlunr_input.specs.Forms.{asked_or_told, line_form, told_form}
 use Rattle.elasticlunr_input.specs.Lines.{IsLinesLineWith}
 use Rattle.elasticlunr_input.specs.Inputs.{HasHead, IsBelow, IsHeadOf, IsPlaceInLine, IsRefusedFirst}
-use Rattle.elasticlunr_input.specs.Refused.{FailLinesOf, FailObjects, IsMemoryOr}
+use Rattle.elasticlunr_input.specs.Refused.{FailLinesOf, FailObjects, HasUnreadLine, IsMemoryOr}
 use Rattle.elasticlunr_input.specs.RefusedPlaces.{IfPlaced, IsLinesPlace, IsPlaceInLines}
 use Rattle.elasticlunr_input.specs.RefusedRead.{AreRefusedFrom, BeginsWith}
 use Rattle.elasticlunr_input.specs.Settled.{Settings}
@@ -170,9 +170,9 @@ module _ (text before line : Bytes) (feeds : ℕ) (after : IsLineAfter (Some tex
       (subst (λ t. IsPlaceOf (Some (number - 1)) path t (below (count_by is_line_feed before) at)) (ap (λ l. before ++ l) (append-nil line))
       (subst (λ n. IsPlaceOf (Some n) path (before ++ (line ++ [])) (below (count_by is_line_feed before) at)) same there))
 
-  unread : (items : List Data) → AreLineValues before items → reading line ≡ None → HasUnreadLine (before ++ line)
+  unread : (options_for : List Data → objects.Options) (items : List Data) (docs : List Document) → AreLineValues before items → AreDocumentsOf (options_for items) items docs → reading line ≡ None → HasUnreadLine options_for (before ++ line)
   unfolding line_readings
-  unread items are none = (items, [], ap (λ os. os ++ None ∷ []) are ∙ (ap (λ o. readings before ++ o ∷ []) (sym none) ∙ sym line_readings))
+  unread options_for items docs are documents none = (items, docs, [], documents, ap (λ os. os ++ None ∷ []) are ∙ (ap (λ o. readings before ++ o ∷ []) (sym none) ∙ sym line_readings))
 
   -- it is not JSON
   pub refused_unread : (settings : Settings) → filled_lines before ≡ [] → reading line ≡ None → (trouble : Trouble) → IfPlaced (IsBelow feeds (IsPlaceIn line)) trouble → AreRefusedFrom settings text trouble
@@ -180,7 +180,7 @@ module _ (text before line : Bytes) (feeds : ℕ) (after : IsLineAfter (Some tex
   refused_unread settings blank none Memory placed = tt
   refused_unread settings blank none (Device failed) placed = tt
   refused_unread settings blank none (Refused message) placed =
-      let is = unread [] (sym (ap (map reading) blank)) none in
+      let is = unread (options_of settings) [] [] (sym (ap (map reading) blank)) tt none in
       (before ++ line, line_begins, inl is, placed_for (IsBelow feeds (IsPlaceIn line)) (IsLinesPlace settings (before ++ line)) (Refused message) (λ place at. inl (is, in_below place at)) placed)
 
   -- it is no document
@@ -191,13 +191,13 @@ module _ (text before line : Bytes) (feeds : ℕ) (after : IsLineAfter (Some tex
 
     fails_of : (o : Option Data) → reading line ≡ o → HasLineProblem options o problem → FailLinesOf options (before ++ line)
     unfolding unread values
-    fails_of None is has = inl (unread no.items no.are_values is)
+    fails_of None is has = inl (unread (λ _. options) no.items no.documents no.are_values no.are_documents is)
     fails_of (Some d) is has = inr (no.items ++ d ∷ [], values d is, problem_among options no.items (no.items ++ d ∷ []) no.documents d [] problem (sym (map-append Some no.items (d ∷ []))) no.are_documents has)
 
     place_in : (place : Place) → IsBelow feeds (IsPlaceInLine options line problem) place → IsPlaceInLines (before ++ line) options place
     unfolding unread values in_below of_below
     place_in place is = elim is.2 [
-      | inl f ↦ inl (unread no.items no.are_values f.0, in_below place (is.0, is.1, f.1))
+      | inl f ↦ inl (unread (λ _. options) no.items no.documents no.are_values no.are_documents f.0, in_below place (is.0, is.1, f.1))
       | inr f ↦
           let has : HasProblem options f.0 problem = subst (λ o. HasLineProblem options o problem) f.1 no.has in
           let its : number ≡ length (filled_lines before) + 1 = no.number_is ∙ ap (λ n. n + 1) (sym (length-map no.items Some) ∙ (ap length no.are_values ∙ length-map (filled_lines before) reading)) in

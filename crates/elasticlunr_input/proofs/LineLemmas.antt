@@ -1,5 +1,5 @@
 -- On lines that are read one by one.
-use Rattle.std.proofs.Common.{◌≡◌, ◌+◌, List, [], ◌∷◌, ◌++◌, length, take, map, Option, Some, unwrap_or, inl, inr, refl, sym, ap, subst, ◌∙◌, arith}
+use Rattle.std.proofs.Common.{◌≡◌, ◌+◌, List, [], ◌∷◌, ◌++◌, length, take, map, Option, None, Some, unwrap_or, inl, inr, refl, sym, ap, subst, ◌∙◌, arith}
 use Rattle.std.specs.List.{slice_get}
 use Rattle.serde_json.specs.Data.{Data}
 use Rattle.elasticlunr_text.specs.Text.{Bytes}
@@ -17,7 +17,7 @@ use Rattle.elasticlunr_parse.specs.declared.outcome.Refusal.TheVariants.{NotJson
 use Rattle.elasticlunr_input.specs.Asked.{options_of, reference_key_of}
 use Rattle.elasticlunr_input.specs.Fields.{fields_of_first, text_keys}
 use Rattle.elasticlunr_input.specs.Lines.{IsLinesLineWith}
-use Rattle.elasticlunr_input.specs.Refused.{FailLines, FailLinesOf, FailObjects}
+use Rattle.elasticlunr_input.specs.Refused.{FailLines, FailLinesOf, FailObjects, HasUnreadLine}
 use Rattle.elasticlunr_input.specs.Settled.{Settings}
 
 -- the values of a text begin with those that were read, and the next
@@ -63,9 +63,22 @@ module _ (settings : Settings) (text : Bytes) (options : objects.Options) (first
   pub line_with : (line : Bytes) → IsLineOfLines options text line → IsLinesLineWith settings text line
   line_with line is = (is.0, is.1, subst (λ o. IsLineOfObjects o is.0 line) (first_options is.0 is.1) is.2)
 
+  -- the options for the first values are the same
+  pub unread_with : HasUnreadLine (λ _. options) text → HasUnreadLine (options_of settings) text
+  unread_with unread = (unread.0, unread.1, unread.2, at unread.0 unread.1 unread.2 unread.3 unread.4, unread.4) where
+    at : (before : List Data) (docs : List Document) (rest : List (Option Data)) → AreDocumentsOf options before docs → map Some before ++ None ∷ rest ≡ readings text → AreDocumentsOf (options_of settings before) before docs
+    at [] [] rest are lines = tt
+    at [] (doc ∷ docs) rest are lines = absurd are
+    at (d ∷ before) docs rest are lines =
+        let key = reference_key_of settings in
+        let one : map Some first ≡ take 1 (map Some (d ∷ before)) = begins ∙ ap (take 1) (sym lines) in
+        let same : options ≡ options_of settings (d ∷ before) = told ∙ ap (λ fs. record (options_of settings first) { fields = unwrap_or settings.fields fs }) (first_alike key first (d ∷ before) one) in
+        subst (λ (o : objects.Options). AreDocumentsOf o (d ∷ before) docs) same are
+
   pub fail_with : FailLinesOf options text → FailLines settings text
+  unfolding unread_with
   fail_with fails = elim fails [
-    | inl unread ↦ inl unread
+    | inl unread ↦ inl (unread_with unread)
     | inr f ↦ inr (f.0, f.1, subst (λ o. FailObjects o f.0) (first_options f.0 f.1) f.2)
   ]
 

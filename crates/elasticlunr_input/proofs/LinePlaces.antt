@@ -11,7 +11,7 @@ use Rattle.elasticlunr_input.specs.Settled.{Settings}
 use Rattle.elasticlunr_input.specs.declared.message.Trouble.{Trouble}
 use Rattle.elasticlunr_input.specs.declared.message.Trouble.TheVariants.{Refused, Memory, Device}
 use Rattle.elasticlunr_place.specs.declared.place.Place.{Place}
-use Rattle.elasticlunr_input.proofs.LineLemmas.{first_options}
+use Rattle.elasticlunr_input.proofs.LineLemmas.{first_options, unread_with}
 
 pub some_for : (P Q : Place → Type 0) (o : Option Place) → ((place : Place) → P place → Q place) → IfSome o P → IfSome o Q
 some_for P Q None more is = tt
@@ -31,7 +31,7 @@ placed_again P Q e (Err x) more same is = placed_for P Q x more (subst (IfPlaced
 pub place_with : (settings : Settings) (text : Bytes) (options : Options) (first : List Data) → map Some first ≡ take 1 (readings text) → options ≡ options_of settings first
     → (place : Place) → IsPlaceInLines text options place → IsLinesPlace settings text place
 place_with settings text options first begins told place is = elim is [
-  | inl unread ↦ inl unread
+  | inl unread ↦ inl (unread_with settings text options first begins told unread.0, unread.1)
   | inr f ↦ inr (f.0, f.1, subst (λ o. IsPlaceInObjectLines text o f.0 place) (first_options settings text options first begins told f.0 f.1) f.2)
 ]
 

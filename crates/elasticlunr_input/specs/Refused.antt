@@ -1,11 +1,12 @@
 -- Why no index of the documents is printed.
-use Rattle.std.specs.Prelude.{◌≡◌, ◌⊎◌, ⊤, List, Some, None}
+use Rattle.std.specs.Prelude.{◌≡◌, ◌⊎◌, ◌++◌, ◌∷◌, ⊤, List, Option, Some, None, map}
 use Rattle.serde_json.specs.Data.{Data}
 use Rattle.serde_json.specs.Find.{as_array}
 use Rattle.serde_json.specs.View.{items_of}
 use Rattle.elasticlunr_text.specs.Text.{Bytes}
-use Rattle.elasticlunr_parse.specs.Lines.{AreLineValues, HasUnreadLine}
-use Rattle.elasticlunr_parse.specs.Objects.{Options}
+use Rattle.elasticlunr_parse.specs.Lines.{readings, AreLineValues}
+use Rattle.elasticlunr_parse.specs.Job.{Document}
+use Rattle.elasticlunr_parse.specs.Objects.{Options, AreDocumentsOf}
 use Rattle.elasticlunr_job.specs.Objects.{FailsObjects}
 use Rattle.elasticlunr_parse.specs.declared.outcome.Refusal.{Refusal}
 use Rattle.elasticlunr_job.specs.declared.objects.ObjectsError.{ObjectsError}
@@ -33,13 +34,17 @@ FailsJob settings d = (refusal : Refusal) × IsRefusedWith settings d refusal
 abbrev pub FailsArray : Settings → Data → Type 0
 FailsArray settings d = (as_array d ≡ None) ⊎ ((items : List Data) × (as_array d ≡ Some (items_of items)) × FailObjects (options_of settings items) items)
 
--- a line is not JSON, or the values of the lines fail a check of objects that are read so
-abbrev pub FailLinesOf : Options → Bytes → Type 0
-FailLinesOf options text = HasUnreadLine text ⊎ ((items : List Data) × AreLineValues text items × FailObjects options items)
+-- a line is not JSON, and those before it are documents, as they are read with the options for their values
+abbrev pub HasUnreadLine : (List Data → Options) → Bytes → Type 0
+HasUnreadLine options_for text = (before : List Data) × (docs : List Document) × (rest : List (Option Data)) × AreDocumentsOf (options_for before) before docs × (map Some before ++ None ∷ rest ≡ readings text)
 
--- a line is not JSON, or the values of the lines fail a check
+-- a line is the first that is not JSON, or the values of the lines fail a check of objects that are read so
+abbrev pub FailLinesOf : Options → Bytes → Type 0
+FailLinesOf options text = HasUnreadLine (λ _. options) text ⊎ ((items : List Data) × AreLineValues text items × FailObjects options items)
+
+-- a line is the first that is not JSON, or the values of the lines fail a check
 abbrev pub FailLines : Settings → Bytes → Type 0
-FailLines settings text = HasUnreadLine text ⊎ ((items : List Data) × AreLineValues text items × FailObjects (options_of settings items) items)
+FailLines settings text = HasUnreadLine (options_of settings) text ⊎ ((items : List Data) × AreLineValues text items × FailObjects (options_of settings items) items)
 
 abbrev pub IsRefusedObjects : Options → List Data → Trouble → Type 0
 IsRefusedObjects options items = IsMemoryOr (FailObjects options items)

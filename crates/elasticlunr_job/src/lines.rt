@@ -44,7 +44,10 @@ pub struct LastLine {
 
 impl LastLine {
     /// Of nothing that was read yet.
-    pub fn new(alloc: Global) -> LastLine {
+    pub fn new(alloc: Global) -> LastLine
+        ensures text { result.text.items ≡ [] }
+        ensures before { result.before ≡ 0 }
+    {
         LastLine {
             text: Vec::new(alloc),
             before: 0,

@@ -1,5 +1,5 @@
 -- The lines of a text, and what they are read as.
-use Rattle.std.specs.Prelude.{◌≡◌, ◌==◌, ◌||◌, ◌++◌, ◌∷◌, ℕ, Bool, true, false, List, Option, Some, None, map, filter, if◌then◌else◌}
+use Rattle.std.specs.Prelude.{◌≡◌, ◌==◌, ◌||◌, ℕ, Bool, true, false, List, Option, Some, map, filter, if◌then◌else◌}
 use Rattle.std.specs.List.{list_all, slice_split}
 use Rattle.serde_json.specs.Data.{Data}
 use Rattle.elasticlunr_error.specs.Text.{Bytes}
@@ -30,7 +30,3 @@ readings text = map reading (filled_lines text)
 -- these are the values of the lines of the text, without the blank ones
 abbrev pub AreLineValues : Bytes → List Data → Type 0
 AreLineValues text items = map Some items ≡ readings text
-
--- a line of the text is not JSON, and those before it are blank or have values
-abbrev pub HasUnreadLine : Bytes → Type 0
-HasUnreadLine text = (before : List Data) × (rest : List (Option Data)) × (map Some before ++ None ∷ rest ≡ readings text)

@@ -63,16 +63,20 @@ struct Watched<'r, 'a> {
     task: &'r Task<'r, 'a>,
     /// How many bytes were read.
     bytes: usize,
-    /// After how many it is said again; after none where its end was.
+    /// After how many it is said again.
     next: usize,
+    /// Whether its end was told.
+    is_told: bool,
 }
 
 impl Read for Watched<'_, '_> {
     fn read(&mut self, buf: &mut [u8]) -> io::Result<usize> {
         let count = self.input.read(buf)?;
         self.bytes = self.bytes.saturating_add(count);
-        if self.next > 0 && (count == 0 || self.bytes >= self.next) {
-            self.next = if count == 0 { 0 } else { self.bytes.saturating_add(STEP) };
+        let is_end = count == 0;
+        if !self.is_told && (is_end || self.bytes >= self.next) {
+            self.is_told = is_end;
+            self.next = self.bytes.saturating_add(STEP);
             self.task.progress(self.rt, "read", self.bytes)?;
         }
         Ok(count)
@@ -129,6 +133,7 @@ fn build_of(
         task,
         bytes: 0,
         next: STEP,
+        is_told: false,
     };
     let mut reader = BufReader::with_capacity(rt.alloc(), BUFFER, watched)?;
     match index_from(rt.alloc(), &mut reader, form, settings, &mut notes) {

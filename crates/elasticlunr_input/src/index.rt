@@ -49,10 +49,12 @@ pub fn index_from<R: BufRead>(
     match asked_or_told(alloc, &text, asked)? {
         Form::Lines => text_of_lines(alloc, &text, &mut last, reader, settings, notes),
         Form::Job => {
+            drop(last);
             reader.read_to_end(&mut text)?;
             text_of_job(alloc, &text, settings, notes)
         }
         Form::Objects => {
+            drop(last);
             reader.read_to_end(&mut text)?;
             text_of_array(alloc, &text, settings, notes)
         }

@@ -33,8 +33,8 @@ returns-in-Lines-clause-err g c =
     (λ e is. lines_err c.args.asked (settings_told c.args.settings.now) (left c.args.reader.now) (left c.read_head.new.reader) head c.read_head.new.last e has told is)
     c.text_of_lines.ensures.err
 
-pub returns-in-Job-clause-ok : goal.returns-in-Job-clause-ok
-returns-in-Job-clause-ok g c =
+pub returns-in_ok-read_to_end-in-Job-clause-ok : goal.returns-in_ok-read_to_end-in-Job-clause-ok
+returns-in_ok-read_to_end-in-Job-clause-ok g c =
     let left = g.R.Read.remaining in
     let head = c.in_ok-text.text.items in
     let all = c.deref-in-Job.result.now in
@@ -44,8 +44,8 @@ returns-in-Job-clause-ok g c =
     (λ line is. whole_ok c.args.asked (settings_told c.args.settings.now) Job (left c.args.reader.now) (left c.read_head.new.reader) head all (string_bytes line) c.read_head.new.last c.in_ok-text.ensures.ok told whole is)
     c.text_of_job.ensures.ok
 
-pub returns-in-Job-clause-err : goal.returns-in-Job-clause-err
-returns-in-Job-clause-err g c =
+pub returns-in_ok-read_to_end-in-Job-clause-err : goal.returns-in_ok-read_to_end-in-Job-clause-err
+returns-in_ok-read_to_end-in-Job-clause-err g c =
     let left = g.R.Read.remaining in
     let head = c.in_ok-text.text.items in
     let all = c.deref-in-Job.result.now in
@@ -56,8 +56,8 @@ returns-in-Job-clause-err g c =
     (λ e is placed. whole_err c.args.asked settings Job (left c.args.reader.now) (left c.read_head.new.reader) head all c.read_head.new.last e c.in_ok-text.ensures.ok told whole refl is placed)
     c.text_of_job.ensures.err c.text_of_job.ensures.place
 
-pub returns-clause-ok : goal.returns-clause-ok
-returns-clause-ok g c =
+pub returns-in_ok-read_to_end-in-Objects-clause-ok : goal.returns-in_ok-read_to_end-in-Objects-clause-ok
+returns-in_ok-read_to_end-in-Objects-clause-ok g c =
     let left = g.R.Read.remaining in
     let head = c.in_ok-text.text.items in
     let all = c.deref-in-Objects.result.now in
@@ -67,8 +67,8 @@ returns-clause-ok g c =
     (λ line is. whole_ok c.args.asked (settings_told c.args.settings.now) Objects (left c.args.reader.now) (left c.read_head.new.reader) head all (string_bytes line) c.read_head.new.last c.in_ok-text.ensures.ok told whole is)
     c.text_of_array.ensures.ok
 
-pub returns-clause-err : goal.returns-clause-err
-returns-clause-err g c =
+pub returns-in_ok-read_to_end-in-Objects-clause-err : goal.returns-in_ok-read_to_end-in-Objects-clause-err
+returns-in_ok-read_to_end-in-Objects-clause-err g c =
     let left = g.R.Read.remaining in
     let head = c.in_ok-text.text.items in
     let all = c.deref-in-Objects.result.now in

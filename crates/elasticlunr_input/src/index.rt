@@ -68,7 +68,8 @@ fn text_of_job(
     settings: &Settings,
     notes: &mut Notes,
 ) -> Result<String, Trouble>
-    ensures ok { IfOk result (λ line. IsIndexAs form.Job (settings_told settings.now) text.now (string_bytes line)) }
+    ensures ok { IfOk result (λ line.
+        IsIndexAs form.Job (settings_told settings.now) text.now (string_bytes line)) }
     ensures err { IfErr result (IsRefusedInput form.Job (settings_told settings.now) text.now) }
     ensures place { IfErr result (IfPlaced (IsInputPlace form.Job (settings_told settings.now) text.now)) }
 {
@@ -92,7 +93,8 @@ fn text_of_array(
     settings: &Settings,
     notes: &mut Notes,
 ) -> Result<String, Trouble>
-    ensures ok { IfOk result (λ line. IsIndexAs form.Objects (settings_told settings.now) text.now (string_bytes line)) }
+    ensures ok { IfOk result (λ line.
+        IsIndexAs form.Objects (settings_told settings.now) text.now (string_bytes line)) }
     ensures err { IfErr result (IsRefusedInput form.Objects (settings_told settings.now) text.now) }
     ensures place { IfErr result (IfPlaced (IsInputPlace form.Objects (settings_told settings.now) text.now)) }
 {
@@ -114,9 +116,11 @@ fn text_of_lines<R: BufRead>(
     settings: &Settings,
     notes: &mut Notes,
 ) -> Result<String, Trouble>
-    ensures ok { IfOk result (λ line. IfSome (R.remaining reader.old) (λ rest. IsHeadOf head.now rest last.old.text.items last.old.before
+    ensures ok { IfOk result (λ line. IfSome (R.remaining reader.old) (λ rest.
+        IsHeadOf head.now rest last.old.text.items last.old.before
         → IsLinesLineWith (settings_told settings.now) (head.now ++ rest) (string_bytes line))) }
-    ensures err { IfErr result (λ e. IfSome (R.remaining reader.old) (λ rest. IsHeadOf head.now rest last.old.text.items last.old.before
+    ensures err { IfErr result (λ e. IfSome (R.remaining reader.old) (λ rest.
+        IsHeadOf head.now rest last.old.text.items last.old.before
         → AreRefusedFrom (settings_told settings.now) (head.now ++ rest) e)) }
 {
     let first = first_value(alloc, last)?;

@@ -32,7 +32,8 @@ pub(crate) fn read_head<R: BufRead>(
     reader: &mut R,
     last: &mut LastLine,
 ) -> Result<Vec<u8>, Trouble>
-    ensures ok { IfOk result (λ head. HasHead (R.remaining reader.old) (R.remaining reader.new) head.items last.new) }
+    ensures ok { IfOk result (λ head.
+        HasHead (R.remaining reader.old) (R.remaining reader.new) head.items last.new) }
     ensures err { IfErr result (IsMemoryOr ⊥) }
 {
     let mut head = Vec::new(alloc);
@@ -69,7 +70,8 @@ impl Watch for Watcher<'_> {
 pub(crate) fn first_value(alloc: Global, last: &LastLine) -> Result<Vec<Value>, Trouble>
     ensures ok { IfOk result (λ values. map Some (map view values.items)
         ≡ map reading (filter is_filled (last.now.text.items ∷ []))) }
-    ensures err { IfErr result (IsMemoryOr ((is_filled last.now.text.items ≡ true) × (reading last.now.text.items ≡ None))) }
+    ensures err { IfErr result
+        (IsMemoryOr ((is_filled last.now.text.items ≡ true) × (reading last.now.text.items ≡ None))) }
     ensures place { IfErr result (IfPlaced (IsBelow last.now.before (IsPlaceIn last.now.text.items))) }
 {
     let mut values = Vec::new(alloc);

@@ -113,18 +113,22 @@ def large_job(docs):
 
 
 def speed_jobs():
-    """The name of each job, the job, whether the original does it, too, or else which of ours it stands beside.
+    """The name of each job, the job, whether the original does it, too, and which of ours it stands beside.
 
-    The last comes with how many times as many documents the job has.
+    The last come each with how many times as many documents the job has.
     """
     english = large_job(2000)
-    yield "English, 2,000 documents", english, True, None
-    yield "the same in German, which has no stemmer here", dict(english, lang="German"), True, None
-    yield "1,000 documents", large_job(1000), True, None
-    yield "16,000 documents", large_job(16000), False, ("1,000 documents", 16)
-    yield "2,000 documents, each added twice", dict(english, docs=english["docs"] * 2), False, ("English, 2,000 documents", 1)
+    yield "English, 2,000 documents", english, True, []
+    yield "the same in German, which has no stemmer here", dict(english, lang="German"), True, []
+    yield "1,000 documents", large_job(1000), True, []
+    large = large_job(16000)
+    yield "every sixteenth of the 16,000 documents", dict(large, docs=large["docs"][::16]), False, []
+    beside = [("1,000 documents", 16), ("every sixteenth of the 16,000 documents", 16)]
+    yield "16,000 documents", large, False, beside
+    beside = [("English, 2,000 documents", 1)]
+    yield "2,000 documents, each added twice", dict(english, docs=english["docs"] * 2), False, beside
     removed = [doc[0] for doc in english["docs"][::2]]
-    yield "2,000 documents, 1,000 references removed", dict(english, remove=removed), False, ("English, 2,000 documents", 1)
+    yield "2,000 documents, 1,000 references removed", dict(english, remove=removed), False, beside
 
 
 def middle(found):
@@ -181,7 +185,7 @@ def speed(original, runs):
         mine = ours[name] = middle(found[name, PROGRAM])
         theirs = middle(found[name, original]) if is_for_both else None
         failed += mine.status != 0 or bool(theirs and theirs.status != 0)
-        ratio = ratio_to(mine, theirs) if theirs else ratio_to_ours(mine, ours, *beside)
+        ratio = ratio_to(mine, theirs) if theirs else ", ".join(ratio_to_ours(mine, ours, *one) for one in beside) or "-"
         row = [name, told_run(mine), told_run(theirs) if theirs else "-", ratio]
         print("| " + " | ".join(row) + " |", flush=True)
     print(

@@ -1,19 +1,14 @@
 -- From the counts of tokens to the postings of a field.
 use Rattle.std.proofs.Common.{◌≡◌, ◌≢◌, ◌⊎◌, inl, inr, ℕ, zero, suc, ◌+◌, ◌<◌, List, [], ◌∷◌, ◌++◌, length, map, get_or, arith, Bool, true, false, cond, Option, None, Some, unwrap_or, bytes_eq, String, Global, string_bytes, refl, sym, ap, subst, ◌∙◌, append-nil, append_assoc}
-use Rattle.std.specs.Prelude.{IsSomeAnd, IsTrue, Contains, count_by, string_cmp}
+use Rattle.std.specs.Prelude.{IsSomeAnd, IsTrue, Contains, count_by, string_eq}
 use Rattle.std.specs.List.{slice_get}
 use Rattle.std.proofs.Math.ListN.{set}
 use Rattle.std.specs.Str.{chars, encode_utf8_all}
-use Rattle.std.specs.BTreeMap.{BTreeMap, IsOrdered, get_by_text, is_at}
-use Rattle.std.specs.Cmp.{eq_by_cmp_equiv}
-use Rattle.std.specs.String.{string_cmp_total}
+use Rattle.std.specs.HashMap.{HashMap, IsUnique, get_by_text}
+use Rattle.std.specs.String.{string_eq_equiv}
 use Rattle.std.proofs.lemmas.List.Sums.{sum_by-cons}
-use Rattle.std.specs.Cmp.Lexicographic.{slice_cmp}
-use Rattle.std.specs.Ordering.{nat_cmp}
 use Rattle.std.proofs.lemmas.Str.{IsUtf8-string_bytes, encodes-chars}
-use Rattle.std.proofs.lemmas.Map.Text.{is_eq-slice_cmp}
 use Rattle.std.proofs.lemmas.Map.Entries.{lookup_from_place, place_from_lookup}
-use Rattle.std.proofs.lemmas.Map.Keys.{IsDistinct-from_sorted}
 use Rattle.elasticlunr_error.specs.Text.{Text, Bytes, text_of, texts_of}
 use Rattle.elasticlunr_trie.specs.Table.{Table, knows, posting, IsPrefix, AddsToken, AreChanged, additions}
 use Rattle.elasticlunr_history.specs.Root.{IsRoot}
@@ -166,13 +161,13 @@ mapped_there f [] i x e = cc (e)
 mapped_there f (w ∷ xs) zero x e = cc (e)
 mapped_there f (w ∷ xs) (suc i) x e = mapped_there f xs i x e
 
-module _ (tokens : List (String Global)) (counts : BTreeMap (String Global) ℕ) (are : AreCounts tokens counts) (ordered : IsOrdered string_cmp counts) where
+module _ {S : Type 0} (tokens : List (String Global)) (counts : HashMap (String Global) ℕ S) (are : AreCounts tokens counts) (unique : IsUnique string_eq counts) where
   entry_counts : (token : Text) (n : ℕ) → StandsIn (counted_texts counts.entries) (token, n) → (n ≡ count_by (bytes_eq token) (texts_of tokens)) × (n ≢ 0)
   entry_counts token n (i, e) =
       let entry = mapped_back (λ e. (text_of e.0, e.1)) counts.entries i (token, n) e in
       let key : String Global = entry.0.0 in
       let found : get_by_text counts (string_bytes key) ≡ Some entry.0.1 =
-      lookup_from_place (eq_by_cmp_equiv string_cmp_total) counts.entries i key entry.0.1 (IsDistinct-from_sorted string_cmp _ ordered) entry.1 in
+      lookup_from_place string_eq_equiv counts.entries i key entry.0.1 unique entry.1 in
       let token_is : text_of key ≡ token = ap (λ p. p.0) entry.2 in
       let n_is : entry.0.1 ≡ n = ap (λ p. p.1) entry.2 in
       let counted : entry.0.1 ≡ count_by (bytes_eq (text_of key)) (texts_of tokens) =
@@ -190,8 +185,8 @@ module _ (tokens : List (String Global)) (counts : BTreeMap (String Global) ℕ)
         of_found s is None e = absurd (stands_counted token (texts_of tokens) among.0 among.1 among.2
             (ap (λ t. count_by (bytes_eq t) (texts_of tokens)) (sym is) ∙ sym (count_texts s tokens) ∙ sym (are.counted (string_bytes s)) ∙ ap (λ o. unwrap_or o 0) e))
         of_found s is (Some n) e =
-            let entry = place_from_lookup (is_at (λ k. slice_cmp nat_cmp (string_bytes s) (string_bytes k))) counts.entries n e in
-            let key_is : text_of entry.1 ≡ token = ap chars (sym (same (string_bytes s) (string_bytes entry.1) (sym (is_eq-slice_cmp (string_bytes s) (string_bytes entry.1)) ∙ entry.3))) ∙ is in
+            let entry = place_from_lookup (λ k. bytes_eq (string_bytes s) (string_bytes k)) counts.entries n e in
+            let key_is : text_of entry.1 ≡ token = ap chars (sym (same (string_bytes s) (string_bytes entry.1) entry.3)) ∙ is in
             (n, (entry.0, mapped_there (λ e. (text_of e.0, e.1)) counts.entries entry.0 (entry.1, n) entry.2 ∙ ap (λ t. Some (t, n)) key_is))
 
   pub replaces_from_posts : (old new : Table) (reference : Bytes) → ((token : Text) → posting old token reference ≡ None) → Posts old new reference (counted_texts counts.entries) → ReplacesPostings old new reference (Some (texts_of tokens))

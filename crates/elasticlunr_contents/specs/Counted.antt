@@ -1,6 +1,6 @@
 -- Tokens with how often they stand, and the postings that these make.
 use Rattle.std.specs.Prelude.{◌≡◌, ◌≢◌, ℕ, List, [], ◌∷◌, ⊤, map, Some, IsSomeAnd, IsTrue, slice_get, unwrap_or, count_by, ◌↔◌, ◌⊎◌, String, string_bytes}
-use Rattle.std.specs.BTreeMap.{BTreeMap, get_by_text}
+use Rattle.std.specs.HashMap.{HashMap, get_by_text}
 use Rattle.std.specs.Str.{bytes_eq}
 use Rattle.std.specs.declared.alloc.Global.{Global}
 use Rattle.elasticlunr_error.specs.Text.{Text, Bytes, text_of}
@@ -23,7 +23,7 @@ AreRooted (n ∷ ns) [] = ⊥
 AreRooted (n ∷ ns) (m ∷ ms) = (m.0 ≡ n.0) × IsRoot n.1 m.1 × AreRooted ns ms
 
 -- the map has how often each text stands among the tokens
-pub record AreCounts (tokens : List (String Global)) (counts : BTreeMap (String Global) ℕ) : Type 0 where
+pub record AreCounts {S : Type 0} (tokens : List (String Global)) (counts : HashMap (String Global) ℕ S) : Type 0 where
   pub counted : (text : Bytes) → unwrap_or (get_by_text counts text) 0 ≡ count_by (λ token. bytes_eq text (string_bytes token)) tokens
   pub positive : (text : Bytes) → get_by_text counts text ≢ Some 0
 

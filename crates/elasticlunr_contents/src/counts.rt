@@ -1,6 +1,6 @@
 //! How often each token of a field stands there, and the postings that this makes.
-ghost use Rattle.std.specs.Prelude.{IfOk, OnOk, IsOkUnless, string_cmp};
-ghost use Rattle.std.specs.BTreeMap.{IsOrdered};
+ghost use Rattle.std.specs.Prelude.{IfOk, OnOk, IsOkUnless, string_eq};
+ghost use Rattle.std.specs.HashMap.{IsUnique};
 ghost use Rattle.elasticlunr_error.specs.declared.error.IndexError.TheVariants.{Memory};
 ghost use Rattle.elasticlunr_trie.specs.Table.{told_tokens};
 ghost use Rattle.elasticlunr_contents.specs.Counted.{AreCounts, AreRooted, counted_texts, Posts};
@@ -9,14 +9,14 @@ use elasticlunr_error::IndexError;
 use elasticlunr_history::root;
 use elasticlunr_trie::InvertedIndex;
 use std::alloc::{AllocError, Global};
-use std::collections::BTreeMap;
+use std::collections::HashMap;
 
-/// How often each text stands among the tokens.
-pub fn count_tokens(alloc: Global, tokens: Vec<String>) -> Result<BTreeMap<String, u64>, IndexError>
+/// How often each text stands among the tokens. The cost is one look-up by hash for each.
+pub fn count_tokens(alloc: Global, tokens: Vec<String>) -> Result<HashMap<String, u64>, IndexError>
     ensures memory { IsOkUnless result Memory }
     ensures counted { IfOk result (AreCounts tokens.items) }
 {
-    let mut counts = BTreeMap::new(alloc);
+    let mut counts = HashMap::with_capacity(alloc, tokens.len())?;
     for token in tokens {
         *counts.entry(token)?.or_insert(0) += 1;
     }
@@ -26,9 +26,9 @@ pub fn count_tokens(alloc: Global, tokens: Vec<String>) -> Result<BTreeMap<Strin
 /// Each counted token with the root of its count.
 fn rooted_counts<'a>(
     alloc: Global,
-    counts: &'a BTreeMap<String, u64>,
+    counts: &'a HashMap<String, u64>,
 ) -> Result<Vec<(&'a str, u64)>, AllocError>
-    ensures ordered { IsOrdered string_cmp counts.now }
+    ensures unique { IsUnique string_eq counts.now }
     ensures rooted { IfOk result (λ v. AreRooted (counted_texts counts.now.entries) (told_tokens v.items)) }
 {
     let mut rooted = Vec::with_capacity(alloc, counts.len())?;
@@ -44,10 +44,10 @@ pub fn add_postings(
     alloc: Global,
     trie: &mut InvertedIndex,
     doc_ref: &str,
-    counts: &BTreeMap<String, u64>,
+    counts: &HashMap<String, u64>,
 ) -> Result<(), IndexError>
     ensures memory { IsOkUnless result Memory }
-    ensures ordered { IsOrdered string_cmp counts.now }
+    ensures unique { IsUnique string_eq counts.now }
     ensures posted { OnOk result (Posts trie.old trie.new doc_ref.now (counted_texts counts.now.entries)) }
 {
     let rooted = rooted_counts(alloc, counts)?;

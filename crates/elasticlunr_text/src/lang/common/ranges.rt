@@ -1,11 +1,12 @@
-//! Ranges of characters, looked up by halves.
+//! Ranges of characters, looked up one by one for ASCII and by halves otherwise.
 ghost use Rattle.std.specs.Prelude.{◌≡◌, ◌+◌, ◌<◌, ◌≤◌, All, AllPairs, ℕ, IfOk};
 ghost use Rattle.ucd_table.specs.Rows.{in_ranges, AreRanges};
 ghost use Rattle.elasticlunr_text.specs.Ranges.{AreApart};
 
 use std::alloc::{AllocError, Global};
 
-/// Ranges of characters, in order, with a gap between any two. A character is looked up by halves.
+/// Ranges of characters, in order, with a gap between any two. A character of ASCII is looked up from the first range on,
+/// and any other by halves.
 #[derive(Drop)]
 pub struct Ranges {
     ranges: Vec<(u32, u32)>,
@@ -40,17 +41,32 @@ impl Ranges {
         Ok(Ranges { ranges: joined })
     }
 
-    /// Looks the character up by halves.
+    /// Looks the character up: by halves, but for ASCII, whose few ranges come first.
     pub fn contains(&self, c: char) -> bool
         ensures { result ≡ in_ranges self.now.ranges.items c }
     {
         let code = c as u32;
+        if c.is_ascii() {
+            return self.contains_early(code);
+        }
         let ranges = self.ranges.as_slice();
         let at = ranges.partition_point(|range| range.1 < code);
         match ranges.get(at) {
             Some(range) => range.0 <= code,
             None => false,
         }
+    }
+
+    /// Looks the code point up from the first range on.
+    fn contains_early(&self, code: u32) -> bool
+        ensures { result ≡ in_ranges self.now.ranges.items code }
+    {
+        for range in self.ranges.as_slice() {
+            if code <= range.1 {
+                return range.0 <= code;
+            }
+        }
+        false
     }
 
     /// The same ranges.

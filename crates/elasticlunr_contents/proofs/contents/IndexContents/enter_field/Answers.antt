@@ -18,7 +18,7 @@ returns-clause-table c =
     subst (λ o. OnOk c.add_postings.result ((before after : Table) → slice_get c.args.self.now.tries.items c.args.i ≡ Some before → slice_get (set c.args.self.now.tries.items c.args.i c.add_postings.new.trie) c.args.i ≡ Some after
     → ((token : Text) → posting before token c.args.doc_ref.now ≡ None) → ReplacesPostings before after c.args.doc_ref.now (texts_left o))) (sym c.in-Some.is)
     (on_ok_weaker c.add_postings.result
-    (replaced_at c.in-Some.tokens.items c.in_ok-counts.counts c.in_ok-counts.ensures.counted c.add_postings.ensures.ordered c.args.self.now.tries.items c.args.i c.index_mut.result.now c.add_postings.new.trie c.args.doc_ref.now inside read)
+    (replaced_at c.in-Some.tokens.items c.in_ok-counts.counts c.in_ok-counts.ensures.counted c.add_postings.ensures.unique c.args.self.now.tries.items c.args.i c.index_mut.result.now c.add_postings.new.trie c.args.doc_ref.now inside read)
     c.add_postings.ensures.posted)
 
 pub returns-clause-others : goal.returns-clause-others

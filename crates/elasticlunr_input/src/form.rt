@@ -11,6 +11,7 @@ ghost use Rattle.serde_json.specs.View.{view};
 
 use crate::message::{Trouble, not_json};
 use elasticlunr_job::lines::is_blank;
+use elasticlunr_parse::lines::is_space;
 use serde_json::Value;
 use std::alloc::{AllocError, Global};
 
@@ -94,13 +95,6 @@ fn first_byte(line: &[u8]) -> Option<u8>
     ensures { result ≡ find (λ b. not (is_space b)) line.now }
 {
     line.iter().copied().find(|byte| !is_space(*byte))
-}
-
-/// Whether a byte is a space, a tab, a carriage return or a line feed.
-fn is_space(byte: u8) -> bool
-    ensures { result ≡ is_space byte }
-{
-    byte == b' ' || byte == b'\t' || byte == b'\r' || byte == b'\n'
 }
 
 /// The form that a first line with this value tells.

@@ -8,7 +8,7 @@ ghost use Rattle.elasticlunr_place.specs.Members.{follow, move, move_told, part_
 
 use crate::place::{Place, place_at};
 use crate::seek::{Span, seek};
-use elasticlunr_parse::lines::is_blank;
+use elasticlunr_parse::lines::{is_blank, is_space};
 use serde_json::Value;
 use std::alloc::{AllocError, Global};
 
@@ -66,13 +66,6 @@ fn begins_at(text: &[u8], start: usize) -> bool
         Some(byte) => !is_space(*byte),
         None => false,
     }
-}
-
-/// Whether a byte is white space.
-fn is_space(byte: u8) -> bool
-    ensures { result ≡ is_space byte }
-{
-    byte == b' ' || byte == b'\t' || byte == b'\r' || byte == b'\n'
 }
 
 /// Whether these bytes are read as what the path leads to.

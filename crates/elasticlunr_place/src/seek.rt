@@ -2,7 +2,7 @@
 ghost use Rattle.std.specs.Prelude.{◌<◌, length, OnOk};
 
 use crate::member::Step;
-use elasticlunr_parse::lines::is_blank;
+use elasticlunr_parse::lines::{is_blank, is_space};
 use json::{Invalid, MAX_DEPTH, Reader, Scratch, Token};
 use std::alloc::{AllocError, Global};
 
@@ -115,5 +115,5 @@ fn trimmed(text: &[u8], span: Span) -> Span {
 
 /// Whether a byte may stand between two values.
 fn is_between(byte: u8) -> bool {
-    byte == b',' || is_blank(&[byte])
+    byte == b',' || is_space(byte)
 }

@@ -14,16 +14,16 @@ use Rattle.elasticlunr_parse.specs.Reading.{reading}
 use Rattle.elasticlunr_parse.specs.declared.objects.Problem.{Problem}
 use Rattle.std.specs.Fmt.{option_append}
 use Rattle.elasticlunr_job.specs.Answer.{FailsAt}
-use Rattle.elasticlunr_job.specs.Lines.{FailsLines, HasLineProblem, IsFirstNoDocument, IsLineOfLines, StopsAtLine}
-use Rattle.elasticlunr_job.specs.Objects.{job_of}
-use Rattle.elasticlunr_job.specs.declared.objects.ObjectsError.TheVariants as error
+use Rattle.elasticlunr_objects.specs.Lines.{FailsLines, HasLineProblem, IsFirstNoDocument, IsLineOfLines, StopsAtLine}
+use Rattle.elasticlunr_objects.specs.Objects.{job_of}
+use Rattle.elasticlunr_objects.specs.declared.objects.ObjectsError.TheVariants as error
 use Rattle.elasticlunr_parse.specs.declared.outcome.Refusal.{Refusal}
-use Rattle.elasticlunr_job.specs.declared.lines.LastLine.{LastLine}
-use Rattle.elasticlunr_job.specs.declared.lines.LinesError.{LinesError}
-use Rattle.elasticlunr_job.specs.declared.lines.LinesError.TheVariants as lines_error
+use Rattle.elasticlunr_objects.specs.declared.lines.LastLine.{LastLine}
+use Rattle.elasticlunr_objects.specs.declared.lines.LinesError.{LinesError}
+use Rattle.elasticlunr_objects.specs.declared.lines.LinesError.TheVariants as lines_error
 use Rattle.elasticlunr_parse.proofs.WholeLines.{filled_append, filled_front}
-use Rattle.elasticlunr_job.proofs.FilledLines.{blank_first, filled_first}
-use Rattle.elasticlunr_job.proofs.ReadLines.{one_fed, one_last}
+use Rattle.elasticlunr_objects.proofs.FilledLines.{blank_first, filled_first}
+use Rattle.elasticlunr_objects.proofs.ReadLines.{one_fed, one_last}
 use Rattle.elasticlunr_place.specs.Members.{Move, IsPlaceOf}
 use Rattle.elasticlunr_place.specs.Places.{IsPlaceIn, is_line_feed, place_at}
 use Rattle.elasticlunr_place.specs.Whole.{below}

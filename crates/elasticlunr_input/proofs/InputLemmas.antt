@@ -1,7 +1,7 @@
 -- On an input in the form that its head tells.
 use Rattle.std.proofs.Common.{◌≡◌, ◌++◌, Option, None, Some, IfSome, Result, Ok, Err, IfErr, inr, sym, subst, ◌∙◌}
 use Rattle.elasticlunr_text.specs.Text.{Bytes}
-use Rattle.elasticlunr_job.specs.declared.lines.LastLine.{LastLine}
+use Rattle.elasticlunr_objects.specs.declared.lines.LastLine.{LastLine}
 use Rattle.elasticlunr_input.specs.Forms.{asked_or_told, IsIndexAs, IsIndexOf, IsRefusedInput}
 use Rattle.elasticlunr_input.specs.Inputs.{HasHead, IsHeadOf}
 use Rattle.elasticlunr_input.specs.Lines.{IsLinesLineWith}

@@ -6,11 +6,11 @@ use Rattle.elasticlunr_text.specs.Text.{Bytes}
 use Rattle.elasticlunr_job.specs.Answer.{FailsAt}
 use Rattle.elasticlunr_parse.specs.Job.{Document}
 use Rattle.elasticlunr_parse.specs.Lines.{readings, AreLineValues}
-use Rattle.elasticlunr_job.specs.Lines.{IsLineOfLines}
+use Rattle.elasticlunr_objects.specs.Lines.{IsLineOfLines}
 use Rattle.elasticlunr_parse.specs.Objects as objects
 use Rattle.elasticlunr_parse.specs.Objects.{AreDocumentsOf, HasProblem, IsDocumentOf, IsFirstProblem}
-use Rattle.elasticlunr_job.specs.Objects.{IsLineOfObjects, job_of}
-use Rattle.elasticlunr_job.specs.declared.objects.ObjectsError.TheVariants as error
+use Rattle.elasticlunr_objects.specs.Objects.{IsLineOfObjects, job_of}
+use Rattle.elasticlunr_objects.specs.declared.objects.ObjectsError.TheVariants as error
 use Rattle.elasticlunr_parse.specs.declared.objects.Problem.{Problem}
 use Rattle.elasticlunr_parse.specs.declared.outcome.Refusal.{Refusal}
 use Rattle.elasticlunr_parse.specs.declared.outcome.Refusal.TheVariants.{NotJson, NotAJob, UnknownLanguage, DuplicateField, TooManyValues}

@@ -7,7 +7,7 @@ use Rattle.elasticlunr_parse.specs.Lines.{filled_lines, is_filled}
 use Rattle.elasticlunr_parse.specs.Objects.{Options, HasProblem}
 use Rattle.elasticlunr_parse.specs.Reading.{reading}
 use Rattle.elasticlunr_parse.specs.declared.objects.Problem.{Problem}
-use Rattle.elasticlunr_job.specs.declared.lines.LastLine.{LastLine}
+use Rattle.elasticlunr_objects.specs.declared.lines.LastLine.{LastLine}
 use Rattle.elasticlunr_place.specs.Members.{IsPlaceOf}
 use Rattle.elasticlunr_place.specs.Places.{IsPlaceIn}
 use Rattle.elasticlunr_place.specs.Whole.{below}

@@ -7,10 +7,10 @@ use Rattle.elasticlunr_text.specs.Text.{Bytes}
 use Rattle.elasticlunr_parse.specs.Lines.{readings, AreLineValues}
 use Rattle.elasticlunr_parse.specs.Job.{Document}
 use Rattle.elasticlunr_parse.specs.Objects.{Options, AreDocumentsOf}
-use Rattle.elasticlunr_job.specs.Objects.{FailsObjects}
+use Rattle.elasticlunr_objects.specs.Objects.{FailsObjects}
 use Rattle.elasticlunr_parse.specs.declared.outcome.Refusal.{Refusal}
-use Rattle.elasticlunr_job.specs.declared.objects.ObjectsError.{ObjectsError}
-use Rattle.elasticlunr_job.specs.declared.objects.ObjectsError.TheVariants as error
+use Rattle.elasticlunr_objects.specs.declared.objects.ObjectsError.{ObjectsError}
+use Rattle.elasticlunr_objects.specs.declared.objects.ObjectsError.TheVariants as error
 use Rattle.elasticlunr_input.specs.Asked.{options_of}
 use Rattle.elasticlunr_input.specs.Settled.{Settings, IsRefusedWith}
 use Rattle.elasticlunr_input.specs.declared.message.Trouble.{Trouble}

@@ -1,6 +1,6 @@
 //! The index of documents that are objects in an array, and what is wrong with documents.
 ghost use Rattle.std.specs.Prelude.{◌≡◌, ◌-◌, ◌∷◌, None, map, take, length, string_bytes, if◌then◌else◌, IfOk, IfErr, IfSome};
-ghost use Rattle.elasticlunr_job.specs.Objects.{IsLineOfObjects};
+ghost use Rattle.elasticlunr_objects.specs.Objects.{IsLineOfObjects};
 ghost use Rattle.elasticlunr_parse.specs.ObjectsTold.{options_told, texts_told};
 ghost use Rattle.elasticlunr_input.specs.FaultPlaces.{is_of_member, problem_key, problem_path, IsPlaceInObjects};
 ghost use Rattle.elasticlunr_place.specs.Members.{item, IsPlaceOf};
@@ -14,7 +14,7 @@ use crate::language::unknown_language;
 use crate::message::{Message, Trouble, kind_words, unplaced};
 use crate::notes::Notes;
 use crate::tokens::Tokens;
-use elasticlunr_job::objects::{ObjectsError, Options, Problem, object_of, objects_line};
+use elasticlunr_objects::objects::{ObjectsError, Options, Problem, object_of, objects_line};
 use elasticlunr_job::outcome::Refusal;
 use elasticlunr_place::member::{Step, place_of};
 use elasticlunr_place::place::Place;

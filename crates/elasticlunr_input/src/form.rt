@@ -10,7 +10,7 @@ ghost use Rattle.elasticlunr_input.specs.declared.form.Form.{Form};
 ghost use Rattle.serde_json.specs.View.{view};
 
 use crate::message::{Trouble, not_json};
-use elasticlunr_job::lines::is_blank;
+use elasticlunr_objects::lines::is_blank;
 use elasticlunr_parse::lines::is_space;
 use serde_json::Value;
 use std::alloc::{AllocError, Global};

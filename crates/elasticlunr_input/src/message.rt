@@ -5,7 +5,7 @@ ghost use Rattle.elasticlunr_place.specs.Places.{IsOffsetOf, IsPlaceIn};
 ghost use Rattle.elasticlunr_input.specs.Inputs.{IsLowered};
 
 use elasticlunr_job::kind::{Kind, kind_of};
-use elasticlunr_job::lines::is_blank;
+use elasticlunr_objects::lines::is_blank;
 use elasticlunr_place::member::{Step, place_of};
 use elasticlunr_place::place::{Place, below, line_start, place_at};
 use serde_json::{Error, Value};

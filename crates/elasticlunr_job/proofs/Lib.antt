@@ -7,7 +7,3 @@ pub mod OneJob
 pub mod OneLanguage
 pub mod OneLine
 pub mod OneAnswer
-pub mod Several
-pub mod FilledLines
-pub mod ReadLines
-pub mod LineStops

@@ -38,7 +38,7 @@ fn text_of(index: &Index<AnyLanguage>, pretty: bool) -> Result<String, IndexErro
 }
 
 /// The text of an index, and a line feed.
-pub(crate) fn line_of(index: &Index<AnyLanguage>, pretty: bool) -> Result<String, Stop>
+pub fn line_of(index: &Index<AnyLanguage>, pretty: bool) -> Result<String, Stop>
     ensures ok { IfOk result (λ line_text. (commands : Commands)
         → StandsFor language_name name_text index.now commands
         → (text : Bytes)

@@ -7,8 +7,6 @@
 
 pub mod answer;
 pub mod laws;
-pub mod lines;
-pub mod objects;
 pub mod outcome;
 
 pub use elasticlunr_parse::{fault, job, key, kind};

@@ -3,7 +3,7 @@ use Rattle.serde_json.specs.View.{view}
 use Rattle.elasticlunr_text.specs.Text.{Bytes}
 use Rattle.elasticlunr_parse.specs.LineRead.{AreAll}
 use Rattle.elasticlunr_parse.specs.ObjectsTold.{options_told}
-use Rattle.elasticlunr_job.specs.Lines.{IsLineOfLines}
+use Rattle.elasticlunr_objects.specs.Lines.{IsLineOfLines}
 use Rattle.elasticlunr_input.specs.Inputs.{IsRefusedFirst}
 use Rattle.elasticlunr_input.specs.Settled.{settings_told}
 use Rattle.elasticlunr_input.specs.declared.message.Trouble.TheVariants.{Memory}

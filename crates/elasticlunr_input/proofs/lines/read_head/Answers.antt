@@ -3,7 +3,7 @@ use Rattle.std.specs.Io.KnownBytes.{Consumes}
 use Rattle.elasticlunr_parse.specs.LineRead.{fed}
 use Rattle.elasticlunr_parse.specs.Lines.{filled_lines, is_blank}
 use Rattle.elasticlunr_parse.proofs.LineParts.{consumes_more}
-use Rattle.elasticlunr_job.proofs.ReadLines.{feeds_next}
+use Rattle.elasticlunr_objects.proofs.ReadLines.{feeds_next}
 use Rattle.elasticlunr_input.proofs.HeadLemmas.{blank_next, head_filled, head_last}
 use Rattle.elasticlunr_input.proofs.lines.read_head.Goals as goal
 

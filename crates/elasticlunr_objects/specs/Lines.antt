@@ -9,10 +9,10 @@ use Rattle.elasticlunr_parse.specs.LineRead.{IsLineAfter}
 use Rattle.elasticlunr_parse.specs.Lines.{AreLineValues}
 use Rattle.elasticlunr_parse.specs.Objects.{Options, AreDocumentsOf, HasProblem}
 use Rattle.elasticlunr_parse.specs.Reading.{reading}
-use Rattle.elasticlunr_job.specs.Objects.{IsLineOfObjects, job_of}
-use Rattle.elasticlunr_job.specs.declared.lines.LastLine.{LastLine}
-use Rattle.elasticlunr_job.specs.declared.lines.LinesError.{LinesError}
-use Rattle.elasticlunr_job.specs.declared.lines.LinesError.TheVariants as error
+use Rattle.elasticlunr_objects.specs.Objects.{IsLineOfObjects, job_of}
+use Rattle.elasticlunr_objects.specs.declared.lines.LastLine.{LastLine}
+use Rattle.elasticlunr_objects.specs.declared.lines.LinesError.{LinesError}
+use Rattle.elasticlunr_objects.specs.declared.lines.LinesError.TheVariants as error
 use Rattle.elasticlunr_parse.specs.declared.objects.Problem.{Problem}
 use Rattle.elasticlunr_parse.specs.declared.objects.Problem.TheVariants.{NotJson}
 

@@ -2,8 +2,8 @@
 use Rattle.std.specs.Prelude.{ℕ}
 use Rattle.elasticlunr_parse.specs.declared.objects.AddError.{AddError}
 use Rattle.elasticlunr_parse.specs.declared.objects.AddError.TheVariants as add
-use Rattle.elasticlunr_job.specs.declared.objects.ObjectsError.{ObjectsError}
-use Rattle.elasticlunr_job.specs.declared.objects.ObjectsError.TheVariants as error
+use Rattle.elasticlunr_objects.specs.declared.objects.ObjectsError.{ObjectsError}
+use Rattle.elasticlunr_objects.specs.declared.objects.ObjectsError.TheVariants as error
 
 -- how a document with this number that is not added stops all
 abbrev pub stop_at : ℕ → AddError → ObjectsError

@@ -1,8 +1,8 @@
 use Rattle.std.proofs.Common.{map, ap, ◌∙◌}
 use Rattle.std.proofs.lemmas.List.{take_all}
-use Rattle.elasticlunr_job.specs.Objects as spec
+use Rattle.elasticlunr_objects.specs.Objects as spec
 use Rattle.elasticlunr_parse.specs.ObjectsTold.{object_told, options_told, texts_told}
-use Rattle.elasticlunr_job.proofs.objects.job_of.Goals as goal
+use Rattle.elasticlunr_objects.proofs.objects.job_of.Goals as goal
 
 pub returns : goal.returns
 returns c =

@@ -6,8 +6,8 @@ use Rattle.elasticlunr_lang.specs.Known.{language_name}
 use Rattle.elasticlunr_job.specs.Commands.{language_tokens}
 use Rattle.elasticlunr_parse.specs.LineRead.{AreWhole}
 use Rattle.elasticlunr_parse.specs.ObjectsTold.{options_told}
-use Rattle.elasticlunr_job.proofs.ReadLines.{Added}
-use Rattle.elasticlunr_job.proofs.lines.fill_and_print.Given as goal
+use Rattle.elasticlunr_objects.proofs.ReadLines.{Added}
+use Rattle.elasticlunr_objects.proofs.lines.fill_and_print.Given as goal
 
 -- the lines so far were read and added
 abbrev pub invariant-lines : goal.invariant-lines

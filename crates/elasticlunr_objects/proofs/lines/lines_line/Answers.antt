@@ -2,13 +2,13 @@ use Rattle.std.proofs.Common.{◌≡◌, [], Err, true, false, refl, ap, ◌∙�
 use Rattle.elasticlunr.specs.Builder.{chosen}
 use Rattle.elasticlunr.specs.Fields.{all_differ}
 use Rattle.elasticlunr.specs.Index.{choices_of}
-use Rattle.elasticlunr_job.specs.Objects.{job_of}
+use Rattle.elasticlunr_objects.specs.Objects.{job_of}
 use Rattle.elasticlunr_parse.specs.ObjectsTold.{options_told, texts_told}
 use Rattle.elasticlunr_job.proofs.Building.{begun_for, built_for, given_told, told_fields}
-use Rattle.elasticlunr_job.proofs.FilledLines.{documents_fit}
-use Rattle.elasticlunr_job.proofs.LineStops.{fails_lines, twice_exit}
+use Rattle.elasticlunr_objects.proofs.FilledLines.{documents_fit}
+use Rattle.elasticlunr_objects.proofs.LineStops.{fails_lines, twice_exit}
 use Rattle.elasticlunr_job.proofs.Stops.{err_more, no_language, ok_more}
-use Rattle.elasticlunr_job.proofs.lines.lines_line.Goals as goal
+use Rattle.elasticlunr_objects.proofs.lines.lines_line.Goals as goal
 
 pub returns-in_default-clause-err : goal.returns-in_default-clause-err
 returns-in_default-clause-err g c = no_language c.args.options.now.language.now (c.in_default.ensures.none refl)

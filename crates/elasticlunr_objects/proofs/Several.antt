@@ -8,12 +8,12 @@ use Rattle.serde_json.specs.declared.value.Value.{Value}
 use Rattle.elasticlunr_parse.specs.Job.{Document}
 use Rattle.elasticlunr_parse.specs.Objects as objects
 use Rattle.elasticlunr_parse.specs.Objects.{AreDocumentsOf, HasProblem, IsFirstProblem}
-use Rattle.elasticlunr_job.specs.Objects.{FailsObjects}
+use Rattle.elasticlunr_objects.specs.Objects.{FailsObjects}
 use Rattle.elasticlunr_parse.specs.ObjectsTold.{IsMemoryOr}
-use Rattle.elasticlunr_job.specs.ObjectsTold.{stop_at}
+use Rattle.elasticlunr_objects.specs.ObjectsTold.{stop_at}
 use Rattle.elasticlunr_parse.specs.declared.objects.AddError.{AddError}
 use Rattle.elasticlunr_parse.specs.declared.objects.AddError.TheVariants as add
-use Rattle.elasticlunr_job.specs.declared.objects.ObjectsError.{ObjectsError}
+use Rattle.elasticlunr_objects.specs.declared.objects.ObjectsError.{ObjectsError}
 use Rattle.elasticlunr_parse.specs.declared.objects.Problem.{Problem}
 use Rattle.elasticlunr_parse.proofs.FieldTexts.{AllZip-push}
 use Rattle.elasticlunr_job.proofs.Filling.{map_more}

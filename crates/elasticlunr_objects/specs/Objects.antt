@@ -5,8 +5,8 @@ use Rattle.elasticlunr_text.specs.Text.{Bytes}
 use Rattle.elasticlunr_job.specs.Answer.{FailsAt, IsLineOf}
 use Rattle.elasticlunr_parse.specs.Job.{Document, Job}
 use Rattle.elasticlunr_parse.specs.Objects.{Options, AreDocumentsOf, IsFirstProblem}
-use Rattle.elasticlunr_job.specs.declared.objects.ObjectsError.{ObjectsError}
-use Rattle.elasticlunr_job.specs.declared.objects.ObjectsError.TheVariants as error
+use Rattle.elasticlunr_objects.specs.declared.objects.ObjectsError.{ObjectsError}
+use Rattle.elasticlunr_objects.specs.declared.objects.ObjectsError.TheVariants as error
 
 -- the job of these documents
 abbrev pub job_of : Options → List Document → Job

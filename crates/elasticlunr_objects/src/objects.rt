@@ -6,11 +6,11 @@ ghost use Rattle.serde_json.specs.View.{view};
 ghost use Rattle.elasticlunr_parse.specs.JobTold.{document_told, job_told};
 ghost use Rattle.elasticlunr_parse.specs.Objects.{AreDocumentsOf};
 ghost use Rattle.elasticlunr_parse.specs.ObjectsTold.{object_told, options_told};
-ghost use Rattle.elasticlunr_job.specs.Objects.{FailsObjects, IsLineOfObjects, job_of};
-ghost use Rattle.elasticlunr_job.specs.ObjectsTold.{stop_at};
+ghost use Rattle.elasticlunr_objects.specs.Objects.{FailsObjects, IsLineOfObjects, job_of};
+ghost use Rattle.elasticlunr_objects.specs.ObjectsTold.{stop_at};
 
-use crate::answer::job_line;
-use crate::outcome::{Refusal, Stop};
+use elasticlunr_job::answer::job_line;
+use elasticlunr_job::outcome::{Refusal, Stop};
 use elasticlunr_parse::job::{Document, Job};
 pub use elasticlunr_parse::objects::{AddError, Object, Options, Problem, object_of};
 use serde_json::Value;
@@ -27,7 +27,7 @@ pub enum ObjectsError {
 }
 
 impl From<AllocError> for ObjectsError {
-    ghost use Rattle.elasticlunr_job.specs.declared.objects.ObjectsError.TheVariants.{Memory};
+    ghost use Rattle.elasticlunr_objects.specs.declared.objects.ObjectsError.TheVariants.{Memory};
     ghost use Rattle.std.specs.Prelude.{◌≡◌};
 
     ghost from_gives = { λ _ e. e ≡ Memory };
@@ -38,7 +38,7 @@ impl From<AllocError> for ObjectsError {
 }
 
 impl<T: Drop> From<AllocFailed<T>> for ObjectsError {
-    ghost use Rattle.elasticlunr_job.specs.declared.objects.ObjectsError.TheVariants.{Memory};
+    ghost use Rattle.elasticlunr_objects.specs.declared.objects.ObjectsError.TheVariants.{Memory};
     ghost use Rattle.std.specs.Prelude.{◌≡◌};
 
     ghost from_gives = { λ _ e. e ≡ Memory };

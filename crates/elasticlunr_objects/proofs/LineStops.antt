@@ -7,13 +7,13 @@ use Rattle.elasticlunr_text.specs.IndexError.{IndexError}
 use Rattle.elasticlunr_text.specs.IndexError.TheVariants as index
 use Rattle.elasticlunr.specs.Fields.{all_differ}
 use Rattle.elasticlunr_job.specs.Answer.{NamesLanguage}
-use Rattle.elasticlunr_job.specs.Lines.{FailsLines, HasFitOptions, HasLineProblem, StopsAtLine}
-use Rattle.elasticlunr_job.specs.LinesTold.{index_error_of, StopsFilling, StopsOn}
+use Rattle.elasticlunr_objects.specs.Lines.{FailsLines, HasFitOptions, HasLineProblem, StopsAtLine}
+use Rattle.elasticlunr_objects.specs.LinesTold.{index_error_of, StopsFilling, StopsOn}
 use Rattle.elasticlunr_parse.specs.Objects.{Options, HasProblem}
 use Rattle.elasticlunr_parse.specs.Reading.{reading}
-use Rattle.elasticlunr_job.specs.declared.lines.LastLine.{LastLine}
-use Rattle.elasticlunr_job.specs.declared.lines.LinesError.{LinesError}
-use Rattle.elasticlunr_job.specs.declared.lines.LinesError.TheVariants.{Memory, Refused, Document, Device}
+use Rattle.elasticlunr_objects.specs.declared.lines.LastLine.{LastLine}
+use Rattle.elasticlunr_objects.specs.declared.lines.LinesError.{LinesError}
+use Rattle.elasticlunr_objects.specs.declared.lines.LinesError.TheVariants.{Memory, Refused, Document, Device}
 use Rattle.elasticlunr_parse.specs.declared.objects.Problem.{Problem}
 use Rattle.elasticlunr_parse.specs.declared.objects.Problem.TheVariants.{NotJson}
 

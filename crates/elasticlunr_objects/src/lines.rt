@@ -12,18 +12,18 @@ ghost use Rattle.elasticlunr_job.specs.Answer.{line, printed_text};
 ghost use Rattle.elasticlunr_text.specs.Text.{Bytes};
 ghost use Rattle.elasticlunr_job.specs.Commands.{language_tokens};
 ghost use Rattle.elasticlunr_job.specs.Filled.{IsBuiltFor};
-ghost use Rattle.elasticlunr_job.specs.Lines.{FailsLines, IsLineOfLines};
-ghost use Rattle.elasticlunr_job.specs.LinesTold.{IsFilledLine, StopsFilling, StopsOn};
-ghost use Rattle.elasticlunr_job.specs.Objects.{job_of};
+ghost use Rattle.elasticlunr_objects.specs.Lines.{FailsLines, IsLineOfLines};
+ghost use Rattle.elasticlunr_objects.specs.LinesTold.{IsFilledLine, StopsFilling, StopsOn};
+ghost use Rattle.elasticlunr_objects.specs.Objects.{job_of};
 ghost use Rattle.elasticlunr_parse.specs.LineRead.{AreAll};
 ghost use Rattle.elasticlunr_parse.specs.Objects.{HasProblem, IsDocumentOf};
 ghost use Rattle.elasticlunr_parse.specs.ObjectsTold.{object_told, options_told};
 ghost use Rattle.elasticlunr_parse.specs.Reading.{reading};
 ghost use Rattle.serde_json.specs.View.{view};
 
-use crate::answer::line_of;
+use elasticlunr_job::answer::line_of;
 use crate::objects::{AddError, Object, Options, Problem, object_of};
-use crate::outcome::{Refusal, Stop};
+use elasticlunr_job::outcome::{Refusal, Stop};
 use elasticlunr::lang::{AnyLanguage, from_name};
 use elasticlunr::laws::calls::an_index_makes_what_its_language_makes;
 use elasticlunr::{Index, IndexBuilder, IndexError};
@@ -75,7 +75,7 @@ pub enum LinesError {
 }
 
 impl From<AllocError> for LinesError {
-    ghost use Rattle.elasticlunr_job.specs.declared.lines.LinesError.TheVariants.{Memory};
+    ghost use Rattle.elasticlunr_objects.specs.declared.lines.LinesError.TheVariants.{Memory};
     ghost use Rattle.std.specs.Prelude.{◌≡◌};
 
     ghost from_gives = { λ _ e. e ≡ Memory };
@@ -86,7 +86,7 @@ impl From<AllocError> for LinesError {
 }
 
 impl From<io::Error> for LinesError {
-    ghost use Rattle.elasticlunr_job.specs.declared.lines.LinesError.TheVariants.{Device};
+    ghost use Rattle.elasticlunr_objects.specs.declared.lines.LinesError.TheVariants.{Device};
     ghost use Rattle.std.specs.Prelude.{◌≡◌};
 
     ghost from_gives = { λ failed e. e ≡ Device failed };
@@ -98,7 +98,7 @@ impl From<io::Error> for LinesError {
 
 impl From<IndexError> for LinesError {
     ghost use Rattle.std.specs.Prelude.{◌≡◌};
-    ghost use Rattle.elasticlunr_job.specs.LinesTold.{index_error_of};
+    ghost use Rattle.elasticlunr_objects.specs.LinesTold.{index_error_of};
 
     ghost from_gives = { λ refused e. e ≡ index_error_of refused };
 

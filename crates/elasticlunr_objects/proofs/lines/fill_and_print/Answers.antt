@@ -7,12 +7,12 @@ use Rattle.elasticlunr_parse.specs.Lines.{is_blank}
 use Rattle.elasticlunr_parse.specs.ObjectsTold.{object_told, options_told}
 use Rattle.elasticlunr_parse.specs.Reading.{reading}
 use Rattle.elasticlunr_parse.proofs.LineParts.{all_more, consumes_more, consumes_none}
-use Rattle.elasticlunr_job.specs.declared.lines.LastLine.{LastLine}
+use Rattle.elasticlunr_objects.specs.declared.lines.LastLine.{LastLine}
 use Rattle.elasticlunr_job.proofs.Alike.{document_alike, plan_alike}
-use Rattle.elasticlunr_job.proofs.LineStops.{no_document, stops_filling, unread_line}
-use Rattle.elasticlunr_job.proofs.ReadLines.{added_blank, added_document, all_filled, begins_line, feeds_next, one_fed, one_last}
+use Rattle.elasticlunr_objects.proofs.LineStops.{no_document, stops_filling, unread_line}
+use Rattle.elasticlunr_objects.proofs.ReadLines.{added_blank, added_document, all_filled, begins_line, feeds_next, one_fed, one_last}
 use Rattle.elasticlunr_job.proofs.Stops.{ok_more}
-use Rattle.elasticlunr_job.proofs.lines.fill_and_print.Goals as goal
+use Rattle.elasticlunr_objects.proofs.lines.fill_and_print.Goals as goal
 
 pub lines-init : goal.lines-init
 lines-init g c = record {

@@ -17,8 +17,8 @@ use Rattle.elasticlunr.specs.Standing.{Plan}
 use Rattle.elasticlunr_job.specs.Answer.{line, printed_text}
 use Rattle.elasticlunr_job.specs.Commands.{in_order}
 use Rattle.elasticlunr_job.specs.Filled.{Follows, HasTaken, IsBuiltFor}
-use Rattle.elasticlunr_job.specs.LinesTold.{IsFilledLine}
-use Rattle.elasticlunr_job.specs.Objects.{job_of}
+use Rattle.elasticlunr_objects.specs.LinesTold.{IsFilledLine}
+use Rattle.elasticlunr_objects.specs.Objects.{job_of}
 use Rattle.elasticlunr_parse.specs.Job.{Document}
 use Rattle.elasticlunr_parse.specs.LineRead.{AreAll, AreWhole, Begins, HasNoFeed, fed}
 use Rattle.elasticlunr_parse.specs.Lines.{filled_lines, is_blank, is_filled, lines_of, readings, AreLineValues}
@@ -27,7 +27,7 @@ use Rattle.elasticlunr_parse.specs.Reading.{reading}
 use Rattle.elasticlunr_parse.proofs.FieldTexts.{AllZip-push}
 use Rattle.elasticlunr_parse.proofs.LineSplits.{split_none}
 use Rattle.elasticlunr_parse.proofs.WholeLines.{filled_append}
-use Rattle.elasticlunr_job.proofs.FilledLines.{blank_first, filled_first, taken_one}
+use Rattle.elasticlunr_objects.proofs.FilledLines.{blank_first, filled_first, taken_one}
 use Rattle.elasticlunr_job.proofs.Filling.{Makes, Standing}
 use Rattle.elasticlunr_job.proofs.Printing.{carried_line}
 

@@ -8,12 +8,12 @@ use Rattle.elasticlunr_lang.specs.declared.any.AnyLanguage.{AnyLanguage}
 use Rattle.elasticlunr_job.specs.Answer.{IsIndexLine}
 use Rattle.elasticlunr_parse.specs.Job.{Document}
 use Rattle.elasticlunr_parse.specs.Lines.{AreLineValues}
-use Rattle.elasticlunr_job.specs.Lines.{StopsAtLine}
+use Rattle.elasticlunr_objects.specs.Lines.{StopsAtLine}
 use Rattle.elasticlunr_parse.specs.Objects.{Options, AreDocumentsOf}
-use Rattle.elasticlunr_job.specs.Objects.{job_of}
-use Rattle.elasticlunr_job.specs.declared.lines.LastLine.{LastLine}
-use Rattle.elasticlunr_job.specs.declared.lines.LinesError.{LinesError}
-use Rattle.elasticlunr_job.specs.declared.lines.LinesError.TheVariants as error
+use Rattle.elasticlunr_objects.specs.Objects.{job_of}
+use Rattle.elasticlunr_objects.specs.declared.lines.LastLine.{LastLine}
+use Rattle.elasticlunr_objects.specs.declared.lines.LinesError.{LinesError}
+use Rattle.elasticlunr_objects.specs.declared.lines.LinesError.TheVariants as error
 use Rattle.elasticlunr_parse.specs.declared.objects.Problem.{Problem}
 use Rattle.elasticlunr_parse.specs.declared.outcome.Refusal.TheVariants as refusal
 

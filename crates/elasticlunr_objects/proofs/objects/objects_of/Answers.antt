@@ -1,8 +1,8 @@
 use Rattle.serde_json.specs.View.{view}
 use Rattle.elasticlunr_parse.specs.Objects.{IsDocumentOf}
 use Rattle.elasticlunr_parse.specs.ObjectsTold.{object_told, options_told}
-use Rattle.elasticlunr_job.proofs.Several.{fails_at, next_pair}
-use Rattle.elasticlunr_job.proofs.objects.objects_of.Goals as goal
+use Rattle.elasticlunr_objects.proofs.Several.{fails_at, next_pair}
+use Rattle.elasticlunr_objects.proofs.objects.objects_of.Goals as goal
 
 pub returns-in-Err-clause-err : goal.returns-in-Err-clause-err
 returns-in-Err-clause-err c = fails_at (options_told c.args.options.now) c.args.items.now c.loop-i.i c.index-items-i.result _ _ _ c.stop_at.ensures c.loop-i-test.true c.index-items-i.is c.loop-i.invariant c.in-Err.ensures.err

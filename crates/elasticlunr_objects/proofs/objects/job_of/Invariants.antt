@@ -1,7 +1,7 @@
 use Rattle.std.proofs.Common.{◌≡◌, map, take}
 use Rattle.elasticlunr_parse.specs.JobTold.{document_told}
 use Rattle.elasticlunr_parse.specs.ObjectsTold.{object_told}
-use Rattle.elasticlunr_job.proofs.objects.job_of.Given as goal
+use Rattle.elasticlunr_objects.proofs.objects.job_of.Given as goal
 
 -- the documents so far
 abbrev pub invariant-loop-object : goal.invariant-loop-object

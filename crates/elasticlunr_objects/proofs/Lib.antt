@@ -1,0 +1,4 @@
+pub mod Several
+pub mod FilledLines
+pub mod ReadLines
+pub mod LineStops

@@ -1,0 +1,4 @@
+pub mod Objects
+pub mod ObjectsTold
+pub mod Lines
+pub mod LinesTold

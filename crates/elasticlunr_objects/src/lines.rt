@@ -21,12 +21,12 @@ ghost use Rattle.elasticlunr_parse.specs.ObjectsTold.{object_told, options_told}
 ghost use Rattle.elasticlunr_parse.specs.Reading.{reading};
 ghost use Rattle.serde_json.specs.View.{view};
 
-use elasticlunr_job::answer::line_of;
 use crate::objects::{AddError, Object, Options, Problem, object_of};
-use elasticlunr_job::outcome::{Refusal, Stop};
 use elasticlunr::lang::{AnyLanguage, from_name};
 use elasticlunr::laws::calls::an_index_makes_what_its_language_makes;
 use elasticlunr::{Index, IndexBuilder, IndexError};
+use elasticlunr_job::answer::line_of;
+use elasticlunr_job::outcome::{Refusal, Stop};
 pub use elasticlunr_parse::lines::is_blank;
 use elasticlunr_parse::read::read_json;
 pub use elasticlunr_parse::reader::read_line;

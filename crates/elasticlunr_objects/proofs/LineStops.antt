@@ -1,5 +1,5 @@
 -- Why no index of lines is printed.
-use Rattle.std.proofs.Common.{◌≡◌, ◌⊎◌, ℕ, false, Option, Some, None, inl, inr, Result, Ok, Err, IfErr, sym, subst}
+use Rattle.std.proofs.Common.{◌≡◌, ◌⊎◌, ℕ, Bool, false, Option, Some, None, inl, inr, Result, Ok, Err, IfErr, sym, subst}
 use Rattle.std.specs.Result.{IsErrAnd}
 use Rattle.serde_json.specs.Data.{Data}
 use Rattle.elasticlunr_text.specs.Text.{Bytes}
@@ -8,7 +8,8 @@ use Rattle.elasticlunr_text.specs.IndexError.TheVariants as index
 use Rattle.elasticlunr.specs.Fields.{all_differ}
 use Rattle.elasticlunr_job.specs.Answer.{NamesLanguage}
 use Rattle.elasticlunr_objects.specs.Lines.{FailsLines, HasFitOptions, HasLineProblem, StopsAtLine}
-use Rattle.elasticlunr_objects.specs.LinesTold.{index_error_of, StopsFilling, StopsOn}
+use Rattle.elasticlunr_objects.specs.LinesTold.{index_error_of, IsTaken, IsUnreadAfter, StopsFilling, StopsOn, StopsReading}
+use Rattle.elasticlunr_parse.specs.Lines.{is_blank}
 use Rattle.elasticlunr_parse.specs.Objects.{Options, HasProblem}
 use Rattle.elasticlunr_parse.specs.Reading.{reading}
 use Rattle.elasticlunr_objects.specs.declared.lines.LastLine.{LastLine}
@@ -18,14 +19,29 @@ use Rattle.elasticlunr_parse.specs.declared.objects.Problem.{Problem}
 use Rattle.elasticlunr_parse.specs.declared.objects.Problem.TheVariants.{NotJson}
 
 -- the exit of a call
-exit_for : {T E : Type 0} (r : Result T E) (P : E → Type 0) (e : E) → IsErrAnd r (λ y. y ≡ e) → P e → IfErr r P
+pub exit_for : {T E : Type 0} (r : Result T E) (P : E → Type 0) (e : E) → IsErrAnd r (λ y. y ≡ e) → P e → IfErr r P
 exit_for (Ok x) P e is p = tt
 exit_for (Err x) P e is p = subst P (sym is) p
 
+-- the value of a line is none
+pub unread_after : (number : ℕ) (left now : Option Bytes) (line : Bytes) (more : Bool) → IsTaken left now line more → is_blank line ≡ false → (e : LinesError) → StopsOn number (λ problem. (reading line ≡ None) × (problem ≡ NotJson)) e
+    → StopsReading number (IsUnreadAfter left now line) e
+unread_after number left now line more taken filled Memory on = tt
+unread_after number left now line more taken filled (Device failed) on = tt
+unread_after number left now line more taken filled (Refused refusal) on = absurd on
+unread_after number left now line more taken filled (Document place problem) on = (on.0, (more, taken, filled, on.1.0, on.1.1))
+
+-- no reader failed
+pub on_line : (number : ℕ) (Has : Problem → Type 0) (e : LinesError) → StopsOn number Has e → StopsReading number Has e
+on_line number Has Memory on = tt
+on_line number Has (Device failed) on = tt
+on_line number Has (Refused refusal) on = absurd on
+on_line number Has (Document place problem) on = on
+
 -- a line with a problem
-pub stops_filling : {T : Type 0} (r : Result T LinesError) (options : Options) (left : Option Bytes) (last : LastLine) (number : ℕ) (Has : Problem → Type 0) (e : LinesError) → IsErrAnd r (λ y. y ≡ e) → ((problem : Problem) → Has problem → StopsAtLine options left last number problem) → StopsOn number Has e → IfErr r (StopsFilling options left last)
+pub stops_filling : {T : Type 0} (r : Result T LinesError) (options : Options) (left : Option Bytes) (last : LastLine) (number : ℕ) (Has : Problem → Type 0) (e : LinesError) → IsErrAnd r (λ y. y ≡ e) → ((problem : Problem) → Has problem → StopsAtLine options left last number problem) → StopsReading number Has e → IfErr r (StopsFilling options left last)
 stops_filling r options left last number Has e is first stops = exit_for r (StopsFilling options left last) e is (at e stops) where
-  at : (stop : LinesError) → StopsOn number Has stop → StopsFilling options left last stop
+  at : (stop : LinesError) → StopsReading number Has stop → StopsFilling options left last stop
   at Memory on = tt
   at (Device failed) on = tt
   at (Refused refusal) on = absurd on

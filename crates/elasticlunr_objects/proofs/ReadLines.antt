@@ -1,5 +1,5 @@
 -- Lines of a reader, one after the other, and the documents that they are.
-use Rattle.std.proofs.Common.{◌≡◌, ◌≢◌, ◌==◌, ◌≤◌, ◌+◌, ◌*◌, ◌∷◌, ◌++◌, ℕ, List, [], length, map, All, Bool, true, false, cond, count_by, if◌then◌else◌, Option, None, Some, inl, inr, sym, ap, subst, refl, ◌∙◌, append_assoc, append-nil, arith}
+use Rattle.std.proofs.Common.{◌≡◌, ◌≢◌, ◌==◌, ◌≤◌, ◌+◌, ◌*◌, ◌∷◌, ◌++◌, ℕ, List, [], length, map, All, Bool, true, false, cond, count_by, if◌then◌else◌, Option, None, Some, option_map, inl, inr, sym, ap, subst, refl, ◌∙◌, append_assoc, append-nil, arith}
 use borrow.Author.Tests.{ne_eqb}
 use Rattle.std.specs.Io.KnownBytes.{Consumes}
 use Rattle.std.specs.List.{filter, sum_by}
@@ -17,10 +17,14 @@ use Rattle.elasticlunr.specs.Standing.{Plan}
 use Rattle.elasticlunr_job.specs.Answer.{line, printed_text}
 use Rattle.elasticlunr_job.specs.Commands.{in_order}
 use Rattle.elasticlunr_job.specs.Filled.{Follows, HasTaken, IsBuiltFor}
-use Rattle.elasticlunr_objects.specs.LinesTold.{IsFilledLine}
+use Rattle.elasticlunr_objects.specs.Lines.{HasLineProblem, IsFirstNoDocument}
+use Rattle.elasticlunr_objects.specs.LinesTold.{IsFilledLine, IsTaken, IsValueOf}
+use Rattle.elasticlunr_parse.specs.declared.objects.Problem.{Problem}
+use Rattle.serde_json.specs.View.{view}
+use Rattle.serde_json.specs.declared.value.Value.{Value}
 use Rattle.elasticlunr_objects.specs.Objects.{job_of}
 use Rattle.elasticlunr_parse.specs.Job.{Document}
-use Rattle.elasticlunr_parse.specs.LineRead.{AreAll, AreWhole, Begins, HasNoFeed, fed}
+use Rattle.elasticlunr_parse.specs.LineRead.{AreAll, AreWhole, Begins, HasNoFeed, IsLineAfter, fed}
 use Rattle.elasticlunr_parse.specs.Lines.{filled_lines, is_blank, is_filled, lines_of, readings, AreLineValues}
 use Rattle.elasticlunr_parse.specs.Objects.{Options, AreDocumentsOf, IsDocumentOf}
 use Rattle.elasticlunr_parse.specs.Reading.{reading}
@@ -94,7 +98,36 @@ begins_line (Some xs) (Some ys) None text line more first next last = absurd nex
 begins_line (Some xs) (Some ys) (Some zs) text line true first next last = (10 ∷ zs, inr (zs, refl), first ∙ ap (λ bs. text ++ bs) (next ∙ append_assoc line (10 ∷ []) zs))
 begins_line (Some xs) (Some ys) (Some zs) text line false first next last = ([], inl refl, first ∙ ap (λ bs. text ++ bs) (last refl ∙ sym (append-nil line)))
 
--- and has one line feed
+-- it is the line after them
+pub line_after : (left mid now : Option Bytes) (text line : Bytes) (more : Bool) (feeds : ℕ) → Consumes left mid text → AreWhole text → feeds ≡ count_by (λ b. b == 10) text → IsTaken mid now line more → is_blank line ≡ false → IsLineAfter left text line feeds
+line_after left mid now text line more feeds first whole are taken filled = record {
+  begins = begins_line left mid now text line more first taken.taken taken.last;
+  whole = whole;
+  feeds_are = are;
+  no_feed = taken.no_feed;
+  filled = ap (λ b. if b then false else true) filled;
+}
+
+-- and with a problem it is the first that is no document
+pub first_no_document : (options : Options) (text line : Bytes) (number : ℕ) (made : Makes) (old mid : Standing) (problem : Problem) → Added options text number made old mid → HasLineProblem options (reading line) problem → IsFirstNoDocument options text line (number + 1) problem
+first_no_document options text line number made old mid problem added has = record {
+  items = added.items;
+  documents = added.documents;
+  are_values = added.are_values;
+  are_documents = added.are_documents;
+  number_is = ap (λ n. n + 1) added.number_is;
+  has = has;
+}
+
+-- a line without a value is blank
+pub none_blank : (line : Bytes) (value : Option Value) → IsValueOf line (option_map view value) → value ≡ None → is_blank line ≡ true
+none_blank line value is none = subst (λ o. IsValueOf line (option_map view o)) none is
+
+-- one with a value is not, and is read as it
+pub some_filled : (line : Bytes) (value : Option Value) (v : Value) → IsValueOf line (option_map view value) → value ≡ Some v → (is_blank line ≡ false) × (reading line ≡ Some (view v))
+some_filled line value v is some = subst (λ o. IsValueOf line (option_map view o)) some is
+
+-- a line has one line feed
 pub feeds_next : (text line : Bytes) → HasNoFeed line → count_by (λ b. b == 10) (text ++ fed line) ≡ count_by (λ b. b == 10) text + 1
 feeds_next text line none =
     let f = λ (b : ℕ). cond (b == 10) 1 0 in

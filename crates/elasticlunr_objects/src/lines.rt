@@ -3,7 +3,7 @@
 //! Lines are read one by one: a line and its value are let go before the next one is read. Lines of
 //! white space are passed over.
 
-ghost use Rattle.std.specs.Prelude.{◌≡◌, [], Some, None, string_bytes, IfOk, IfErr};
+ghost use Rattle.std.specs.Prelude.{◌≡◌, [], Some, None, option_map, string_bytes, IfOk, IfErr};
 ghost use Rattle.elasticlunr.specs.Index.{plan_of, IsDocument, StandsFor};
 ghost use Rattle.elasticlunr.specs.History.{Commands};
 ghost use Rattle.elasticlunr.specs.Printed.{IsTextAfter};
@@ -13,7 +13,7 @@ ghost use Rattle.elasticlunr_text.specs.Text.{Bytes};
 ghost use Rattle.elasticlunr_job.specs.Commands.{language_tokens};
 ghost use Rattle.elasticlunr_job.specs.Filled.{IsBuiltFor};
 ghost use Rattle.elasticlunr_objects.specs.Lines.{FailsLines, IsLineOfLines};
-ghost use Rattle.elasticlunr_objects.specs.LinesTold.{IsFilledLine, StopsFilling, StopsOn};
+ghost use Rattle.elasticlunr_objects.specs.LinesTold.{IsFilledLine, IsTaken, IsUnreadAfter, IsValueOf, StopsFilling, StopsOn, StopsReading};
 ghost use Rattle.elasticlunr_objects.specs.Objects.{job_of};
 ghost use Rattle.elasticlunr_parse.specs.LineRead.{AreAll};
 ghost use Rattle.elasticlunr_parse.specs.Objects.{HasProblem, IsDocumentOf};
@@ -122,18 +122,44 @@ fn value_on(alloc: Global, line: &[u8], number: usize) -> Result<Value, LinesErr
     }
 }
 
-/// The document in the line of this number.
-fn object_on<'a>(
+/// Reads the next line, and its value where it isn't blank: it has this number then. Also whether a
+/// line feed was behind it.
+fn next_value<R: BufRead>(
+    alloc: Global,
+    reader: &mut R,
+    line: &mut Vec<u8>,
+    number: usize,
+) -> Result<(Option<Value>, bool), LinesError>
+    ensures taken { IfOk result (λ read.
+        IsTaken (R.remaining reader.old) (R.remaining reader.new) line.new.items read.1) }
+    ensures value { IfOk result (λ read. IsValueOf line.new.items (option_map view read.0)) }
+    ensures err { IfErr result (StopsReading number
+        (IsUnreadAfter (R.remaining reader.old) (R.remaining reader.new) line.new.items)) }
+{
+    let more = read_line(reader, line)?;
+    if is_blank(line) {
+        return Ok((None, more));
+    }
+    let value = value_on(alloc, line, number)?;
+    Ok((Some(value), more))
+}
+
+/// The document in the line of this number, which the watch sees.
+fn object_on<'a, W: Watch>(
     alloc: Global,
     options: &Options<'_>,
     value: &'a Value,
     number: usize,
+    watch: &mut W,
 ) -> Result<Object<'a>, LinesError>
     ensures ok { IfOk result (λ object. IsDocumentOf (options_told options.now) (view value.now) (object_told object)) }
     ensures err { IfErr result (StopsOn number (HasProblem (options_told options.now) (view value.now))) }
 {
     match object_of(alloc, options, value) {
-        Ok(object) => Ok(object),
+        Ok(object) => {
+            watch.document(&object)?;
+            Ok(object)
+        }
         Err(AddError::Memory) => Err(LinesError::Memory),
         Err(AddError::Problem(problem)) => Err(LinesError::Document(number, problem)),
     }
@@ -172,18 +198,16 @@ fn fill_and_print<R: BufRead, W: Watch>(
 {
     let mut number: usize = 0;
     'lines: for before in 0..usize::MAX {
-        let more = read_line(reader, &mut last.text)?;
         last.before = before;
-        if is_blank(&last.text) {
+        let (value, more) = next_value(alloc, reader, &mut last.text, number + 1)?;
+        let Some(value) = value else {
             if more {
                 continue;
             }
             return printed(&index, options.pretty);
-        }
+        };
         number += 1;
-        let value = value_on(alloc, &last.text, number)?;
-        let object = object_on(alloc, options, &value, number)?;
-        watch.document(&object)?;
+        let object = object_on(alloc, options, &value, number, watch)?;
         let Ok(()) = index.add_doc(object.reference.as_str(), &object.values) else {
             // It has a value for each field, so it is not refused: memory is wanting.
             return Err(LinesError::Memory);

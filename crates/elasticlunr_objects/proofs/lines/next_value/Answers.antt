@@ -1,0 +1,27 @@
+use Rattle.std.proofs.Common.{◌≡◌, false, None, sym, ap, subst, ◌∙◌}
+use Rattle.elasticlunr_objects.specs.LinesTold.{IsTaken, StopsOn}
+use Rattle.elasticlunr_objects.specs.declared.lines.LinesError.TheVariants.{Device}
+use Rattle.elasticlunr_parse.specs.Lines.{is_blank}
+use Rattle.elasticlunr_parse.specs.Reading.{reading}
+use Rattle.elasticlunr_parse.specs.declared.objects.Problem.TheVariants.{NotJson}
+use Rattle.elasticlunr_objects.proofs.LineStops.{exit_for, unread_after}
+use Rattle.elasticlunr_objects.proofs.lines.next_value.Goals as goal
+
+pub returns-in_err-more-clause-err : goal.returns-in_err-more-clause-err
+returns-in_err-more-clause-err g c = exit_for c.from_residual.result _ (Device c.in_err-more.field-0.0) c.from_residual.ensures.1 tt
+
+pub returns-in_err-value-clause-err : goal.returns-in_err-value-clause-err
+returns-in_err-value-clause-err g c =
+    let left = g.R.Read.remaining in
+    let line = c.read_line.new.line.items in
+    let number = c.args.number in
+    let e = c.in_err-value.field-0.0 in
+    let blank : is_blank line ≡ false = ap is_blank (sym c.deref.ensures.value) ∙ (sym c.is_blank.ensures ∙ c.if-is_blank.false) in
+    let taken : IsTaken (left c.args.reader.now) (left c.read_line.new.reader) line c.in_ok-more.more = record {
+      no_feed = c.in_ok-more.ensures.line;
+      taken = c.in_ok-more.ensures.taken;
+      last = c.in_ok-more.ensures.last;
+    } in
+    exit_for c.from_residual-in_err-value.result _ e c.from_residual-in_err-value.ensures.1
+    (unread_after number (left c.args.reader.now) (left c.read_line.new.reader) line c.in_ok-more.more taken blank e
+    (subst (λ bytes. StopsOn number (λ problem. (reading bytes ≡ None) × (problem ≡ NotJson)) e) c.deref-2.ensures.value c.in_err-value.ensures.err))

@@ -1,6 +1,6 @@
 //! `languages`: the names, the codes and the stages.
 
-use elasticlunr_input::ended::Ended;
+use elasticlunr_message::ended::Ended;
 use elasticlunr_lang::{AnyLanguage, Language, languages};
 use elasticlunr_text::pipeline::Pipeline;
 use std::alloc::{AllocError, Global};

@@ -17,7 +17,7 @@ use crate::search::search;
 use crate::words::command_line;
 use clap::ArgMatches;
 use clap::error::ErrorKind;
-use elasticlunr_input::ended::{Ended, status};
+use elasticlunr_message::ended::{Ended, status};
 use std::process::ExitCode;
 use std::{env, io};
 

@@ -3,9 +3,9 @@
 use crate::files::{input_name, read_input};
 use crate::tell::{failed, troubled};
 use clap::ArgMatches;
-use elasticlunr_input::ended::Ended;
-use elasticlunr_input::message::{Trouble, not_json, unplaced};
-use elasticlunr_input::nearest::nearest;
+use elasticlunr_message::ended::Ended;
+use elasticlunr_message::message::{Trouble, not_json, unplaced};
+use elasticlunr_message::nearest::nearest;
 use elasticlunr_lang::{AnyLanguage, from_name};
 use elasticlunr_search::{Join, SearchError, Searcher};
 use serde_json::Value;

@@ -1,7 +1,7 @@
 //! What goes to the error stream.
 
-use elasticlunr_input::ended::Ended;
-use elasticlunr_input::message::{Message, Trouble};
+use elasticlunr_message::ended::Ended;
+use elasticlunr_message::message::{Message, Trouble};
 use std::io;
 
 /// How many warnings have a line; the others are counted.

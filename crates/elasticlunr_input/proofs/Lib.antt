@@ -1,10 +1,7 @@
 pub mod FieldKeys
 pub mod LineLemmas
 pub mod LinePlaces
-pub mod FormLemmas
 pub mod Refusals
-pub mod Called
 pub mod FirstFaults
-pub mod Scripts
 pub mod HeadLemmas
 pub mod InputLemmas

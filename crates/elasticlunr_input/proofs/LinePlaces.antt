@@ -6,10 +6,11 @@ use Rattle.elasticlunr_parse.specs.Lines.{readings}
 use Rattle.elasticlunr_parse.specs.Objects.{Options}
 use Rattle.elasticlunr_input.specs.Asked.{options_of}
 use Rattle.elasticlunr_input.specs.FaultPlaces.{IsPlaceInObjectLines}
-use Rattle.elasticlunr_input.specs.RefusedPlaces.{IfPlaced, IsLinesPlace, IsPlaceInLines}
+use Rattle.elasticlunr_message.specs.Messages.{IfPlaced}
+use Rattle.elasticlunr_input.specs.RefusedPlaces.{IsLinesPlace, IsPlaceInLines}
 use Rattle.elasticlunr_input.specs.Settled.{Settings}
-use Rattle.elasticlunr_input.specs.declared.message.Trouble.{Trouble}
-use Rattle.elasticlunr_input.specs.declared.message.Trouble.TheVariants.{Refused, Memory, Device}
+use Rattle.elasticlunr_message.specs.declared.message.Trouble.{Trouble}
+use Rattle.elasticlunr_message.specs.declared.message.Trouble.TheVariants.{Refused, Memory, Device}
 use Rattle.elasticlunr_place.specs.declared.place.Place.{Place}
 use Rattle.elasticlunr_input.proofs.LineLemmas.{first_options, unread_with}
 

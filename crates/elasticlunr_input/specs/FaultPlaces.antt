@@ -4,40 +4,16 @@ use Rattle.serde_json.specs.Data.{Data}
 use Rattle.elasticlunr_text.specs.Text.{Bytes}
 use Rattle.elasticlunr_parse.specs.Job.{Job, IsJob}
 use Rattle.elasticlunr_parse.specs.JobFaults.{HasFirstFault}
-use Rattle.elasticlunr_parse.specs.JobKeys.{key_name}
 use Rattle.elasticlunr_parse.specs.Objects.{Options, IsFirstProblem}
-use Rattle.elasticlunr_parse.specs.declared.fault.DocumentFault.{DocumentFault}
-use Rattle.elasticlunr_parse.specs.declared.fault.DocumentFault.TheVariants as doc
 use Rattle.elasticlunr_parse.specs.declared.fault.Fault.{Fault}
-use Rattle.elasticlunr_parse.specs.declared.fault.Fault.TheVariants.{NotAnObject, UnknownKey, Member, Missing}
-use Rattle.elasticlunr_parse.specs.declared.fault.MemberFault.{MemberFault}
-use Rattle.elasticlunr_parse.specs.declared.fault.MemberFault.TheVariants.{Other, Item, Document}
 use Rattle.elasticlunr_parse.specs.declared.objects.Problem.{Problem}
 use Rattle.elasticlunr_parse.specs.declared.objects.Problem.TheVariants as problem
 use Rattle.elasticlunr_parse.specs.declared.outcome.Refusal.{Refusal}
 use Rattle.elasticlunr_parse.specs.declared.outcome.Refusal.TheVariants.{UnknownLanguage, DuplicateField, TooManyValues}
 use Rattle.elasticlunr_input.specs.FirstFaults.{IsFirstTooLong, IsFirstTwice}
+use Rattle.elasticlunr_message.specs.FaultPaths.{fault_path}
 use Rattle.elasticlunr_place.specs.Members.{Move, item, under, IsPlaceOf}
 use Rattle.elasticlunr_place.specs.declared.place.Place.{Place}
-
--- from a value that is no document to what is wrong in it
-abbrev pub document_fault_path : DocumentFault → List Move
-document_fault_path (doc.NotAList _) = []
-document_fault_path doc.Empty = []
-document_fault_path (doc.Item number _) = item number ∷ []
-
--- from a member to what is wrong in it
-abbrev pub member_fault_path : MemberFault → List Move
-member_fault_path (Other _) = []
-member_fault_path (Item number _) = item number ∷ []
-member_fault_path (Document number fault) = item number ∷ document_fault_path fault
-
--- from a value that is no job to what has the fault: itself, the member under a key, or an item in that
-abbrev pub fault_path : Fault → List Move
-fault_path (NotAnObject _) = []
-fault_path (UnknownKey key) = under key.now ∷ []
-fault_path (Member key fault) = under (key_name key) ∷ member_fault_path fault
-fault_path (Missing _) = []
 
 -- the place is that of what a job fails a check for: its language, the second field of a name, the first document that is too long
 abbrev pub IsPlaceOfRefusal : Bytes → Job → Refusal → Place → Type 0

@@ -13,8 +13,8 @@ use Rattle.elasticlunr_place.specs.Places.{IsPlaceIn}
 use Rattle.elasticlunr_place.specs.Whole.{below}
 use Rattle.elasticlunr_place.specs.declared.place.Place.{Place}
 use Rattle.elasticlunr_input.specs.FaultPlaces.{problem_path}
-use Rattle.elasticlunr_input.specs.declared.message.Trouble.{Trouble}
-use Rattle.elasticlunr_input.specs.declared.message.Trouble.TheVariants as trouble
+use Rattle.elasticlunr_message.specs.declared.message.Trouble.{Trouble}
+use Rattle.elasticlunr_message.specs.declared.message.Trouble.TheVariants as trouble
 
 -- the line that was read last ends the head of a text, and all before it is blank; it is not, or nothing is behind it
 pub record IsHeadOf (head rest line : Bytes) (feeds : ℕ) : Type 0 where
@@ -30,11 +30,6 @@ abbrev pub HasHead : (left now : Option Bytes) → Bytes → LastLine → Type 0
 HasHead None now head last = ⊤
 HasHead (Some text) None head last = ⊥
 HasHead (Some text) (Some rest) head last = (text ≡ head ++ rest) × IsHeadOf head rest last.text.items last.before
-
--- a place is so many lines below another, where both are known
-abbrev pub IsLowered : (at : Option Place) → ℕ → (place : Option Place) → Type 0
-IsLowered None lines place = place ≡ None
-IsLowered (Some at) lines place = IfSome place (λ found. found ≡ below lines at)
 
 -- the place is in a line that is not JSON, or that of a problem of its value
 abbrev pub IsPlaceInLine : Options → Bytes → Problem → Place → Type 0

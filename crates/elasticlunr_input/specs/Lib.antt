@@ -1,14 +1,11 @@
 pub mod Settled
-pub mod Called
 pub mod Fields
 pub mod Asked
 pub mod Lines
 pub mod Refused
-pub mod Forms
+pub mod Indexes
 pub mod Inputs
 pub mod FirstFaults
 pub mod FaultPlaces
 pub mod RefusedPlaces
 pub mod RefusedRead
-pub mod Script
-pub mod Status

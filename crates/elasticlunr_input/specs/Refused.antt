@@ -11,16 +11,11 @@ use Rattle.elasticlunr_objects.specs.Objects.{FailsObjects}
 use Rattle.elasticlunr_parse.specs.declared.outcome.Refusal.{Refusal}
 use Rattle.elasticlunr_objects.specs.declared.objects.ObjectsError.{ObjectsError}
 use Rattle.elasticlunr_objects.specs.declared.objects.ObjectsError.TheVariants as error
+use Rattle.elasticlunr_message.specs.Messages.{IsMemoryOr}
 use Rattle.elasticlunr_input.specs.Asked.{options_of}
 use Rattle.elasticlunr_input.specs.Settled.{Settings, IsRefusedWith}
-use Rattle.elasticlunr_input.specs.declared.message.Trouble.{Trouble}
-use Rattle.elasticlunr_input.specs.declared.message.Trouble.TheVariants.{Refused, Memory, Device}
-
--- memory is wanting, or the reader failed, or it is refused for this reason
-abbrev pub IsMemoryOr : Type 0 → Trouble → Type 0
-IsMemoryOr reason Memory = ⊤
-IsMemoryOr reason (Device _) = ⊤
-IsMemoryOr reason (Refused _) = reason
+use Rattle.elasticlunr_message.specs.declared.message.Trouble.{Trouble}
+use Rattle.elasticlunr_message.specs.declared.message.Trouble.TheVariants.{Refused, Memory, Device}
 
 -- the values fail a check of objects that are read so
 abbrev pub FailObjects : Options → List Data → Type 0

@@ -8,24 +8,18 @@ use Rattle.elasticlunr_parse.specs.Reading.{reading}
 use Rattle.elasticlunr_parse.specs.declared.outcome.Refusal.{Refusal}
 use Rattle.elasticlunr_input.specs.Asked.{options_of}
 use Rattle.elasticlunr_input.specs.FaultPlaces.{IsPlaceInJob, IsPlaceInObjectLines, IsPlaceInObjects}
-use Rattle.elasticlunr_input.specs.Forms.{IsNotJson}
+use Rattle.elasticlunr_input.specs.Indexes.{IsNotJson}
 use Rattle.elasticlunr_parse.specs.Lines.{AreLineValues}
 use Rattle.elasticlunr_parse.specs.Objects.{Options}
 use Rattle.elasticlunr_place.specs.Members.{IsPlaceOf}
 use Rattle.elasticlunr_place.specs.Places.{IsPlaceIn}
 use Rattle.elasticlunr_input.specs.Refused.{HasUnreadLine}
 use Rattle.elasticlunr_input.specs.Settled.{Settings, IsRefusedWith}
-use Rattle.elasticlunr_input.specs.declared.form.Form.{Form}
-use Rattle.elasticlunr_input.specs.declared.form.Form.TheVariants.{Job, Objects, Lines}
-use Rattle.elasticlunr_input.specs.declared.message.Trouble.{Trouble}
-use Rattle.elasticlunr_input.specs.declared.message.Trouble.TheVariants.{Refused, Memory, Device}
+use Rattle.elasticlunr_message.specs.declared.form.Form.{Form}
+use Rattle.elasticlunr_message.specs.declared.form.Form.TheVariants.{Job, Objects, Lines}
+use Rattle.elasticlunr_message.specs.declared.message.Trouble.{Trouble}
+use Rattle.elasticlunr_message.specs.declared.message.Trouble.TheVariants.{Refused, Memory, Device}
 use Rattle.elasticlunr_place.specs.declared.place.Place.{Place}
-
--- the place of a refusal is so, where its message has one
-abbrev pub IfPlaced : (Place → Type 0) → Trouble → Type 0
-IfPlaced Is Memory = ⊤
-IfPlaced Is (Device _) = ⊤
-IfPlaced Is (Refused message) = IfSome message.place Is
 
 -- it is that of what the value is refused for as a job with these settings
 abbrev pub IsJobPlace : Settings → Bytes → Data → Place → Type 0

@@ -2,14 +2,14 @@
 use Rattle.std.specs.Prelude.{◌≡◌, ◌⊎◌, ◌++◌, ⊤, IfSome}
 use Rattle.elasticlunr_text.specs.Text.{Bytes}
 use Rattle.elasticlunr_parse.specs.LineRead.{AreWhole, EndsLine}
-use Rattle.elasticlunr_input.specs.Forms.{FailsInput}
+use Rattle.elasticlunr_input.specs.Indexes.{FailsInput}
 use Rattle.elasticlunr_input.specs.Refused.{FailLines}
 use Rattle.elasticlunr_input.specs.RefusedPlaces.{IsInputPlace, IsLinesPlace}
 use Rattle.elasticlunr_input.specs.Settled.{Settings}
-use Rattle.elasticlunr_input.specs.declared.form.Form.{Form}
-use Rattle.elasticlunr_input.specs.declared.form.Form.TheVariants.{Lines}
-use Rattle.elasticlunr_input.specs.declared.message.Trouble.{Trouble}
-use Rattle.elasticlunr_input.specs.declared.message.Trouble.TheVariants.{Refused}
+use Rattle.elasticlunr_message.specs.declared.form.Form.{Form}
+use Rattle.elasticlunr_message.specs.declared.form.Form.TheVariants.{Lines}
+use Rattle.elasticlunr_message.specs.declared.message.Trouble.{Trouble}
+use Rattle.elasticlunr_message.specs.declared.message.Trouble.TheVariants.{Refused}
 
 -- the text begins with these lines
 abbrev pub BeginsWith : (text read : Bytes) → Type 0

@@ -6,12 +6,12 @@ ghost use Rattle.elasticlunr_input.specs.FaultPlaces.{is_of_member, problem_key,
 ghost use Rattle.elasticlunr_place.specs.Members.{item, IsPlaceOf};
 ghost use Rattle.elasticlunr_input.specs.Fields.{is_field, text_keys};
 ghost use Rattle.elasticlunr_input.specs.Refused.{IsRefusedObjects};
-ghost use Rattle.elasticlunr_input.specs.RefusedPlaces.{IfPlaced};
+ghost use Rattle.elasticlunr_message.specs.Messages.{IfPlaced};
 ghost use Rattle.serde_json.specs.View.{view};
 
 use crate::jobs::duplicate_field;
-use crate::language::unknown_language;
-use crate::message::{Message, Trouble, kind_words, unplaced};
+use elasticlunr_message::language::unknown_language;
+use elasticlunr_message::message::{Message, Trouble, kind_words, unplaced};
 use crate::notes::Notes;
 use crate::tokens::Tokens;
 use elasticlunr_job::outcome::Refusal;

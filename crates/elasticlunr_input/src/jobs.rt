@@ -9,9 +9,9 @@ ghost use Rattle.elasticlunr_input.specs.FirstFaults.{AllFit, IsFirstTooLong, Is
 ghost use Rattle.elasticlunr_input.specs.Settled.{IsLineWith, IsRefusedWith, settings_told};
 ghost use Rattle.serde_json.specs.View.{view};
 
-use crate::job_fault::fault_message;
-use crate::language::unknown_language;
-use crate::message::{Message, Trouble, message_at, unplaced};
+use elasticlunr_message::job_fault::fault_message;
+use elasticlunr_message::language::unknown_language;
+use elasticlunr_message::message::{Message, Trouble, message_at, unplaced};
 use crate::notes::Notes;
 use crate::settings::{Settings, settle};
 use crate::tokens::Tokens;

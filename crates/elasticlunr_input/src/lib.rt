@@ -1,21 +1,14 @@
 //! From a text that is given as an input, in one of three forms, to the text of its index, or to
 //! the message of its first fault.
 //!
-//! An input is a job, an array of objects, or a line for each object. [`index::index_text`] goes
+//! An input is a job, an array of objects, or a line for each object. [`index::index_from`] goes
 //! from its bytes and the settings to the text; [`notes::Notes`] take what is unwise on the way.
 #![tactic(auto)]
 
 mod documents;
-pub mod ended;
-pub mod form;
 pub mod index;
-mod job_fault;
 mod jobs;
-pub mod language;
 mod lines;
-pub mod message;
-pub mod nearest;
 pub mod notes;
-pub mod script;
 pub mod settings;
 mod tokens;

@@ -9,13 +9,13 @@ ghost use Rattle.elasticlunr_place.specs.Members.{IsPlaceOf};
 ghost use Rattle.elasticlunr_place.specs.Places.{IsPlaceIn};
 ghost use Rattle.elasticlunr_input.specs.FaultPlaces.{problem_path};
 ghost use Rattle.elasticlunr_input.specs.Inputs.{HasHead, IsBelow, IsPlaceInLine, IsRefusedFirst};
-ghost use Rattle.elasticlunr_input.specs.Refused.{IsMemoryOr};
-ghost use Rattle.elasticlunr_input.specs.RefusedPlaces.{IfPlaced};
+ghost use Rattle.elasticlunr_message.specs.Messages.{IsMemoryOr};
+ghost use Rattle.elasticlunr_message.specs.Messages.{IfPlaced};
 ghost use Rattle.serde_json.specs.Data.{Data};
 ghost use Rattle.serde_json.specs.View.{view};
 
 use crate::documents::{path_of, problem_key, problem_text};
-use crate::message::{Message, Trouble, lowered, not_json};
+use elasticlunr_message::message::{Message, Trouble, lowered, not_json};
 use crate::notes::Notes;
 use crate::tokens::Tokens;
 use elasticlunr_objects::lines::{LastLine, Watch, is_blank, read_line};

@@ -2,11 +2,11 @@ use Rattle.std.proofs.Common.{map, ap, sym, ◌∙◌, Some, inr}
 use Rattle.serde_json.specs.View.{view, items_of}
 use Rattle.elasticlunr_input.specs.Asked.{options_of}
 use Rattle.elasticlunr_input.specs.FaultPlaces.{IsPlaceInObjects}
-use Rattle.elasticlunr_input.specs.Forms.{FailsInput}
+use Rattle.elasticlunr_input.specs.Indexes.{FailsInput}
 use Rattle.elasticlunr_input.specs.Refused.{FailObjects}
 use Rattle.elasticlunr_input.specs.RefusedPlaces.{IsInputPlace}
 use Rattle.elasticlunr_input.specs.Settled.{settings_told}
-use Rattle.elasticlunr_input.specs.declared.form.Form.TheVariants as form
+use Rattle.elasticlunr_message.specs.declared.form.Form.TheVariants as form
 use Rattle.elasticlunr_input.proofs.LinePlaces.{placed_as}
 use Rattle.elasticlunr_input.proofs.Refusals.{refused_for}
 use Rattle.elasticlunr_input.proofs.index.text_of_array.Goals as goal

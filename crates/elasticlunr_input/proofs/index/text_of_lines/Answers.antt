@@ -6,7 +6,7 @@ use Rattle.elasticlunr_parse.specs.ObjectsTold.{options_told}
 use Rattle.elasticlunr_objects.specs.Lines.{IsLineOfLines}
 use Rattle.elasticlunr_input.specs.Inputs.{IsRefusedFirst}
 use Rattle.elasticlunr_input.specs.Settled.{settings_told}
-use Rattle.elasticlunr_input.specs.declared.message.Trouble.TheVariants.{Memory}
+use Rattle.elasticlunr_message.specs.declared.message.Trouble.TheVariants.{Memory}
 use Rattle.elasticlunr_input.proofs.HeadLemmas.{chained_document, chained_first, chained_line, chained_memory, chained_settings, chained_unread, exit_at, fails_document, fails_refused}
 use Rattle.elasticlunr_input.proofs.index.text_of_lines.Goals as goal
 

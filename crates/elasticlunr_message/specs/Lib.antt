@@ -1,0 +1,6 @@
+pub mod Called
+pub mod Messages
+pub mod Forms
+pub mod FaultPaths
+pub mod Script
+pub mod Status

@@ -24,7 +24,7 @@ const STEP: usize = 16_000_000;
 const BUFFER: usize = 65_536;
 
 /// What is done with the text of an index.
-#[derive(Clone, Copy, Debug, PartialEq, Eq)]
+#[derive(Clone, Copy)]
 pub(crate) enum Use {
     Write,
     Check,

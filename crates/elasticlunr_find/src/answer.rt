@@ -16,7 +16,7 @@ use serde_json::Value;
 use std::alloc::{AllocError, AllocFailed, Global};
 
 /// Why nothing was searched.
-#[derive(Clone, Copy, Debug, PartialEq, Eq)]
+#[derive(Clone, Copy)]
 pub(crate) enum Refusal {
     NotARequest,
     NotRead,

@@ -34,7 +34,7 @@ use Rattle.elasticlunr_input.specs.Asked.{options_of}
 use Rattle.elasticlunr_input.specs.FaultPlaces.{problem_path}
 use Rattle.elasticlunr_message.specs.Forms.{asked_or_told, line_form, told_form}
 use Rattle.elasticlunr_input.specs.Lines.{IsLinesLineWith}
-use Rattle.elasticlunr_input.specs.Inputs.{HasHead, IsBelow, IsHeadOf, IsPlaceInLine, IsRefusedFirst}
+use Rattle.elasticlunr_input.specs.Inputs.{AreRefusedLines, HasHead, IsBelow, IsHeadOf, IsPlaceInLine, IsRefusedFirst}
 use Rattle.elasticlunr_input.specs.Refused.{FailLinesOf, FailObjects, HasUnreadLine}
 use Rattle.elasticlunr_message.specs.Messages.{IsMemoryOr}
 use Rattle.elasticlunr_message.specs.Messages.{IfPlaced}
@@ -346,14 +346,24 @@ module _ (head : Bytes) (left : Option Bytes) (settings : Settings) (last : Last
             subst (λ place. IfSome place (IsLinesPlace settings head)) (sym unplaced) tt,
           ))
 
-  -- memory is wanting, or the reader failed
-  pub chained_memory : trouble ≡ Memory → IfSome left (λ rest. IsHeadOf head rest last.text.items last.before → AreRefusedFrom settings (head ++ rest) trouble)
-  chained_memory is = at left trouble is where
-    at : (known : Option Bytes) (e : Trouble) → e ≡ Memory → IfSome known (λ rest. IsHeadOf head rest last.text.items last.before → AreRefusedFrom settings (head ++ rest) e)
-    at None e same = tt
-    at (Some rest) Memory same = λ is_head. tt
-    at (Some rest) (Device failed) same = λ is_head. tt
-    at (Some rest) (Refused message) same = absurd (cc)
+-- or lines are refused
+pub chained_lines : (head : Bytes) (left : Option Bytes) (settings : Settings) (last : LastLine) (options : objects.Options) (first : List Data) → map Some first ≡ map reading (filter is_filled (last.text.items ∷ [])) → options ≡ options_of settings first
+    → ((d : Data) (rest : List Data) → first ≡ d ∷ rest → (doc : Document) × IsDocumentOf options d doc) → (trouble : Trouble) → AreRefusedLines options (option_append (Some head) left) trouble
+    → IfSome left (λ rest. IsHeadOf head rest last.text.items last.before → AreRefusedFrom settings (head ++ rest) trouble)
+chained_lines head None settings last options first are told each trouble is = tt
+chained_lines head (Some rest) settings last options first are told each Memory is = λ is_head. tt
+chained_lines head (Some rest) settings last options first are told each (Device failed) is = λ is_head. tt
+chained_lines head (Some rest) settings last options first are told each (Refused message) is = elim is [
+  | inl f ↦ chained_settings head (Some rest) settings last (Refused message) options first are told f.0 message f.2 each f.1
+  | inr s ↦ chained_document head (Some rest) settings last (Refused message) options first are told s.1 s.2 s.0 s.3 s.4
+]
+
+-- a line that is no document is refused
+pub document_refused : (options : objects.Options) (left : Option Bytes) (last : LastLine) (number : ℕ) (problem : Problem) → StopsAtLine options left last number problem → (trouble : Trouble)
+    → IfPlaced (IsBelow last.before (IsPlaceInLine options last.text.items problem)) trouble → AreRefusedLines options left trouble
+document_refused options left last number problem stops Memory placed = tt
+document_refused options left last number problem stops (Device failed) placed = tt
+document_refused options left last number problem stops (Refused message) placed = inr (last, number, problem, stops, placed)
 
 -- the exit of a call
 pub exit_at : {T : Type 0} (r : Result T Trouble) (P : Trouble → Type 0) (e : Trouble) → IsErrAnd r (λ y. y ≡ e) → P e → IfErr r P
@@ -365,9 +375,6 @@ pub some_problem : {X : Type 0} (o : Option X) (x : X) (P : X → Type 0) → o 
 some_problem o x P is p = subst (λ found. IfSome found P) is p
 
 -- why no index of lines is printed
-pub fails_refused : (options : objects.Options) (left : Option Bytes) (last : LastLine) (e : LinesError) (refusal : Refusal) → e ≡ lines_error.Refused refusal → FailsLines options left last e → FailsAt (job_of options []) refusal
-fails_refused options left last e refusal is fails = subst (FailsLines options left last) is fails
-
 pub fails_document : (options : objects.Options) (left other : Option Bytes) (last : LastLine) (e : LinesError) (number : ℕ) (problem : Problem) → e ≡ lines_error.Document number problem → left ≡ other → FailsLines options left last e → StopsAtLine options other last number problem
 fails_document options left other last e number problem is same fails =
     let stops = subst (FailsLines options left last) is fails in

@@ -7,6 +7,10 @@ use Rattle.elasticlunr_parse.specs.Lines.{filled_lines, is_filled}
 use Rattle.elasticlunr_parse.specs.Objects.{Options, HasProblem}
 use Rattle.elasticlunr_parse.specs.Reading.{reading}
 use Rattle.elasticlunr_parse.specs.declared.objects.Problem.{Problem}
+use Rattle.elasticlunr_parse.specs.declared.outcome.Refusal.{Refusal}
+use Rattle.elasticlunr_job.specs.Answer.{FailsAt}
+use Rattle.elasticlunr_objects.specs.Lines.{StopsAtLine}
+use Rattle.elasticlunr_objects.specs.Objects.{job_of}
 use Rattle.elasticlunr_objects.specs.declared.lines.LastLine.{LastLine}
 use Rattle.elasticlunr_place.specs.Members.{IsPlaceOf}
 use Rattle.elasticlunr_place.specs.Places.{IsPlaceIn}
@@ -45,3 +49,10 @@ abbrev pub IsRefusedFirst : Options → List Data → LastLine → Trouble → T
 IsRefusedFirst options items last (trouble.Refused message) = (d : Data) × (rest : List Data) × (problem : Problem) × (items ≡ d ∷ rest) × HasProblem options d problem
     × IfSome message.place (IsBelow last.before (IsPlaceInLine options last.text.items problem))
 IsRefusedFirst options items last _ = ⊤
+
+-- lines that were left are refused: the options fail a check, and no place is named; or the line that was read last is the first that is no document, and the place is that of its problem
+abbrev pub AreRefusedLines : Options → Option Bytes → Trouble → Type 0
+AreRefusedLines options left (trouble.Refused message) = ((refusal : Refusal) × FailsAt (job_of options []) refusal × (message.place ≡ None))
+    ⊎ ((last : LastLine) × (number : ℕ) × (problem : Problem) × StopsAtLine options left last number problem
+    × IfSome message.place (IsBelow last.before (IsPlaceInLine options last.text.items problem)))
+AreRefusedLines options left _ = ⊤

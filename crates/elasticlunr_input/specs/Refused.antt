@@ -1,5 +1,5 @@
 -- Why no index of the documents is printed.
-use Rattle.std.specs.Prelude.{◌≡◌, ◌⊎◌, ◌++◌, ◌∷◌, ⊤, List, Option, Some, None, map}
+use Rattle.std.specs.Prelude.{◌≡◌, ◌⊎◌, ◌++◌, ◌∷◌, List, Option, Some, None, map}
 use Rattle.serde_json.specs.Data.{Data}
 use Rattle.serde_json.specs.Find.{as_array}
 use Rattle.serde_json.specs.View.{items_of}
@@ -15,7 +15,6 @@ use Rattle.elasticlunr_message.specs.Messages.{IsMemoryOr}
 use Rattle.elasticlunr_input.specs.Asked.{options_of}
 use Rattle.elasticlunr_input.specs.Settled.{Settings, IsRefusedWith}
 use Rattle.elasticlunr_message.specs.declared.message.Trouble.{Trouble}
-use Rattle.elasticlunr_message.specs.declared.message.Trouble.TheVariants.{Refused, Memory, Device}
 
 -- the values fail a check of objects that are read so
 abbrev pub FailObjects : Options → List Data → Type 0

@@ -1,5 +1,5 @@
 -- The place of a refusal: where that stands in the input for which it is refused.
-use Rattle.std.specs.Prelude.{◌≡◌, ◌⊎◌, ⊤, List, Some, None, [], IfSome}
+use Rattle.std.specs.Prelude.{◌≡◌, ◌⊎◌, List, Some, None, []}
 use Rattle.serde_json.specs.Data.{Data}
 use Rattle.serde_json.specs.Find.{as_array}
 use Rattle.serde_json.specs.View.{items_of}
@@ -17,8 +17,6 @@ use Rattle.elasticlunr_input.specs.Refused.{HasUnreadLine}
 use Rattle.elasticlunr_input.specs.Settled.{Settings, IsRefusedWith}
 use Rattle.elasticlunr_message.specs.declared.form.Form.{Form}
 use Rattle.elasticlunr_message.specs.declared.form.Form.TheVariants.{Job, Objects, Lines}
-use Rattle.elasticlunr_message.specs.declared.message.Trouble.{Trouble}
-use Rattle.elasticlunr_message.specs.declared.message.Trouble.TheVariants.{Refused, Memory, Device}
 use Rattle.elasticlunr_place.specs.declared.place.Place.{Place}
 
 -- it is that of what the value is refused for as a job with these settings

@@ -10,11 +10,11 @@ ghost use Rattle.elasticlunr_message.specs.Messages.{IfPlaced};
 ghost use Rattle.serde_json.specs.View.{view};
 
 use crate::jobs::duplicate_field;
-use elasticlunr_message::language::unknown_language;
-use elasticlunr_message::message::{Message, Trouble, kind_words, unplaced};
 use crate::notes::Notes;
 use crate::tokens::Tokens;
 use elasticlunr_job::outcome::Refusal;
+use elasticlunr_message::language::unknown_language;
+use elasticlunr_message::message::{Message, Trouble, kind_words, unplaced};
 use elasticlunr_objects::objects::{ObjectsError, Options, Problem, object_of, objects_line};
 use elasticlunr_place::member::{Step, place_of};
 use elasticlunr_place::place::Place;

@@ -16,16 +16,15 @@ ghost use Rattle.elasticlunr_input.specs.Settled.{settings_told};
 ghost use Rattle.elasticlunr_message.specs.declared.form.Form.TheVariants as form;
 ghost use Rattle.serde_json.specs.View.{view};
 
-use crate::documents::{first_fields, note_objects, objects_text, settings_fault};
-use elasticlunr_message::form::{Form, asked_or_told, read_value};
+use crate::documents::{first_fields, note_objects, objects_text};
 use crate::jobs::{job_refused, job_text, note_job};
-use crate::lines::{Watcher, check_first, first_value, line_refused, read_head};
-use elasticlunr_message::message::{Trouble, unplaced, wants};
+use crate::lines::{check_first, first_value, lines_text, read_head};
 use crate::notes::Notes;
 use crate::settings::{Settings, text_or, texts_of};
-use crate::tokens::Tokens;
 use elasticlunr_job::outcome::Stop;
-use elasticlunr_objects::lines::{LastLine, LinesError, lines_line};
+use elasticlunr_message::form::{Form, asked_or_told, read_value};
+use elasticlunr_message::message::{Trouble, wants};
+use elasticlunr_objects::lines::LastLine;
 use elasticlunr_objects::objects::Options;
 use serde_json::Value;
 use std::alloc::{AllocError, Global};
@@ -128,24 +127,7 @@ fn text_of_lines<R: BufRead>(
     let first = first_value(alloc, last)?;
     let options = options_of(alloc, settings, &first)?;
     check_first(alloc, &options, &first, last)?;
-    let tokens = Tokens::of_language(alloc, options.language)?;
-    let mut watcher = Watcher { tokens, notes };
-    let mut all = head.chain(reader);
-    match lines_line(alloc, &options, &mut all, last, &mut watcher) {
-        Ok(line) => {
-            watcher.notes.end(&options.fields)?;
-            Ok(line)
-        }
-        Err(LinesError::Memory) => Err(Trouble::Memory),
-        Err(LinesError::Device(e)) => Err(Trouble::Device(e)),
-        Err(LinesError::Refused(refusal)) => {
-            let said = settings_fault(alloc, &options, refusal)?;
-            Err(Trouble::Refused(unplaced(said)))
-        }
-        Err(LinesError::Document(number, problem)) => {
-            Err(line_refused(alloc, &options, last, number, problem)?)
-        }
-    }
+    lines_text(alloc, &options, head, last, reader, notes)
 }
 
 /// The text of the index of objects.

@@ -9,9 +9,6 @@ ghost use Rattle.elasticlunr_input.specs.FirstFaults.{AllFit, IsFirstTooLong, Is
 ghost use Rattle.elasticlunr_input.specs.Settled.{IsLineWith, IsRefusedWith, settings_told};
 ghost use Rattle.serde_json.specs.View.{view};
 
-use elasticlunr_message::job_fault::fault_message;
-use elasticlunr_message::language::unknown_language;
-use elasticlunr_message::message::{Message, Trouble, message_at, unplaced};
 use crate::notes::Notes;
 use crate::settings::{Settings, settle};
 use crate::tokens::Tokens;
@@ -19,6 +16,9 @@ use elasticlunr_job::answer::job_line;
 use elasticlunr_job::fault::first_fault;
 use elasticlunr_job::job::{Document, Job, parse};
 use elasticlunr_job::outcome::{Refusal, Stop};
+use elasticlunr_message::job_fault::fault_message;
+use elasticlunr_message::language::unknown_language;
+use elasticlunr_message::message::{Message, Trouble, message_at, unplaced};
 use elasticlunr_place::member::Step;
 use serde_json::Value;
 use std::alloc::{AllocError, Global};

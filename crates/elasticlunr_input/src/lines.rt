@@ -1,29 +1,33 @@
 //! Documents that are lines of JSON, read one by one.
-ghost use Rattle.std.specs.Prelude.{◌≡◌, ◌∷◌, [], List, map, filter, true, Some, None, IfOk, IfErr, IfSome, IfNone, OnOk};
+ghost use Rattle.std.specs.Fmt.{option_append};
+ghost use Rattle.std.specs.Prelude.{◌≡◌, ◌∷◌, [], List, map, filter, true, Option, Some, None, string_bytes, IfOk, IfErr, IfSome, IfNone, OnOk};
+ghost use Rattle.elasticlunr_text.specs.Text.{Bytes};
 ghost use Rattle.elasticlunr_parse.specs.Job.{Document};
+ghost use Rattle.elasticlunr_parse.specs.LineRead.{AreAll};
 ghost use Rattle.elasticlunr_parse.specs.Lines.{is_filled};
 ghost use Rattle.elasticlunr_parse.specs.Objects.{HasProblem, IsDocumentOf};
 ghost use Rattle.elasticlunr_parse.specs.ObjectsTold.{options_told};
 ghost use Rattle.elasticlunr_parse.specs.Reading.{reading};
+ghost use Rattle.elasticlunr_objects.specs.Lines.{FailsLines, IsLineOfLines};
 ghost use Rattle.elasticlunr_place.specs.Members.{IsPlaceOf};
 ghost use Rattle.elasticlunr_place.specs.Places.{IsPlaceIn};
 ghost use Rattle.elasticlunr_input.specs.FaultPlaces.{problem_path};
-ghost use Rattle.elasticlunr_input.specs.Inputs.{HasHead, IsBelow, IsPlaceInLine, IsRefusedFirst};
+ghost use Rattle.elasticlunr_input.specs.Inputs.{AreRefusedLines, HasHead, IsBelow, IsPlaceInLine, IsRefusedFirst};
 ghost use Rattle.elasticlunr_message.specs.Messages.{IsMemoryOr};
 ghost use Rattle.elasticlunr_message.specs.Messages.{IfPlaced};
 ghost use Rattle.serde_json.specs.Data.{Data};
 ghost use Rattle.serde_json.specs.View.{view};
 
-use crate::documents::{path_of, problem_key, problem_text};
-use elasticlunr_message::message::{Message, Trouble, lowered, not_json};
+use crate::documents::{path_of, problem_key, problem_text, settings_fault};
 use crate::notes::Notes;
 use crate::tokens::Tokens;
-use elasticlunr_objects::lines::{LastLine, Watch, is_blank, read_line};
+use elasticlunr_message::message::{Message, Trouble, lowered, not_json, unplaced};
+use elasticlunr_objects::lines::{LastLine, LinesError, Watch, is_blank, lines_line, read_line};
 use elasticlunr_objects::objects::{AddError, Object, Options, Problem, object_of};
 use elasticlunr_place::member::{Step, place_of};
 use serde_json::{Error, Value};
 use std::alloc::{AllocError, Global};
-use std::io::{self, BufRead, ErrorKind};
+use std::io::{self, BufRead, ErrorKind, Read};
 
 /// Reads a text up to the end of its first line that isn't blank, or to its own end, and gives what
 /// it read. The line that it read last stays.
@@ -171,5 +175,55 @@ pub(crate) fn line_refused(
         Ok(value) => value_refused(alloc, options, last, &value, number, problem),
         Err(e) if e.is_memory() => Ok(Trouble::Memory),
         Err(e) => line_unread(alloc, last, &e),
+    }
+}
+
+/// Why no index of lines is printed; where a line is no document, it is the one that was read last.
+fn trouble_of(
+    alloc: Global,
+    options: &Options<'_>,
+    last: &LastLine,
+    error: LinesError,
+) -> Result<Trouble, AllocError>
+    ensures { IfOk result (λ e. (left : Option Bytes) → FailsLines (options_told options.now) left last.now error
+        → AreRefusedLines (options_told options.now) left e) }
+{
+    match error {
+        LinesError::Memory => Ok(Trouble::Memory),
+        LinesError::Device(e) => Ok(Trouble::Device(e)),
+        LinesError::Refused(refusal) => {
+            let said = settings_fault(alloc, options, refusal)?;
+            Ok(Trouble::Refused(unplaced(said)))
+        }
+        LinesError::Document(number, problem) => line_refused(
+            alloc, options, last, number, problem,
+        ),
+    }
+}
+
+/// The text of the index of the documents in lines, of which a head was read before, and a line
+/// feed; what is unwise goes to the notes.
+pub(crate) fn lines_text<R: BufRead>(
+    alloc: Global,
+    options: &Options<'_>,
+    head: &[u8],
+    last: &mut LastLine,
+    reader: &mut R,
+    notes: &mut Notes,
+) -> Result<String, Trouble>
+    ensures ok { IfOk result (λ line. (text : Bytes) × AreAll (option_append (Some head.now) (R.remaining reader.old)) text
+        × IsLineOfLines (options_told options.now) text (string_bytes line)) }
+    ensures err { IfErr result (AreRefusedLines (options_told options.now)
+        (option_append (Some head.now) (R.remaining reader.old))) }
+{
+    let tokens = Tokens::of_language(alloc, options.language)?;
+    let mut watcher = Watcher { tokens, notes };
+    let mut all = head.chain(reader);
+    match lines_line(alloc, options, &mut all, last, &mut watcher) {
+        Ok(line) => {
+            watcher.notes.end(&options.fields)?;
+            Ok(line)
+        }
+        Err(e) => Err(trouble_of(alloc, options, last, e)?),
     }
 }

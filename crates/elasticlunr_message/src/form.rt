@@ -15,7 +15,7 @@ use serde_json::Value;
 use std::alloc::{AllocError, Global};
 
 /// The form of an input.
-#[derive(Clone, Copy, Debug, PartialEq, Eq)]
+#[derive(Clone, Copy)]
 pub enum Form {
     /// One object with fields and documents.
     Job,
@@ -42,11 +42,7 @@ pub fn form_of(word: &str) -> Option<Form>
 /// blank: one that begins with `[` begins an array of objects; an object with neither `docs` nor
 /// `fields` is the first of lines, and all else is a job, or begins one. So documents as lines, the
 /// first of which has a key `docs` or `fields`, have to be asked for.
-pub fn asked_or_told(
-    alloc: Global,
-    text: &[u8],
-    asked: Option<Form>,
-) -> Result<Form, AllocError>
+pub fn asked_or_told(alloc: Global, text: &[u8], asked: Option<Form>) -> Result<Form, AllocError>
     ensures { IfOk result (λ form. form ≡ asked_or_told asked text.now) }
 {
     match asked {

@@ -13,7 +13,7 @@ use std::alloc::{AllocError, AllocFailed, Global};
 use std::io;
 
 /// A line for the user, and the place that it speaks of.
-#[derive(Debug, Drop)]
+#[derive(Drop)]
 pub struct Message {
     /// Where that stands in the input, if it is there and was found.
     pub place: Option<Place>,
@@ -22,7 +22,7 @@ pub struct Message {
 }
 
 /// Why there is no index.
-#[derive(Debug, Drop)]
+#[derive(Drop)]
 pub enum Trouble {
     /// The input is refused.
     Refused(Message),
@@ -173,7 +173,7 @@ fn json_fault(text: &[u8], offset: usize, error: &Error) -> &'static str {
 }
 
 /// Half of a character of four bytes, as an escape has it.
-#[derive(Clone, Copy, Debug, PartialEq, Eq)]
+#[derive(Clone, Copy, PartialEq, Eq)]
 enum Half {
     First,
     Second,

@@ -62,7 +62,7 @@ pub trait Watch {
 }
 
 /// Why the index of lines is not printed.
-#[derive(Debug, Drop)]
+#[derive(Drop)]
 pub enum LinesError {
     /// The language is unknown, or a field stands twice.
     Refused(Refusal),

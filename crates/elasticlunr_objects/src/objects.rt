@@ -17,7 +17,7 @@ use serde_json::Value;
 use std::alloc::{AllocError, AllocFailed, Global};
 
 /// Why the index of objects is not printed.
-#[derive(Clone, Copy, Debug, PartialEq, Eq)]
+#[derive(Clone, Copy)]
 pub enum ObjectsError {
     /// The language is unknown, or a field stands twice.
     Refused(Refusal),

@@ -17,7 +17,7 @@ use crate::kind::{Kind, kind_of};
 use serde_json::{Map, Value};
 
 /// What keeps a value from being a job.
-#[derive(Clone, Copy, Debug, PartialEq, Eq)]
+#[derive(Clone, Copy)]
 pub enum Fault<'a> {
     /// It is of this kind, and no object.
     NotAnObject(Kind),
@@ -30,7 +30,7 @@ pub enum Fault<'a> {
 }
 
 /// What keeps a member from being what is wanted. Items are numbered from 0.
-#[derive(Clone, Copy, Debug, PartialEq, Eq)]
+#[derive(Clone, Copy)]
 pub enum MemberFault {
     /// It is of this kind, where another is wanted.
     Other(Kind),
@@ -41,7 +41,7 @@ pub enum MemberFault {
 }
 
 /// What keeps an item from being a document. Items are numbered from 0.
-#[derive(Clone, Copy, Debug, PartialEq, Eq)]
+#[derive(Clone, Copy)]
 pub enum DocumentFault {
     /// It is of this kind, and no array.
     NotAList(Kind),

@@ -6,7 +6,7 @@ ghost use Rattle.elasticlunr_parse.specs.JobKeys.{key_name, keys_in_order, wante
 ghost use Rattle.elasticlunr_parse.specs.Keys.{is_job_key};
 
 /// A key of a job.
-#[derive(Clone, Copy, Debug, PartialEq, Eq)]
+#[derive(Clone, Copy)]
 pub enum Key {
     Fields,
     Docs,
@@ -19,7 +19,7 @@ pub enum Key {
 }
 
 /// What a member of a job has to be.
-#[derive(Clone, Copy, Debug, PartialEq, Eq)]
+#[derive(Clone, Copy)]
 pub enum Wanted {
     Text,
     /// `true` or `false`.

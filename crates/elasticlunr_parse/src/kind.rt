@@ -7,7 +7,7 @@ ghost use Rattle.elasticlunr_parse.specs.Kinds.{kind_of};
 use serde_json::Value;
 
 /// What a JSON value is.
-#[derive(Clone, Copy, Debug, PartialEq, Eq)]
+#[derive(Clone, Copy)]
 pub enum Kind {
     Null,
     Boolean,

@@ -24,7 +24,7 @@ pub struct Options<'a> {
 }
 
 /// What is wrong with a document: the first check that it fails.
-#[derive(Clone, Copy, Debug, PartialEq, Eq)]
+#[derive(Clone, Copy)]
 pub enum Problem {
     /// It is a line that is not JSON.
     NotJson,
@@ -39,7 +39,7 @@ pub enum Problem {
 }
 
 /// Why a document was not added.
-#[derive(Clone, Copy, Debug, PartialEq, Eq)]
+#[derive(Clone, Copy)]
 pub enum AddError {
     Problem(Problem),
     Memory,

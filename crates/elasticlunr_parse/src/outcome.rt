@@ -14,7 +14,7 @@ pub enum Refusal {
 }
 
 /// Why no index is printed: the refusal, or want of memory.
-#[derive(Clone, Copy, Debug, PartialEq, Eq)]
+#[derive(Clone, Copy)]
 pub enum Stop {
     Refused(Refusal),
     Memory,

@@ -4,7 +4,7 @@ ghost use Rattle.elasticlunr_place.specs.Places.{is_first, place_at, IsLineStart
 ghost use Rattle.elasticlunr_place.specs.Whole.{below};
 
 /// A line and a column, both from 1. A column is a character.
-#[derive(Clone, Copy, Debug, PartialEq, Eq)]
+#[derive(Clone, Copy)]
 pub struct Place {
     /// The line.
     pub line: usize,

@@ -7,7 +7,7 @@ use json::{Invalid, MAX_DEPTH, Reader, Scratch, Token};
 use std::alloc::{AllocError, Global};
 
 /// From where and up to where something stands.
-#[derive(Clone, Copy, Debug, PartialEq, Eq)]
+#[derive(Clone, Copy)]
 pub(crate) struct Span {
     pub start: usize,
     pub end: usize,

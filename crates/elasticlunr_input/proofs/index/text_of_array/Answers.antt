@@ -1,4 +1,4 @@
-use Rattle.std.proofs.Common.{map, ap, sym, ◌∙◌, Some, inr}
+use Rattle.std.proofs.Common.{map, ap, sym, ◌∙◌, [], Some, None, inl, inr}
 use Rattle.serde_json.specs.View.{view, items_of}
 use Rattle.elasticlunr_input.specs.Asked.{options_of}
 use Rattle.elasticlunr_input.specs.FaultPlaces.{IsPlaceInObjects}
@@ -6,8 +6,9 @@ use Rattle.elasticlunr_input.specs.Indexes.{FailsInput}
 use Rattle.elasticlunr_input.specs.Refused.{FailObjects}
 use Rattle.elasticlunr_input.specs.RefusedPlaces.{IsInputPlace}
 use Rattle.elasticlunr_input.specs.Settled.{settings_told}
+use Rattle.elasticlunr_place.specs.Members.{IsPlaceOf}
 use Rattle.elasticlunr_message.specs.declared.form.Form.TheVariants as form
-use Rattle.elasticlunr_input.proofs.LinePlaces.{placed_as}
+use Rattle.elasticlunr_input.proofs.LinePlaces.{placed_as, some_for}
 use Rattle.elasticlunr_input.proofs.Refusals.{refused_for}
 use Rattle.elasticlunr_input.proofs.index.text_of_array.Goals as goal
 
@@ -26,3 +27,13 @@ returns-clause-place c =
     let are = sym c.in-Some.ensures ∙ ap (λ vs. Some (items_of (map view vs))) (sym c.deref.ensures.value) in
     placed_as (IsPlaceInObjects c.args.text.now (options_of settings items) items) (IsInputPlace form.Objects settings c.args.text.now) c.text_of_objects.result
     (λ place is. inr (view c.in_ok-value.value, c.in_ok-value.ensures.ok, inr (items, are, is))) c.text_of_objects.ensures.place
+
+pub returns-in_default-clause-err : goal.returns-in_default-clause-err
+returns-in_default-clause-err c = inr (view c.in_ok-value.value, c.in_ok-value.ensures.ok, inl (sym c.in_default.ensures))
+
+pub returns-in_default-clause-place : goal.returns-in_default-clause-place
+returns-in_default-clause-place c =
+    let settings = settings_told c.args.settings.now in
+    let text = c.args.text.now in
+    some_for (IsPlaceOf None [] text) (IsInputPlace form.Objects settings text) c.in_ok-message.message.place
+    (λ place is. inr (view c.in_ok-value.value, c.in_ok-value.ensures.ok, inl (sym c.in_default.ensures, is))) c.in_ok-message.ensures

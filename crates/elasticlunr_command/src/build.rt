@@ -4,13 +4,13 @@ use crate::files::{Input, input_name, open_input, write_output};
 use crate::given::settings_given;
 use crate::tell::{failed, troubled, warn};
 use clap::ArgMatches;
+use elasticlunr_input::index::index_from;
+use elasticlunr_input::notes::Notes;
+use elasticlunr_input::settings::Settings;
 use elasticlunr_message::ended::Ended;
 use elasticlunr_message::form::form_of;
-use elasticlunr_input::index::index_from;
 use elasticlunr_message::language::{language_name, unknown_language};
-use elasticlunr_input::notes::Notes;
 use elasticlunr_message::script::script_of;
-use elasticlunr_input::settings::Settings;
 use std::io::{self, BufReader, IsTerminal, Read};
 use std::time::Instant;
 

@@ -1,7 +1,7 @@
 //! `languages`: the names, the codes and the stages.
 
-use elasticlunr_message::ended::Ended;
 use elasticlunr_lang::{AnyLanguage, Language, languages};
+use elasticlunr_message::ended::Ended;
 use elasticlunr_text::pipeline::Pipeline;
 use std::alloc::{AllocError, Global};
 use std::io;

@@ -3,10 +3,11 @@
 use crate::files::{input_name, read_input};
 use crate::tell::{failed, troubled};
 use clap::ArgMatches;
-use elasticlunr_message::ended::Ended;
-use elasticlunr_message::message::{Trouble, not_json, unplaced};
-use elasticlunr_message::nearest::nearest;
 use elasticlunr_lang::{AnyLanguage, from_name};
+use elasticlunr_message::ended::Ended;
+use elasticlunr_message::form::read_value;
+use elasticlunr_message::message::{Trouble, unplaced};
+use elasticlunr_message::nearest::nearest;
 use elasticlunr_search::{Join, SearchError, Searcher};
 use serde_json::Value;
 use std::alloc::{AllocError, Global};
@@ -48,22 +49,27 @@ pub(crate) fn search(rt: &HostRuntime, given: &ArgMatches<'_>) -> io::Result<End
 
 /// The references that are found in the text of an index, each with a line feed after it.
 fn found_lines(alloc: Global, text: &[u8], asked: &Asked<'_>) -> Result<String, Trouble> {
-    let value = match Value::from_slice(alloc, text) {
-        Ok(value) => value,
-        Err(e) if e.is_memory() => return Err(Trouble::Memory),
-        Err(e) => return Err(Trouble::Refused(not_json(alloc, text, &e)?)),
-    };
+    let value = read_value(alloc, text)?;
     let Some(language) = language_of(&value) else {
         return Err(refused(alloc, "no index: it names no language")?);
     };
-    let searcher = match Searcher::from_value(alloc, language, &value) {
-        Ok(searcher) => searcher,
-        Err(error) => return Err(not_searched(alloc, error)?),
-    };
-    let fields = fields_of(alloc, &value)?;
+    match Searcher::from_value(alloc, language, &value) {
+        Ok(searcher) => lines_asked(alloc, &searcher, &value, asked),
+        Err(error) => Err(not_searched(alloc, error)?),
+    }
+}
+
+/// What is found in the field that is asked for, or else in all of an index.
+fn lines_asked(
+    alloc: Global,
+    searcher: &Searcher<AnyLanguage>,
+    index: &Value,
+    asked: &Asked<'_>,
+) -> Result<String, Trouble> {
+    let fields = fields_of(alloc, index)?;
     match asked.field {
-        Some(field) => lines_of_field(alloc, &searcher, &fields, field, asked),
-        None => lines_of_all(alloc, &searcher, &fields, asked),
+        Some(field) => lines_in(alloc, searcher, &fields, &[field], asked),
+        None => lines_in(alloc, searcher, &fields, &fields, asked),
     }
 }
 
@@ -83,48 +89,42 @@ fn fields_of<'v>(alloc: Global, index: &'v Value) -> Result<Vec<&'v str>, AllocE
     Ok(names)
 }
 
+/// What is found in one of these fields or another, in the order of the references' bytes.
+fn lines_in(
+    alloc: Global,
+    searcher: &Searcher<AnyLanguage>,
+    fields: &[&str],
+    names: &[&str],
+    asked: &Asked<'_>,
+) -> Result<String, Trouble> {
+    let mut all = BTreeMap::new(alloc);
+    for name in names {
+        for reference in found_in(alloc, searcher, fields, name, asked)? {
+            all.insert(reference, ())?;
+        }
+    }
+    Ok(lines_of(alloc, &all)?)
+}
+
 /// What is found in one field.
-fn lines_of_field(
+fn found_in(
     alloc: Global,
     searcher: &Searcher<AnyLanguage>,
     fields: &[&str],
     field: &str,
     asked: &Asked<'_>,
-) -> Result<String, Trouble> {
+) -> Result<Vec<String>, Trouble> {
     match searcher.find(asked.join, field, asked.query) {
-        Ok(found) => {
-            let mut lines = String::new(alloc);
-            for reference in &found {
-                lines.push_str(reference.as_str())?;
-                lines.push('\n')?;
-            }
-            Ok(lines)
-        }
+        Ok(found) => Ok(found),
         Err(SearchError::NoSuchField) => Err(no_field(alloc, fields, field)?),
         Err(error) => Err(not_searched(alloc, error)?),
     }
 }
 
-/// What is found in one field or another, in the order of the references' bytes.
-fn lines_of_all(
-    alloc: Global,
-    searcher: &Searcher<AnyLanguage>,
-    fields: &[&str],
-    asked: &Asked<'_>,
-) -> Result<String, Trouble> {
-    let mut all = BTreeMap::new(alloc);
-    for field in fields {
-        match searcher.find(asked.join, field, asked.query) {
-            Ok(found) => {
-                for reference in found {
-                    all.insert(reference, ())?;
-                }
-            }
-            Err(error) => return Err(not_searched(alloc, error)?),
-        }
-    }
+/// References, a line each.
+fn lines_of(alloc: Global, references: &BTreeMap<String, ()>) -> Result<String, AllocError> {
     let mut lines = String::new(alloc);
-    for reference in all.keys() {
+    for reference in references.keys() {
         lines.push_str(reference.as_str())?;
         lines.push('\n')?;
     }

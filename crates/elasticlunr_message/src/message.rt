@@ -1,5 +1,5 @@
 //! What is wrong in an input: where, what, and what to do.
-ghost use Rattle.std.specs.Prelude.{◌≡◌, None, IfOk, IfSome};
+ghost use Rattle.std.specs.Prelude.{◌≡◌, None, IfOk, IfSome, IsSome};
 ghost use Rattle.elasticlunr_place.specs.Members.{path_told, IsPlaceOf};
 ghost use Rattle.elasticlunr_place.specs.Places.{IsOffsetOf, IsPlaceIn};
 ghost use Rattle.elasticlunr_message.specs.Messages.{IsLowered};
@@ -72,7 +72,8 @@ pub fn message_at(
     path: &[Step<'_>],
     said: String,
 ) -> Result<Message, AllocError>
-    ensures { IfOk result (λ message. IfSome message.place (IsPlaceOf None (path_told path.now) text.now)) }
+    ensures place { IfOk result (λ message. IfSome message.place (IsPlaceOf None (path_told path.now) text.now)) }
+    ensures text { IfOk result (λ message. message.text ≡ said) }
 {
     let place = place_of(alloc, text, None, path)?;
     Ok(Message { place, text: said })
@@ -132,7 +133,8 @@ pub fn unfit(
 
 /// A message that a text is not JSON.
 pub fn not_json(alloc: Global, text: &[u8], error: &Error) -> Result<Message, AllocError>
-    ensures { IfOk result (λ message. IfSome message.place (IsPlaceIn text.now)) }
+    ensures place { IfOk result (λ message. IfSome message.place (IsPlaceIn text.now)) }
+    ensures placed { IfOk result (λ message. IsSome message.place) }
 {
     let offset = offset_of(text, error.line(), error.column());
     let said = String::from_str(alloc, json_fault(text, offset, error))?;

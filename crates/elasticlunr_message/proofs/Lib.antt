@@ -1,3 +1,4 @@
 pub mod FormLemmas
 pub mod Called
+pub mod Names
 pub mod Scripts

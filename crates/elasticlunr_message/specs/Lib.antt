@@ -1,5 +1,6 @@
 pub mod Called
 pub mod Messages
+pub mod Nearest
 pub mod Forms
 pub mod FaultPaths
 pub mod Script

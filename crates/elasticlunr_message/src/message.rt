@@ -81,7 +81,8 @@ pub fn message_at(
 
 /// A message about no place.
 pub fn unplaced(said: String) -> Message
-    ensures { result.place ≡ None }
+    ensures place { result.place ≡ None }
+    ensures text { result.text ≡ said }
 {
     Message {
         place: None,
@@ -146,7 +147,8 @@ pub fn not_json(alloc: Global, text: &[u8], error: &Error) -> Result<Message, Al
 
 /// The same message, about the place so many lines below.
 pub fn lowered(message: Message, lines: usize) -> Message
-    ensures { IsLowered message.place lines result.place }
+    ensures place { IsLowered message.place lines result.place }
+    ensures text { result.text ≡ message.text }
 {
     Message {
         place: match message.place {

@@ -4,10 +4,7 @@
 //! printed why, and 1 where a device failed or memory was wanting.
 #![tactic(auto)]
 
-mod answer;
-mod request;
-
-use crate::answer::{Refusal, answer, reason};
+use elasticlunr_search::answer::{Refusal, answer, reason};
 use std::io;
 use std::process::ExitCode;
 

@@ -1,3 +1,5 @@
 pub mod Commands
 pub mod Answer
 pub mod Filled
+pub mod Status
+pub mod Run

@@ -2,11 +2,12 @@
 //!
 //! A job names the fields, the documents and the language of an index, the references that are
 //! removed again, and how it is printed. [`answer::answer`] goes from the bytes of a job to what
-//! is written for it.
+//! is written for it, and [`run::run`] from a source that has them to a sink.
 #![tactic(auto)]
 
 pub mod answer;
 pub mod laws;
 pub mod outcome;
+pub mod run;
 
 pub use elasticlunr_parse::{fault, job, key, kind};

@@ -3,13 +3,7 @@
 //! all of them.
 #![tactic(auto)]
 
-mod classes;
-mod pairs;
-mod script;
-mod stages;
-mod template;
-
-use crate::script::script_for;
+use elasticlunr_browser::script::script_for;
 use std::io;
 use std::io::Write;
 use std::process::ExitCode;

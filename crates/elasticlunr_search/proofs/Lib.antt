@@ -9,3 +9,4 @@ pub mod Steps
 pub mod Asking
 pub mod Searching
 pub mod Wording
+pub mod Joined

@@ -2,12 +2,14 @@
 //!
 //! A [`Searcher`] reads the text once, with the language that the index was built with, and then
 //! answers queries: the references whose current document has, in a field, a token that the query
-//! has, or each of them.
+//! has, or each of them. [`answer::answer`] reads a request and an index from one text.
 #![tactic(auto)]
 
+pub mod answer;
 mod error;
 mod parts;
 mod printed;
+pub mod request;
 mod searcher;
 mod tries;
 mod words;

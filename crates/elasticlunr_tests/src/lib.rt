@@ -1,5 +1,5 @@
 //! Tests of what needs a type of its own: stages, languages, tokenizers and functions that a user
-//! hands in to the library.
+//! hands in to the library, and readers and writers that fail.
 #![tactic(auto)]
 
 #[cfg(test)]
@@ -10,5 +10,7 @@ mod own;
 mod own_language;
 #[cfg(test)]
 mod pipelines;
+#[cfg(test)]
+mod runs;
 #[cfg(test)]
 mod texts;

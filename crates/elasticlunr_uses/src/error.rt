@@ -5,7 +5,7 @@ use elasticlunr_search::SearchError;
 use std::alloc::{AllocError, AllocFailed};
 
 /// A refusal of the index, or of the search, or want of memory of the use's own.
-#[derive(Clone, Copy, Debug, PartialEq, Eq)]
+#[derive(Clone, Copy)]
 pub enum UseError {
     Index(IndexError),
     Search(SearchError),

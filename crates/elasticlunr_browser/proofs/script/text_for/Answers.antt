@@ -1,0 +1,12 @@
+use Rattle.std.proofs.Common.{◌∙◌, ◌++◌, ap, map}
+use Rattle.serde_json.specs.View.{view}
+use Rattle.elasticlunr_browser.specs.declared.template.TheConstants.{HEAD, TAIL}
+use Rattle.elasticlunr_browser.proofs.script.text_for.Goals as goal
+
+pub returns : goal.returns
+returns c = (
+  map view c.in_ok-stages.stages.items,
+  view c.in_ok-known.known,
+  c.in_ok-known.ensures,
+  λ exact. c.in_ok-text.ensures ∙ ap (λ bs. HEAD.now ++ bs ++ TAIL.now) (c.as_str.ensures.value ∙ c.in_ok-printed.ensures.text exact),
+)

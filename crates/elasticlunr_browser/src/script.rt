@@ -1,0 +1,95 @@
+//! The script.
+ghost use Rattle.std.specs.Prelude.{◌≡◌, ◌++◌, map, string_bytes, IfOk, IfSome};
+ghost use Rattle.serde_json.specs.View.{view};
+ghost use Rattle.elasticlunr_browser.specs.Facts.{IsFacts, IsScript, facts_data};
+
+use crate::classes::{Separators, marks_of};
+use crate::pairs::{LowerCase, pairs_of};
+use crate::stages::{numbers, push_stages, texts};
+use crate::template::{HEAD, TAIL};
+use elasticlunr_lang::{AnyLanguage, from_name, languages};
+use serde_json::{Value, json};
+use std::alloc::{AllocError, Global};
+
+/// The languages that the lines name, all of them where there is no line; `None` where a line is no
+/// name of a language.
+fn named(alloc: Global, names: &str) -> Result<Option<Vec<AnyLanguage>>, AllocError> {
+    let mut found = Vec::new(alloc);
+    for name in names.lines() {
+        let Some(language) = from_name(name) else {
+            return Ok(None);
+        };
+        found.push(language)?;
+    }
+    if found.is_empty() {
+        found = Vec::from_slice(alloc, &languages())?;
+    }
+    Ok(Some(found))
+}
+
+/// The stages of the languages.
+fn all_stages(alloc: Global, chosen: &[AnyLanguage]) -> Result<Vec<Value>, AllocError> {
+    let mut stages = Vec::new(alloc);
+    for language in chosen {
+        push_stages(alloc, *language, &mut stages)?;
+    }
+    Ok(stages)
+}
+
+/// What a script knows, as a value.
+fn facts_value(
+    alloc: Global,
+    between: &Value,
+    lower: &Value,
+    stages: &Value,
+) -> Result<Value, AllocError>
+    ensures { IfOk result (λ value. view value ≡ facts_data (view between.now) (view lower.now) (view stages.now)) }
+{
+    json!(in alloc; {"between": between, "lower": lower, "stages": stages})
+}
+
+/// What the script knows: the stages, the separators of words, and lower case.
+fn facts(alloc: Global, stages: Vec<Value>) -> Result<Value, AllocError>
+    ensures { IfOk result (λ value. IsFacts (map view stages.items) (view value)) }
+{
+    let listed = Value::Array(stages);
+    let marks = marks_of(alloc, &Separators {})?;
+    let between = numbers(alloc, &marks)?;
+    let pairs = pairs_of(alloc, &LowerCase {})?;
+    let lower = texts(alloc, &pairs)?;
+    let value = facts_value(alloc, &between, &lower, &listed)?;
+    Ok(value)
+}
+
+/// The text between the parts of the template.
+fn framed(alloc: Global, printed: &str) -> Result<String, AllocError>
+    ensures { IfOk result (λ text. string_bytes text ≡ HEAD.now ++ printed.now ++ TAIL.now) }
+{
+    let mut text = String::from_str(alloc, HEAD)?;
+    text.push_str(printed)?;
+    text.push_str(TAIL)?;
+    Ok(text)
+}
+
+/// The text of the script for the languages.
+fn text_for(alloc: Global, chosen: &[AnyLanguage]) -> Result<String, AllocError>
+    ensures { IfOk result (λ text. IsScript (string_bytes text)) }
+{
+    let stages = all_stages(alloc, chosen)?;
+    let known = facts(alloc, stages)?;
+    let printed = known.to_string(alloc)?;
+    let text = framed(alloc, printed.as_str())?;
+    Ok(text)
+}
+
+/// The script for the languages that the lines name, for all where there is no line; `None` where a
+/// line is no name of a language.
+pub fn script_for(alloc: Global, names: &str) -> Result<Option<String>, AllocError>
+    ensures { IfOk result (λ found. IfSome found (λ text. IsScript (string_bytes text))) }
+{
+    let Some(chosen) = named(alloc, names)? else {
+        return Ok(None);
+    };
+    let text = text_for(alloc, &chosen)?;
+    Ok(Some(text))
+}

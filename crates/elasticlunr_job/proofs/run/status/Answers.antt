@@ -1,0 +1,9 @@
+use Rattle.std.proofs.Common.{rules, ◌≡◌, ◌∙◌, Ok, ap, sym}
+use Rattle.elasticlunr_job.specs.declared.outcome.Outcome.TheVariants.{Refused}
+use Rattle.elasticlunr_job.specs.Status.{status_of}
+use Rattle.elasticlunr_job.proofs.run.status.Goals as goal
+
+pub returns-in-Ok-Refused : goal.returns-in-Ok-Refused
+returns-in-Ok-Refused c =
+    let refused : c.in-Ok-Refused.field-0 ≡ Refused c.in-Ok-Refused.field-0-0 = search rules in
+    ap status_of (sym (c.in-Ok-Refused.is ∙ ap Ok refused))

@@ -1,5 +1,0 @@
-use Rattle.elasticlunr_script.proofs.PairLemmas.{is_dropped}
-use Rattle.elasticlunr_script.proofs.stages.DroppedCharClass.has.Goals as goal
-
-pub returns : goal.returns
-returns c = is_dropped c.in_ok-left.left c.is_none.result _ c.args.c c.is_none.ensures c.in_ok-left.ensures.left c.in_ok-token.ensures

@@ -1,0 +1,23 @@
+-- What is found in the value of a printed index.
+use Rattle.std.specs.Prelude.{◌≡◌, ℕ, List, Some, codes}
+use Rattle.elasticlunr_text.specs.Text.{Bytes}
+use Rattle.elasticlunr_lang.specs.Known.{language_name}
+use Rattle.elasticlunr_lang.specs.declared.any.AnyLanguage.{AnyLanguage}
+use Rattle.elasticlunr.specs.History.{Commands}
+use Rattle.elasticlunr.specs.Kept.{KeptReads}
+use Rattle.elasticlunr.specs.Printed.{IsPrintOf}
+use Rattle.elasticlunr.specs.Standing.{Plan}
+use Rattle.elasticlunr_search.specs.Words.{FindsInField}
+use Rattle.elasticlunr_search.specs.declared.request.Request.{Request}
+use Rattle.serde_json.specs.Data.{Data, string}
+use Rattle.serde_json.specs.Find.{get}
+use Rattle.serde_json.specs.Read.{read}
+
+-- whatever printed text the value is of, these references are found of the query in the field, where this language read the documents
+abbrev pub AreFoundBy : AnyLanguage → Data → Request → List Bytes → Type 0
+AreFoundBy language v request found = (plan : Plan) (commands : Commands) (text : List ℕ) → read text ≡ Some v → IsPrintOf plan commands text
+    → FindsInField (KeptReads language) request.join plan commands request.field.now request.query.now found
+
+-- they are found by the language that the value names
+abbrev pub AreFoundOf : Data → Request → List Bytes → Type 0
+AreFoundOf v request found = (language : AnyLanguage) × (get (codes "lang") v ≡ Some (string (language_name language))) × AreFoundBy language v request found

@@ -1,0 +1,135 @@
+//! What is found for a text that has a request and an index.
+ghost use Rattle.std.specs.Prelude.{◌≡◌, Some, IfOk, codes, string_bytes};
+ghost use Rattle.elasticlunr_text.specs.Text.{bytes_of};
+ghost use Rattle.elasticlunr_lang.specs.Known.{language_name};
+ghost use Rattle.elasticlunr_search.specs.Answers.{AreFoundOf};
+ghost use Rattle.elasticlunr_search.specs.Lines.{lines};
+ghost use Rattle.serde_json.specs.Data.{string};
+ghost use Rattle.serde_json.specs.Find.{get};
+ghost use Rattle.serde_json.specs.Read.{read};
+ghost use Rattle.serde_json.specs.View.{view};
+
+use crate::error::SearchError;
+use crate::request::{Request, request_of};
+use crate::searcher::Searcher;
+use elasticlunr_lang::{AnyLanguage, Language, from_name};
+use serde_json::Value;
+use std::alloc::{AllocError, AllocFailed, Global};
+
+/// Why nothing was searched.
+#[derive(Clone, Copy)]
+pub enum Refusal {
+    NotARequest,
+    NotRead,
+    UnknownLanguage,
+    NoFields,
+    NoTries,
+    NoStore,
+    NoSuchField,
+    Memory,
+}
+
+impl From<AllocError> for Refusal {
+    fn from(_refused: AllocError) -> Refusal {
+        Refusal::Memory
+    }
+}
+
+impl<T: Drop> From<AllocFailed<T>> for Refusal {
+    fn from(_refused: AllocFailed<T>) -> Refusal {
+        Refusal::Memory
+    }
+}
+
+impl From<SearchError> for Refusal {
+    fn from(error: SearchError) -> Refusal {
+        match error {
+            SearchError::NotRead => Refusal::NotRead,
+            SearchError::OtherLanguage => Refusal::UnknownLanguage,
+            SearchError::BadFields => Refusal::NoFields,
+            SearchError::BadTries => Refusal::NoTries,
+            SearchError::BadStore => Refusal::NoStore,
+            SearchError::NoSuchField => Refusal::NoSuchField,
+            SearchError::Memory => Refusal::Memory,
+        }
+    }
+}
+
+/// The words of a refusal.
+pub fn reason(refusal: Refusal) -> &'static str {
+    match refusal {
+        Refusal::NotARequest => "not a request",
+        Refusal::NotRead => "not JSON",
+        Refusal::UnknownLanguage => "unknown language",
+        Refusal::NoFields => "no fields",
+        Refusal::NoTries => "no trie of a field",
+        Refusal::NoStore => "no document store",
+        Refusal::NoSuchField => "no such field",
+        Refusal::Memory => "out of memory",
+    }
+}
+
+/// The lines of the references that are found: of a text whose first line is a request, with the text
+/// of an index below it.
+pub fn answer(alloc: Global, input: &str) -> Result<String, Refusal> {
+    let Some((line, text)) = input.split_once('\n') else {
+        return Err(Refusal::NotARequest);
+    };
+    let line = json(alloc, line, Refusal::NotARequest)?;
+    let Some(request) = request_of(&line) else {
+        return Err(Refusal::NotARequest);
+    };
+    let index = json(alloc, text, Refusal::NotRead)?;
+    let found = find_in(alloc, &request, &index)?;
+    Ok(lines_of(alloc, &found)?)
+}
+
+/// The JSON value of a text, or else this refusal.
+fn json(alloc: Global, text: &str, unread: Refusal) -> Result<Value, Refusal>
+    ensures { IfOk result (λ value. read text.now ≡ Some (view value)) }
+{
+    match Value::from_str(alloc, text) {
+        Ok(value) => Ok(value),
+        Err(e) if e.is_memory() => Err(Refusal::Memory),
+        Err(_) => Err(unread),
+    }
+}
+
+/// The references that are found in the value of a printed index, by the language that it names.
+fn find_in(alloc: Global, request: &Request<'_>, index: &Value) -> Result<Vec<String>, Refusal>
+    ensures { IfOk result (λ found. AreFoundOf (view index.now) request.now (bytes_of found.items)) }
+{
+    let language = language_of(index)?;
+    let searcher = Searcher::from_value(alloc, language, index)?;
+    let found = searcher.find(request.join, request.field, request.query)?;
+    Ok(found)
+}
+
+/// The language that the value of a printed index names.
+fn language_of(index: &Value) -> Result<AnyLanguage, Refusal>
+    ensures { IfOk result (λ language.
+        get (codes "lang") (view index.now) ≡ Some (string (language_name language))) }
+{
+    let Some(lang) = index.get("lang") else {
+        return Err(Refusal::UnknownLanguage);
+    };
+    let Some(name) = lang.as_str() else {
+        return Err(Refusal::UnknownLanguage);
+    };
+    match from_name(name) {
+        Some(language) => Ok(language),
+        None => Err(Refusal::UnknownLanguage),
+    }
+}
+
+/// Each reference, with a line feed after it.
+fn lines_of(alloc: Global, references: &[String]) -> Result<String, AllocError>
+    ensures { IfOk result (λ text. string_bytes text ≡ lines (bytes_of references.now)) }
+{
+    let mut text = String::new(alloc);
+    for reference in references {
+        text.push_str(reference.as_str())?;
+        text.push('\n')?;
+    }
+    Ok(text)
+}

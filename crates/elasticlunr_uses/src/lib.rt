@@ -1,0 +1,10 @@
+//! Uses of the library as its callers write them, each with what its caller can rely on, proved.
+#![tactic(auto)]
+
+pub mod error;
+pub mod first;
+pub mod found;
+pub mod order;
+pub mod own;
+pub mod page;
+pub mod update;

@@ -8,7 +8,7 @@ pub const HEAD: &str =
      const elasticlunr = require('./elasticlunr.min.js');
      require('./elasticlunr-languages.js')(elasticlunr);
 
-   Printed by the program elasticlunr_browser; change nothing here. */
+   Printed by the program elasticlunr_script; change nothing here. */
 (function (extend) {
   'use strict';
   if (typeof module === 'object' && module.exports) module.exports = extend;

@@ -1,5 +1,6 @@
--- What is found in the value of a printed index.
-use Rattle.std.specs.Prelude.{◌≡◌, ℕ, List, Some, codes}
+-- What is found in the value of a printed index, and in a text that has a request and an index.
+use Rattle.std.specs.Prelude.{◌≡◌, ◌==◌, ℕ, Bool, List, Some, codes}
+use Rattle.std.specs.List.{before_first, after_first}
 use Rattle.elasticlunr_text.specs.Text.{Bytes}
 use Rattle.elasticlunr_lang.specs.Known.{language_name}
 use Rattle.elasticlunr_lang.specs.declared.any.AnyLanguage.{AnyLanguage}
@@ -7,6 +8,8 @@ use Rattle.elasticlunr.specs.History.{Commands}
 use Rattle.elasticlunr.specs.Kept.{KeptReads}
 use Rattle.elasticlunr.specs.Printed.{IsPrintOf}
 use Rattle.elasticlunr.specs.Standing.{Plan}
+use Rattle.elasticlunr_search.specs.Lines.{lines}
+use Rattle.elasticlunr_search.specs.Requests.{IsRequest}
 use Rattle.elasticlunr_search.specs.Words.{FindsInField}
 use Rattle.elasticlunr_search.specs.declared.request.Request.{Request}
 use Rattle.serde_json.specs.Data.{Data, string}
@@ -21,3 +24,18 @@ AreFoundBy language v request found = (plan : Plan) (commands : Commands) (text 
 -- they are found by the language that the value names
 abbrev pub AreFoundOf : Data → Request → List Bytes → Type 0
 AreFoundOf v request found = (language : AnyLanguage) × (get (codes "lang") v ≡ Some (string (language_name language))) × AreFoundBy language v request found
+
+abbrev pub is_line_feed : ℕ → Bool
+is_line_feed byte = byte == 10
+
+-- the first line is a request, and what stands below it the text of an index, of which these lines are found
+pub record IsFoundBelow (input text : Bytes) : Type 0 where
+  pub asked : Data
+  pub index : Data
+  pub request : Request
+  pub found : List Bytes
+  pub above : read (before_first is_line_feed input) ≡ Some asked
+  pub is_request : IsRequest asked request.field.now request.query.now request.join
+  pub below : read (after_first is_line_feed input) ≡ Some index
+  pub are_found : AreFoundOf index request found
+  pub are_lines : text ≡ lines found

@@ -2,7 +2,7 @@
 ghost use Rattle.std.specs.Prelude.{◌≡◌, Some, IfOk, codes, string_bytes};
 ghost use Rattle.elasticlunr_text.specs.Text.{bytes_of};
 ghost use Rattle.elasticlunr_lang.specs.Known.{language_name};
-ghost use Rattle.elasticlunr_search.specs.Answers.{AreFoundOf};
+ghost use Rattle.elasticlunr_search.specs.Answers.{AreFoundOf, IsFoundBelow};
 ghost use Rattle.elasticlunr_search.specs.Lines.{lines};
 ghost use Rattle.serde_json.specs.Data.{string};
 ghost use Rattle.serde_json.specs.Find.{get};
@@ -71,7 +71,9 @@ pub fn reason(refusal: Refusal) -> &'static str {
 
 /// The lines of the references that are found: of a text whose first line is a request, with the text
 /// of an index below it.
-pub fn answer(alloc: Global, input: &str) -> Result<String, Refusal> {
+pub fn answer(alloc: Global, input: &str) -> Result<String, Refusal>
+    ensures { IfOk result (λ text. IsFoundBelow input.now (string_bytes text)) }
+{
     let Some((line, text)) = input.split_once('\n') else {
         return Err(Refusal::NotARequest);
     };

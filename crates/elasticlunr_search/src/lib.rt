@@ -9,7 +9,7 @@ pub mod answer;
 mod error;
 mod parts;
 mod printed;
-pub mod request;
+mod request;
 mod searcher;
 mod tries;
 mod words;

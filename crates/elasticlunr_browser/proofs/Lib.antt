@@ -1,3 +1,5 @@
 pub mod MarkLemmas
 pub mod PairLemmas
 pub mod StageLemmas
+pub mod NameLemmas
+pub mod KindLemmas

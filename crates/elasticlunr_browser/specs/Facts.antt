@@ -8,7 +8,10 @@ use Rattle.serde_json.specs.Written.{compact_text, has_float}
 use Rattle.elasticlunr_text.specs.Text.{Bytes, texts_of, bytes_of}
 use Rattle.elasticlunr_lang.specs.Lower.{lower}
 use Rattle.elasticlunr_lang.specs.Words.{is_separator}
+use Rattle.elasticlunr_lang.specs.declared.any.AnyLanguage.{AnyLanguage}
+use Rattle.elasticlunr_browser.specs.Kinds.{HoldsLanguages}
 use Rattle.elasticlunr_browser.specs.Marks.{Marks}
+use Rattle.elasticlunr_browser.specs.Named.{AreNamed}
 use Rattle.elasticlunr_browser.specs.Pairs.{Pairs}
 use Rattle.elasticlunr_browser.specs.Stages.{texts, numbers}
 use Rattle.elasticlunr_browser.specs.declared.template.TheConstants.{HEAD, TAIL}
@@ -29,6 +32,10 @@ pub record IsFacts (stages : List Data) (d : Data) : Type 0 where
 abbrev pub script_text : Data → Bytes
 script_text facts = HEAD.now ++ compact_text facts ++ TAIL.now
 
--- the text is of a script with some stages; no number in it is a float
-abbrev pub IsScript : Bytes → Type 0
-IsScript text = (stages : List Data) × (facts : Data) × IsFacts stages facts × (has_float facts ≡ false → text ≡ script_text facts)
+-- the text is the script of these languages; no number in it is a float
+abbrev pub IsScriptOf : List AnyLanguage → Bytes → Type 0
+IsScriptOf languages text = (stages : List Data) × (facts : Data) × HoldsLanguages languages stages × IsFacts stages facts × (has_float facts ≡ false → text ≡ script_text facts)
+
+-- the text is the script of the languages that these lines name
+abbrev pub IsScriptFor : List Bytes → Bytes → Type 0
+IsScriptFor lines text = (languages : List AnyLanguage) × AreNamed lines languages × IsScriptOf languages text

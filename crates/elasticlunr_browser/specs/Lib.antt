@@ -1,4 +1,6 @@
 pub mod Marks
 pub mod Pairs
 pub mod Stages
+pub mod Kinds
 pub mod Facts
+pub mod Named

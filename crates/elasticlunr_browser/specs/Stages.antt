@@ -1,6 +1,5 @@
--- Stages as a script holds them: as JSON values.
-use Rattle.std.specs.Prelude.{◌≡◌, ℕ, List, map, codes, string_bytes, Option, None, IsSomeAnd}
-use Rattle.std.specs.List.{filter_map, AllZip}
+-- What a script holds of single stages, as JSON values.
+use Rattle.std.specs.Prelude.{◌≡◌, ℕ, List, map, codes}
 use Rattle.std.specs.declared.string.String.{String}
 use Rattle.std.specs.declared.alloc.Global.{Global}
 use Rattle.serde_json.specs.Data.{Data, unsigned, number, string, array, object, member, no_members}
@@ -11,8 +10,6 @@ use Rattle.elasticlunr_text.specs.Trimmers.{trimmer_name, keeps}
 use Rattle.elasticlunr_text.specs.Arabic.{is_diacritic}
 use Rattle.elasticlunr_text.specs.declared.lang.common.stop_words.StopWordFilter.{StopWordFilter}
 use Rattle.elasticlunr_text.specs.declared.lang.common.trimmer.RegexTrimmer.{RegexTrimmer}
-use Rattle.elasticlunr_text.specs.declared.pipeline.stage.Stage.{Stage}
-use Rattle.elasticlunr_text.specs.declared.pipeline.stage.Stage.TheVariants.{EnglishTrimmer, StopWords, Class, EnglishStemmer, ArabicStemmer, Keep, Function, Own}
 use Rattle.elasticlunr_browser.specs.Marks.{Marks}
 use Rattle.elasticlunr_browser.specs.Pairs.{Pairs, arabic_change}
 
@@ -51,17 +48,6 @@ pub record IsArabic (d : Data) : Type 0 where
   pub are_pairs : Pairs arabic_change (texts_of pairs)
   pub value : d ≡ arabic_data (codes "stemmer-ar") (numbers marks) (texts (bytes_of pairs))
 
--- what a script holds of a stage: nothing of those of English, which elasticlunr.js has, and of a user's own
-abbrev pub IsStage : {f x p calls : _} → Stage f x p calls → Option Data → Type 0
-IsStage EnglishTrimmer d = d ≡ None
-IsStage (StopWords filter) d = IsSomeAnd d (IsFilter filter)
-IsStage (Class trimmer) d = IsSomeAnd d (IsTrimmer trimmer)
-IsStage EnglishStemmer d = d ≡ None
-IsStage ArabicStemmer d = IsSomeAnd d IsArabic
-IsStage (Keep name) d = IsSomeAnd d (λ value. value ≡ object (member (codes "name") (string (string_bytes name)) no_members))
-IsStage (Function wrapper) d = d ≡ None
-IsStage (Own step) d = d ≡ None
-
--- what it holds of several, in order
-abbrev pub AreStages : {f x p calls : _} → List (Stage f x p calls) → List Data → Type 0
-AreStages stages ds = (each : List (Option Data)) × AllZip IsStage stages each × (ds ≡ filter_map (λ d. d) each)
+-- the name of a stage that keeps every token
+abbrev pub keep_data : Bytes → Data
+keep_data name = object (member (codes "name") (string name) no_members)

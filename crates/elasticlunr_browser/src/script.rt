@@ -1,7 +1,11 @@
 //! The script.
-ghost use Rattle.std.specs.Prelude.{◌≡◌, ◌++◌, map, string_bytes, IfOk, IfSome};
+ghost use Rattle.std.specs.Prelude.{◌≡◌, ◌++◌, map, string_bytes, IfOk, IfSome, IsNone};
+ghost use Rattle.std.specs.List.{AllZip, Any};
+ghost use Rattle.std.specs.Str.Lines.{lines};
 ghost use Rattle.serde_json.specs.View.{view};
-ghost use Rattle.elasticlunr_browser.specs.Facts.{IsFacts, IsScript, facts_data};
+ghost use Rattle.elasticlunr_browser.specs.Facts.{IsFacts, IsScriptOf, IsScriptFor, facts_data};
+ghost use Rattle.elasticlunr_browser.specs.Kinds.{HoldsLanguages};
+ghost use Rattle.elasticlunr_browser.specs.Named.{IsNameOf, IsNoName, AreNamed};
 
 use crate::classes::{Separators, marks_of};
 use crate::pairs::{LowerCase, pairs_of};
@@ -11,24 +15,38 @@ use elasticlunr_lang::{AnyLanguage, from_name, languages};
 use serde_json::{Value, json};
 use std::alloc::{AllocError, Global};
 
-/// The languages that the lines name, all of them where there is no line; `None` where a line is no
-/// name of a language.
-fn named(alloc: Global, names: &str) -> Result<Option<Vec<AnyLanguage>>, AllocError> {
-    let mut found = Vec::new(alloc);
-    for name in names.lines() {
+/// The languages of these names, in order; `None` where a text is no name of a language.
+fn of_names(alloc: Global, names: &[&str]) -> Result<Option<Vec<AnyLanguage>>, AllocError>
+    ensures some { IfOk result (λ found. IfSome found (λ chosen. AllZip IsNameOf (map (λ name. name.now) names.now) chosen.items)) }
+    ensures none { IfOk result (λ found. IsNone found → Any IsNoName (map (λ name. name.now) names.now)) }
+{
+    let mut chosen = Vec::with_capacity(alloc, names.len())?;
+    for name in names {
         let Some(language) = from_name(name) else {
             return Ok(None);
         };
-        found.push(language)?;
+        chosen.push(language)?;
     }
-    if found.is_empty() {
-        found = Vec::from_slice(alloc, &languages())?;
+    Ok(Some(chosen))
+}
+
+/// The languages that the lines name, all of them where there is no line; `None` where a line is no
+/// name of a language.
+fn named(alloc: Global, names: &str) -> Result<Option<Vec<AnyLanguage>>, AllocError>
+    ensures some { IfOk result (λ found. IfSome found (λ chosen. AreNamed (lines names.now) chosen.items)) }
+    ensures none { IfOk result (λ found. IsNone found → Any IsNoName (lines names.now)) }
+{
+    let each: Vec<&str> = names.lines().collect(alloc)?;
+    if each.is_empty() {
+        return Ok(Some(Vec::from_slice(alloc, &languages())?));
     }
-    Ok(Some(found))
+    of_names(alloc, &each)
 }
 
 /// The stages of the languages.
-fn all_stages(alloc: Global, chosen: &[AnyLanguage]) -> Result<Vec<Value>, AllocError> {
+fn all_stages(alloc: Global, chosen: &[AnyLanguage]) -> Result<Vec<Value>, AllocError>
+    ensures { IfOk result (λ stages. HoldsLanguages chosen.now (map view stages.items)) }
+{
     let mut stages = Vec::new(alloc);
     for language in chosen {
         push_stages(alloc, *language, &mut stages)?;
@@ -73,7 +91,7 @@ fn framed(alloc: Global, printed: &str) -> Result<String, AllocError>
 
 /// The text of the script for the languages.
 fn text_for(alloc: Global, chosen: &[AnyLanguage]) -> Result<String, AllocError>
-    ensures { IfOk result (λ text. IsScript (string_bytes text)) }
+    ensures { IfOk result (λ text. IsScriptOf chosen.now (string_bytes text)) }
 {
     let stages = all_stages(alloc, chosen)?;
     let known = facts(alloc, stages)?;
@@ -85,7 +103,8 @@ fn text_for(alloc: Global, chosen: &[AnyLanguage]) -> Result<String, AllocError>
 /// The script for the languages that the lines name, for all where there is no line; `None` where a
 /// line is no name of a language.
 pub fn script_for(alloc: Global, names: &str) -> Result<Option<String>, AllocError>
-    ensures { IfOk result (λ found. IfSome found (λ text. IsScript (string_bytes text))) }
+    ensures some { IfOk result (λ found. IfSome found (λ text. IsScriptFor (lines names.now) (string_bytes text))) }
+    ensures none { IfOk result (λ found. IsNone found → Any IsNoName (lines names.now)) }
 {
     let Some(chosen) = named(alloc, names)? else {
         return Ok(None);

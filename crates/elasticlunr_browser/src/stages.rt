@@ -1,10 +1,12 @@
 //! The stages of a language, as a script holds them.
-ghost use Rattle.std.specs.Prelude.{◌≡◌, ◌∷◌, [], ◌++◌, map, string_bytes, option_map, IfOk, IfSome, OnOk, IsNone, None};
+ghost use Rattle.std.specs.Prelude.{◌≡◌, ◌∷◌, [], ◌++◌, List, map, string_bytes, option_map, IfOk, IfSome, OnOk, IsNone, None};
 ghost use Rattle.serde_json.specs.View.{view};
 ghost use Rattle.elasticlunr_text.specs.Text.{Text, texts_of, bytes_of, is_listed};
 ghost use Rattle.elasticlunr_text.specs.StopWords.{has_word};
 ghost use Rattle.elasticlunr_browser.specs.Stages as spec;
-ghost use Rattle.elasticlunr_browser.specs.Stages.{IsFilter, IsTrimmer, IsArabic, IsStage, AreStages, filter_data, arabic_data};
+ghost use Rattle.elasticlunr_browser.specs.Stages.{IsFilter, IsTrimmer, IsArabic, filter_data, arabic_data};
+ghost use Rattle.elasticlunr_browser.specs.Kinds.{HoldsStage, HoldsStages, HoldsLanguage};
+ghost use Rattle.serde_json.specs.Data.{Data};
 
 use crate::classes::{CharClass, TrimmerClass, marks_of};
 use crate::pairs::{ArabicChange, alone, pairs_of, push_some};
@@ -121,7 +123,7 @@ fn arabic(alloc: Global) -> Result<Value, AllocError>
 
 /// A stage, if it isn't one of the browser script's own.
 fn stage_of(alloc: Global, stage: &Stage) -> Result<Option<Value>, AllocError>
-    ensures { IfOk result (λ found. IsStage stage.now (option_map view found)) }
+    ensures { IfOk result (λ found. HoldsStage stage.now (option_map view found)) }
 {
     match stage {
         Stage::StopWords(filter) => Ok(Some(stop_words(alloc, filter)?)),
@@ -137,7 +139,7 @@ fn stage_of(alloc: Global, stage: &Stage) -> Result<Option<Value>, AllocError>
 
 /// The stages of a pipeline.
 pub fn stages_of(alloc: Global, pipeline: &Pipeline) -> Result<Vec<Value>, AllocError>
-    ensures { IfOk result (λ values. AreStages pipeline.now.queue.items (map view values.items)) }
+    ensures { IfOk result (λ values. HoldsStages pipeline.now.queue.items (map view values.items)) }
 {
     let mut values = Vec::new(alloc);
     for stage in &pipeline.queue {
@@ -152,7 +154,10 @@ pub fn push_stages(
     alloc: Global,
     language: AnyLanguage,
     stages: &mut Vec<Value>,
-) -> Result<(), AllocError> {
+) -> Result<(), AllocError>
+    ensures { OnOk result ((its : List Data) × HoldsLanguage language its
+        × (map view stages.new.items ≡ map view stages.old.items ++ its)) }
+{
     if let AnyLanguage::English = language {
         return Ok(());
     }

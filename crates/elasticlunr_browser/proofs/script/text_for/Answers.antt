@@ -7,6 +7,7 @@ pub returns : goal.returns
 returns c = (
   map view c.in_ok-stages.stages.items,
   view c.in_ok-known.known,
+  c.in_ok-stages.ensures,
   c.in_ok-known.ensures,
   λ exact. c.in_ok-text.ensures ∙ ap (λ bs. HEAD.now ++ bs ++ TAIL.now) (c.as_str.ensures.value ∙ c.in_ok-printed.ensures.text exact),
 )

@@ -10,3 +10,4 @@ pub mod Asking
 pub mod Searching
 pub mod Wording
 pub mod Joined
+pub mod Requested

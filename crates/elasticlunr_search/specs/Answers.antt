@@ -28,14 +28,20 @@ AreFoundOf v request found = (language : AnyLanguage) × (get (codes "lang") v �
 abbrev pub is_line_feed : ℕ → Bool
 is_line_feed byte = byte == 10
 
+-- the first line is the request
+abbrev pub Asks : Bytes → Request → Type 0
+Asks input request = (asked : Data) × (read (before_first is_line_feed input) ≡ Some asked) × IsRequest asked request.field.now request.query.now request.join
+
+-- what stands below the first line has this value
+abbrev pub HasBelow : Bytes → Data → Type 0
+HasBelow input index = read (after_first is_line_feed input) ≡ Some index
+
 -- the first line is a request, and what stands below it the text of an index, of which these lines are found
 pub record IsFoundBelow (input text : Bytes) : Type 0 where
-  pub asked : Data
-  pub index : Data
   pub request : Request
+  pub index : Data
   pub found : List Bytes
-  pub above : read (before_first is_line_feed input) ≡ Some asked
-  pub is_request : IsRequest asked request.field.now request.query.now request.join
-  pub below : read (after_first is_line_feed input) ≡ Some index
+  pub asks : Asks input request
+  pub below : HasBelow input index
   pub are_found : AreFoundOf index request found
   pub are_lines : text ≡ lines found

@@ -6,3 +6,4 @@ pub mod Standing
 pub mod Requests
 pub mod Lines
 pub mod Answers
+pub mod Unanswered

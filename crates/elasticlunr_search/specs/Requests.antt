@@ -12,3 +12,7 @@ join_text All = codes "all"
 -- the value is the array of this field, this query and this join
 abbrev pub IsRequest : Data → List ℕ → List ℕ → Join → Type 0
 IsRequest v field query join = v ≡ array (item (string field) (item (string query) (item (string (join_text join)) no_items)))
+
+-- the value is no request
+abbrev pub IsNoRequest : Data → Type 0
+IsNoRequest v = (field query : List ℕ) (join : Join) → ¬ IsRequest v field query join

@@ -1,9 +1,11 @@
 //! What is found for a text that has a request and an index.
-ghost use Rattle.std.specs.Prelude.{◌≡◌, Some, IfOk, codes, string_bytes};
+ghost use Rattle.std.specs.Prelude.{◌≡◌, ◌⊎◌, Some, None, IfOk, IfErr, codes, string_bytes};
 ghost use Rattle.elasticlunr_text.specs.Text.{bytes_of};
 ghost use Rattle.elasticlunr_lang.specs.Known.{language_name};
 ghost use Rattle.elasticlunr_search.specs.Answers.{AreFoundOf, IsFoundBelow};
 ghost use Rattle.elasticlunr_search.specs.Lines.{lines};
+ghost use Rattle.elasticlunr_search.specs.Unanswered.{IsNotSearched, IsRefusedBelow, NamesNone, refusal_text};
+ghost use Rattle.elasticlunr_search.specs.declared.answer.Refusal.TheVariants.{UnknownLanguage, Memory};
 ghost use Rattle.serde_json.specs.Data.{string};
 ghost use Rattle.serde_json.specs.Find.{get};
 ghost use Rattle.serde_json.specs.Read.{read};
@@ -30,18 +32,33 @@ pub enum Refusal {
 }
 
 impl From<AllocError> for Refusal {
+    ghost use Rattle.elasticlunr_search.specs.declared.answer.Refusal.TheVariants.{Memory};
+    ghost use Rattle.std.specs.Prelude.{◌≡◌};
+
+    ghost from_gives = { λ _ e. e ≡ Memory };
+
     fn from(_refused: AllocError) -> Refusal {
         Refusal::Memory
     }
 }
 
 impl<T: Drop> From<AllocFailed<T>> for Refusal {
+    ghost use Rattle.elasticlunr_search.specs.declared.answer.Refusal.TheVariants.{Memory};
+    ghost use Rattle.std.specs.Prelude.{◌≡◌};
+
+    ghost from_gives = { λ _ e. e ≡ Memory };
+
     fn from(_refused: AllocFailed<T>) -> Refusal {
         Refusal::Memory
     }
 }
 
 impl From<SearchError> for Refusal {
+    ghost use Rattle.elasticlunr_search.specs.Unanswered.{refusal_of};
+    ghost use Rattle.std.specs.Prelude.{◌≡◌};
+
+    ghost from_gives = { λ error e. e ≡ refusal_of error };
+
     fn from(error: SearchError) -> Refusal {
         match error {
             SearchError::NotRead => Refusal::NotRead,
@@ -56,7 +73,9 @@ impl From<SearchError> for Refusal {
 }
 
 /// The words of a refusal.
-pub fn reason(refusal: Refusal) -> &'static str {
+pub fn reason(refusal: Refusal) -> &'static str
+    ensures { result.now ≡ refusal_text refusal }
+{
     match refusal {
         Refusal::NotARequest => "not a request",
         Refusal::NotRead => "not JSON",
@@ -72,7 +91,8 @@ pub fn reason(refusal: Refusal) -> &'static str {
 /// The lines of the references that are found: of a text whose first line is a request, with the text
 /// of an index below it.
 pub fn answer(alloc: Global, input: &str) -> Result<String, Refusal>
-    ensures { IfOk result (λ text. IsFoundBelow input.now (string_bytes text)) }
+    ensures found { IfOk result (λ text. IsFoundBelow input.now (string_bytes text)) }
+    ensures refused { IfErr result (IsRefusedBelow input.now) }
 {
     let Some((line, text)) = input.split_once('\n') else {
         return Err(Refusal::NotARequest);
@@ -88,7 +108,8 @@ pub fn answer(alloc: Global, input: &str) -> Result<String, Refusal>
 
 /// The JSON value of a text, or else this refusal.
 fn json(alloc: Global, text: &str, unread: Refusal) -> Result<Value, Refusal>
-    ensures { IfOk result (λ value. read text.now ≡ Some (view value)) }
+    ensures ok { IfOk result (λ value. read text.now ≡ Some (view value)) }
+    ensures err { IfErr result (λ e. (e ≡ Memory) ⊎ ((e ≡ unread) × (read text.now ≡ None))) }
 {
     match Value::from_str(alloc, text) {
         Ok(value) => Ok(value),
@@ -99,7 +120,8 @@ fn json(alloc: Global, text: &str, unread: Refusal) -> Result<Value, Refusal>
 
 /// The references that are found in the value of a printed index, by the language that it names.
 fn find_in(alloc: Global, request: &Request<'_>, index: &Value) -> Result<Vec<String>, Refusal>
-    ensures { IfOk result (λ found. AreFoundOf (view index.now) request.now (bytes_of found.items)) }
+    ensures found { IfOk result (λ found. AreFoundOf (view index.now) request.now (bytes_of found.items)) }
+    ensures refused { IfErr result (IsNotSearched (view index.now) request.now) }
 {
     let language = language_of(index)?;
     let searcher = Searcher::from_value(alloc, language, index)?;
@@ -109,8 +131,9 @@ fn find_in(alloc: Global, request: &Request<'_>, index: &Value) -> Result<Vec<St
 
 /// The language that the value of a printed index names.
 fn language_of(index: &Value) -> Result<AnyLanguage, Refusal>
-    ensures { IfOk result (λ language.
+    ensures named { IfOk result (λ language.
         get (codes "lang") (view index.now) ≡ Some (string (language_name language))) }
+    ensures none { IfErr result (λ e. (e ≡ UnknownLanguage) × NamesNone (view index.now)) }
 {
     let Some(lang) = index.get("lang") else {
         return Err(Refusal::UnknownLanguage);

@@ -1,6 +1,6 @@
 //! What the first line asks for.
-ghost use Rattle.std.specs.Prelude.{IfSome};
-ghost use Rattle.elasticlunr_search.specs.Requests.{IsRequest};
+ghost use Rattle.std.specs.Prelude.{IfSome, IsNone};
+ghost use Rattle.elasticlunr_search.specs.Requests.{IsRequest, IsNoRequest};
 ghost use Rattle.serde_json.specs.View.{view};
 
 use crate::words::Join;
@@ -16,7 +16,8 @@ pub struct Request<'a> {
 
 /// The request that an array of a field, a query and `any` or `all` is.
 pub fn request_of(value: &Value) -> Option<Request<'_>>
-    ensures { IfSome result (λ request. IsRequest (view value.now) request.field.now request.query.now request.join) }
+    ensures some { IfSome result (λ request. IsRequest (view value.now) request.field.now request.query.now request.join) }
+    ensures none { IsNone result → IsNoRequest (view value.now) }
 {
     let items = value.as_array()?;
     if items.len() != 3 {

@@ -1,0 +1,75 @@
+-- Why nothing is searched for a text that should have a request and an index.
+use Rattle.std.specs.Prelude.{◌≡◌, ◌≢◌, ◌⊎◌, ℕ, List, false, Some, None, All, codes}
+use Rattle.std.specs.List.{before_first, after_first}
+use Rattle.elasticlunr_text.specs.Text.{Bytes}
+use Rattle.elasticlunr_lang.specs.Known.{all_languages, language_name}
+use Rattle.elasticlunr.specs.Fields.{has_name}
+use Rattle.elasticlunr.specs.History.{Commands}
+use Rattle.elasticlunr.specs.Printed.{IsPrintOf}
+use Rattle.elasticlunr.specs.Standing.{Plan}
+use Rattle.elasticlunr_search.specs.Answers.{is_line_feed, Asks, HasBelow}
+use Rattle.elasticlunr_search.specs.Refusal.{Lacks}
+use Rattle.elasticlunr_search.specs.Requests.{IsNoRequest}
+use Rattle.elasticlunr_search.specs.declared.answer.Refusal.{Refusal}
+use Rattle.elasticlunr_search.specs.declared.answer.Refusal.TheVariants.{NotARequest, NotRead, UnknownLanguage, NoFields, NoTries, NoStore, NoSuchField, Memory}
+use Rattle.elasticlunr_search.specs.declared.error.SearchError.{SearchError}
+use Rattle.elasticlunr_search.specs.declared.error.SearchError.TheVariants as error
+use Rattle.elasticlunr_search.specs.declared.request.Request.{Request}
+use Rattle.serde_json.specs.Data.{Data, string}
+use Rattle.serde_json.specs.Find.{get}
+use Rattle.serde_json.specs.Read.{read}
+
+-- what is printed of a refusal
+abbrev pub refusal_text : Refusal → Bytes
+refusal_text NotARequest = codes "not a request"
+refusal_text NotRead = codes "not JSON"
+refusal_text UnknownLanguage = codes "unknown language"
+refusal_text NoFields = codes "no fields"
+refusal_text NoTries = codes "no trie of a field"
+refusal_text NoStore = codes "no document store"
+refusal_text NoSuchField = codes "no such field"
+refusal_text Memory = codes "out of memory"
+
+-- how a refusal of the searcher is told
+abbrev pub refusal_of : SearchError → Refusal
+refusal_of error.NotRead = NotRead
+refusal_of error.OtherLanguage = UnknownLanguage
+refusal_of error.BadFields = NoFields
+refusal_of error.BadTries = NoTries
+refusal_of error.BadStore = NoStore
+refusal_of error.NoSuchField = NoSuchField
+refusal_of error.Memory = Memory
+
+-- there is no line below the first one
+abbrev pub IsOneLine : Bytes → Type 0
+IsOneLine input = before_first is_line_feed input ≡ input
+
+-- the first line is no request
+abbrev pub AsksNothing : Bytes → Type 0
+AsksNothing input = (asked : Data) → read (before_first is_line_feed input) ≡ Some asked → IsNoRequest asked
+
+-- the value names no language
+abbrev pub NamesNone : Data → Type 0
+NamesNone v = All (λ language. get (codes "lang") v ≢ Some (string (language_name language))) all_languages
+
+-- whatever printed text the value is of, its index has no field of this name
+abbrev pub HasNoField : Data → Bytes → Type 0
+HasNoField v field = (plan : Plan) (commands : Commands) (text : List ℕ) → read text ≡ Some v → IsPrintOf plan commands text → has_name field plan.fields ≡ false
+
+-- why the value is not searched for a request, want of memory aside
+abbrev pub IsNotSearched : Data → Request → Refusal → Type 0
+IsNotSearched v request NotARequest = ⊥
+IsNotSearched v request NotRead = ⊥
+IsNotSearched v request UnknownLanguage = NamesNone v
+IsNotSearched v request NoFields = Lacks v error.BadFields
+IsNotSearched v request NoTries = Lacks v error.BadTries
+IsNotSearched v request NoStore = Lacks v error.BadStore
+IsNotSearched v request NoSuchField = HasNoField v request.field.now
+IsNotSearched v request Memory = Unit {0}
+
+-- why nothing is searched for the text: there is no request above a line feed; what stands below it is not JSON; or its value is not searched
+abbrev pub IsRefusedBelow : Bytes → Refusal → Type 0
+IsRefusedBelow input NotARequest = IsOneLine input ⊎ AsksNothing input
+IsRefusedBelow input NotRead = (request : Request) × Asks input request × (read (after_first is_line_feed input) ≡ None)
+IsRefusedBelow input Memory = Unit {0}
+IsRefusedBelow input refusal = (request : Request) × Asks input request × (v : Data) × HasBelow input v × IsNotSearched v request refusal

@@ -7,7 +7,7 @@ mkdir -p out
 log=out/test.log
 : >"$log"
 echo "Proves every crate from nothing, tries wrong bodies, runs the tests, and then the checks of bench/."
-echo "This takes about 40 minutes on four cores. All that is said goes to $log."
+echo "This takes 40 to 90 minutes on four cores, by how fast they are. All that is said goes to $log."
 python3 bench/gate.py "$log"
 status=$?
 if [ "$status" -eq 0 ]; then

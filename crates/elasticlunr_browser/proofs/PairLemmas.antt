@@ -1,7 +1,7 @@
 -- The pairs of a change, as far as a loop has come.
 use Rattle.std.proofs.Common.{◌≡◌, ℕ, ◌+◌, ◌<◌, ◌≤◌, ◌⊎◌, inl, inr, List, [], ◌∷◌, ◌++◌, Bool, true, false, not, String, Option, Some, None, IfSome, IsNone, option_to_list, option_map, string_bytes, refl, sym, ap, subst, ◌∙◌, arith, below_more}
 use Rattle.std.specs.List.{All, Contains}
-use Rattle.std.specs.Option.{is_none, is_some}
+use Rattle.std.specs.Option.{is_none, is_some, unwrap_or}
 use Rattle.std.specs.Char.{InScalarRange}
 use Rattle.std.specs.Str.{chars}
 use Rattle.std.specs.declared.alloc.Global.{Global}
@@ -11,7 +11,7 @@ use Rattle.std.proofs.lemmas.Str.{IsUtf8-string_bytes, chars-append}
 use Rattle.elasticlunr_text.specs.Text.{Text, text_of, texts_of}
 use Rattle.elasticlunr_text.specs.Trimmed.{unless_empty}
 use Rattle.elasticlunr_text.specs.Arabic.{without_first, with_first, is_diacritic, is_marked_alef, arabic_stem}
-use Rattle.elasticlunr_browser.specs.Pairs.{Pairs, IsPair}
+use Rattle.elasticlunr_browser.specs.Pairs.{Pairs, IsPair, arabic_change}
 
 -- the pairs of the characters below n
 pub record ArePairs (changed : ℕ → Text) (n : ℕ) (pairs : List Text) : Type 0 where
@@ -89,3 +89,14 @@ is_dropped left nothing token c told is alone = said left nothing told ∙ ap is
     said None false e = cc
     said (Some s) true e = cc
     said (Some s) false e = refl
+
+-- what the Arabic stemmer left of a character alone is what stands for it, and the character itself where it left nothing
+module _ (left : Option (String Global)) (token : Text) (c : ℕ) (is : option_map text_of left ≡ arabic_stem token) (alone : token ≡ c ∷ []) where
+  stem_of_one : arabic_stem (c ∷ []) ≡ option_map text_of left
+  stem_of_one = sym (is ∙ ap arabic_stem alone)
+
+  pub stands_for_itself : left ≡ None → arabic_change c ≡ c ∷ []
+  stands_for_itself none = ap (λ stem. unwrap_or stem (c ∷ [])) (stem_of_one ∙ ap (option_map text_of) none)
+
+  pub stands_left : (text : String Global) → left ≡ Some text → text_of text ≡ arabic_change c
+  stands_left text some = sym (ap (λ stem. unwrap_or stem (c ∷ [])) (stem_of_one ∙ ap (option_map text_of) some))

@@ -1,5 +1,7 @@
-use Rattle.std.proofs.Common.{map, ap, ◌∙◌}
+use Rattle.std.proofs.Common.{map, sym, ap, ◌∙◌, ◌++◌}
+use Rattle.std.proofs.lemmas.List.{append-nil, drop_all}
 use Rattle.elasticlunr_trie.specs.Starts.{told}
+use Rattle.elasticlunr_trie.specs.Table.{told_tokens}
 use Rattle.elasticlunr_trie.specs.Trie.{step_of}
 use Rattle.elasticlunr_trie.proofs.Starts.{walked_on}
 use Rattle.elasticlunr_trie.proofs.inverted_index.starts.starts_of.Goals as goal
@@ -12,3 +14,10 @@ returns-clause-starts c = (walked_on (step_of c.args.root.now c.args.nodes.now) 
 
 pub returns-clause-told : goal.returns-clause-told
 returns-clause-told c = (walked_on (step_of c.args.root.now c.args.nodes.now) c.loop.starts.len c.deref_mut-2.result.now c.finish_all.new.starts _ _ c.deref_mut-2.ensures.len c.finish_all.ensures.told c.finish_all.ensures.starts (ap (map told) c.deref_mut-2.ensures.value ∙ c.loop.invariant.1)).1
+
+pub loop-init : goal.loop-init
+loop-init c = (
+  c.loop-token.invariant.0,
+  sym (ap (λ rest. map told c.loop-token.starts.items ++ told_tokens rest) (drop_all c.loop-token.token-index c.args.tokens.now c.loop-token-test.false) ∙ append-nil (map told c.loop-token.starts.items))
+      ∙ c.loop-token.invariant.1,
+)

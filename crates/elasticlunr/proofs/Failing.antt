@@ -1,0 +1,46 @@
+-- Which error an answer is, and whether there are contents.
+use Rattle.std.proofs.Common.{◌≡◌, ◌↔◌, ◌⊎◌, ◌<◌, ◌≤◌, ℕ, List, length, String, Global, string_bytes, Option, Some, None, IfSome, Result, Ok, Err, inl, inr, refl, subst, true≢false, arith}
+use Rattle.std.proofs.lemmas.List.{length-map}
+use Rattle.elasticlunr_text.specs.Text.{bytes_of}
+use Rattle.std.specs.Prelude.{IsNone, OnOk, IfErr}
+use Rattle.elasticlunr_text.specs.IndexError.{IndexError}
+use Rattle.elasticlunr_text.specs.IndexError.TheVariants.{Failed, Memory, TooManyValues}
+
+-- what is there is not none
+pub not_none : {X : Type 0} (there : Option X) (x : X) → there ≡ Some x → IsNone there → ⊥
+not_none there x is none = true≢false (rw is at none)
+
+pub none_there : {X : Type 0} (there : Option X) → there ≡ None → IsNone there
+none_there there is = rw is refl
+
+-- after want of memory, where there were contents: it had not failed
+pub memory_failed : {T X : Type 0} (r : Result T IndexError) (was : Option X) (x : X) → r ≡ Err Memory → was ≡ Some x → (r ≡ Err Failed) ↔ IsNone was
+memory_failed r was x memory is = (λ failed. absurd (cc (memory, failed)), λ none. absurd (not_none was x is none))
+
+-- and it has failed now
+pub memory_fails : {T X : Type 0} (r : Result T IndexError) (now : Option X) → r ≡ Err Memory → now ≡ None → IsNone now ↔ ((r ≡ Err Failed) ⊎ (r ≡ Err Memory))
+memory_fails r now memory is = (λ _. inr memory, λ _. none_there now is)
+
+pub memory_unchanged : {T Q : Type 0} (r : Result T IndexError) → r ≡ Err Memory → r ≡ Err TooManyValues → Q
+memory_unchanged r memory many = absurd (cc (memory, many))
+
+pub memory_too_many : {T F M : Type 0} (r : Result T IndexError) → r ≡ Err Memory → (M → ⊥) → (r ≡ Err TooManyValues) ↔ ((F → ⊥) × M)
+memory_too_many r memory few = (λ many. absurd (cc (memory, many)), λ both. absurd (few both.1))
+
+pub memory_errors : {T : Type 0} (r : Result T IndexError) → r ≡ Err Memory → IfErr r (λ e. (e ≡ Failed) ⊎ ((e ≡ TooManyValues) ⊎ (e ≡ Memory)))
+memory_errors r memory = rw memory (inr (inr refl))
+
+pub memory_ok : {T : Type 0} (r : Result T IndexError) (Q : Type 0) → r ≡ Err Memory → OnOk r Q
+memory_ok r Q memory = rw memory tt
+
+-- what is so of the one is so of the other
+pub of_same : {X : Type 0} (P : X → Type 0) (x y : X) → Some x ≡ Some y → P x → P y
+of_same P x y same holds = subst (λ o. IfSome o P) same holds
+
+-- so many values are not too many
+pub few_enough : (fields : List (String Global)) (n : ℕ) (values : ℕ) → length fields ≡ n → values ≤ n → length (bytes_of fields) < values → ⊥
+few_enough fields n values is most more = omega (arith, length-map fields string_bytes, is, most, more)
+
+-- so many are
+pub too_many_for : (fields : List (String Global)) (n : ℕ) (values : ℕ) → length fields ≡ n → n < values → length (bytes_of fields) < values
+too_many_for fields n values is more = omega (arith, length-map fields string_bytes, is, more)

@@ -1,10 +1,11 @@
 -- Which error an answer is, and whether there are contents.
-use Rattle.std.proofs.Common.{◌≡◌, ◌↔◌, ◌⊎◌, ◌<◌, ◌≤◌, ℕ, List, length, String, Global, string_bytes, Option, Some, None, IfSome, Result, Ok, Err, inl, inr, refl, subst, true≢false, arith}
+use Rattle.std.proofs.Common.{◌≡◌, ◌↔◌, ◌⊎◌, ◌<◌, ◌≤◌, ℕ, Bool, false, List, length, String, Global, string_bytes, Option, Some, None, IfSome, Result, Ok, Err, inl, inr, refl, sym, ap, subst, ◌∙◌, true≢false, arith}
 use Rattle.std.proofs.lemmas.List.{length-map}
+use Rattle.elasticlunr_history.specs.Fields.{has_name}
 use Rattle.elasticlunr_text.specs.Text.{bytes_of}
-use Rattle.std.specs.Prelude.{IsNone, OnOk, IfErr}
+use Rattle.std.specs.Prelude.{IsNone, IsTrue, OnOk, IfOk, IfErr}
 use Rattle.elasticlunr_text.specs.IndexError.{IndexError}
-use Rattle.elasticlunr_text.specs.IndexError.TheVariants.{Failed, Memory, TooManyValues}
+use Rattle.elasticlunr_text.specs.IndexError.TheVariants.{DuplicateField, Failed, Memory, TooManyValues}
 
 -- what is there is not none
 pub not_none : {X : Type 0} (there : Option X) (x : X) → there ≡ Some x → IsNone there → ⊥
@@ -44,3 +45,17 @@ few_enough fields n values is most more = omega (arith, length-map fields string
 -- so many are
 pub too_many_for : (fields : List (String Global)) (n : ℕ) (values : ℕ) → length fields ≡ n → n < values → length (bytes_of fields) < values
 too_many_for fields n values is more = omega (arith, length-map fields string_bytes, is, more)
+
+-- whether a name is there, as a test has found
+pub name_is : (field : List ℕ) (given names : List (String Global)) (found is : Bool) → given ≡ names → found ≡ has_name field (bytes_of given) → found ≡ is → has_name field (bytes_of names) ≡ is
+name_is field given names found is same told answer = ap (λ xs. has_name field (bytes_of xs)) (sym same) ∙ sym told ∙ answer
+
+-- nor is a name there twice
+pub memory_duplicate : {T : Type 0} (r : Result T IndexError) (there : Bool) → r ≡ Err Memory → there ≡ false → (r ≡ Err DuplicateField) ↔ IsTrue there
+memory_duplicate r there memory absent = (λ twice. absurd (cc (memory, twice)), λ is. absurd (cc (absent, is)))
+
+pub memory_if_ok : {T : Type 0} (r : Result T IndexError) (Q : T → Type 0) → r ≡ Err Memory → IfOk r Q
+memory_if_ok r Q memory = rw memory tt
+
+pub memory_or_duplicate : {T : Type 0} (r : Result T IndexError) → r ≡ Err Memory → IfErr r (λ e. (e ≡ DuplicateField) ⊎ (e ≡ Memory))
+memory_or_duplicate r memory = rw memory (inr refl)

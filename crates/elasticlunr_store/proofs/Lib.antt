@@ -1,5 +1,6 @@
 pub mod Kept
 pub mod Values
+pub mod Writing
 pub mod SameMaps
 pub mod ReadingOptions
 pub mod WrittenOptions

@@ -1,15 +1,20 @@
-# The two commands: `make run` proves, builds and runs the program, `make test` passes the tests. Beside them, `make demo`
-# shows the search page, and `make compare` compares the program with the original crate.
+# The two commands: `make run` proves, builds and runs the program, `make test` passes the tests. Beside them, `make try`
+# runs the program at once, without a proof, `make demo` shows the search page, and `make compare` compares the program with
+# the original crate.
 PREFIX ?= /usr/local
 PROGRAM = crates/elasticlunr_index/out/elasticlunr_index
 COMMAND = crates/elasticlunr_command/out/elasticlunr_command
 PORT ?= 8095
 
-.PHONY: run build command script calls demo test compare install
+.PHONY: run try build command script calls demo test compare install
 
 # A job on standard input, or an example where standard input is a terminal or empty.
 run: build
 	@python3 bench/run.py
+
+# The same without a proof, for a first look.
+try:
+	@python3 bench/run.py --try
 
 build:
 	@python3 bench/build.py elasticlunr_index

@@ -3,6 +3,10 @@
 
 usage: gate.py LOG
 
+`rt ci` keeps beside the kit what it passed on this machine: it does not prove again what an earlier run
+proved of the very same files, nor try such a wrong body again. A crate of which that is so has a line
+that says so. Tests and programs are run each time.
+
 All that `rt ci` says goes to the log. What it says of a crate that is not proved, of an edit that was
 not refused or of a test that failed is shown, too. The last line counts as that of `rt ci` does.
 """
@@ -16,7 +20,9 @@ import time
 GIGABYTES_OF_ONE = 6  # that the greatest check was seen to take, and each one beside it
 GIGABYTES_OF_NEXT = 4
 GOOD = re.compile(r"rt: \w+(: its tests( are)?)? (proved|passed)$")
+KEPT = re.compile(r"rt: (\w+) is kept: ")
 RAN = re.compile(r"rt: (\w+) ran\b.*")
+TRIED = re.compile(r"rt: \w+: (\d+) of its \d+ must-fail edits were tried by an earlier run")
 TRYING = re.compile(r"rt: (\w+): trying its must-fail edits \((\d+)\)$")
 REFUSED = re.compile(r"rt: must-fail \S+: refused, as it must be")
 BAD = re.compile(r"rt: .*(NOT PROVED|NOT REFUSED|BAD EDIT|FAILED|had not ended|stopped by signal|is not what|killed|only because)")
@@ -35,7 +41,7 @@ def main():
         print("gate.py: there is no rt on the path: the Rattle kit has it")
         return 1
     begun = time.monotonic()
-    refused = 0
+    refused = earlier = 0
     said = []  # of the crate that is being told of, till it is known whether it is proved
     last = ""
     with open(sys.argv[1], "a", encoding="utf-8") as log:
@@ -48,18 +54,21 @@ def main():
             line = last = line.rstrip("\n")
             seconds = f"({time.monotonic() - begun:.0f} s)"
             refused += bool(REFUSED.match(line))
+            earlier += int(TRIED.match(line)[1]) if TRIED.match(line) else 0
             if BAD.match(line):
                 print("\n".join(said[-30:] + [line]), flush=True)
                 said = []
             elif GOOD.match(line) or RAN.match(line):
                 print(f"  {line[4:]} {seconds}", flush=True)
                 said = []
+            elif KEPT.match(line):
+                print(f"  {KEPT.match(line)[1]}: proved by an earlier run {seconds}", flush=True)
             elif TRYING.match(line):
                 print(f"  {line[4:]} {seconds}", flush=True)
             elif not REFUSED.match(line):
                 said.append(line)
     if refused:
-        print(f"  {refused} wrong bodies tried and refused")
+        print(f"  {refused} wrong bodies refused" + (f", {earlier} of them in an earlier run" if earlier else ""))
     status = gate.wait()
     if status:
         print("\n".join(said[-30:]))

@@ -6,8 +6,9 @@ cd "$(dirname "$0")/.."
 mkdir -p out
 log=out/test.log
 : >"$log"
-echo "Proves every crate from nothing, tries wrong bodies, runs the tests, and then the checks of bench/."
-echo "This takes 40 to 90 minutes on four cores, by how fast they are. All that is said goes to $log."
+echo "Proves every crate, tries wrong bodies, runs the tests, and then the checks of bench/."
+echo "From nothing this takes 40 to 90 minutes on four cores, by how fast they are; what passed on this machine before,"
+echo "of the same files, is not proved again. All that is said goes to $log."
 python3 bench/gate.py "$log"
 status=$?
 if [ "$status" -eq 0 ]; then

@@ -1,6 +1,6 @@
-pub mod Contents
-pub mod Equal
+pub use Rattle.elasticlunr_maps.specs.Contents
+pub use Rattle.elasticlunr_maps.specs.Equal
+pub use Rattle.elasticlunr_maps.specs.SmallLengths
 pub mod Options
 pub mod EqualOptions
-pub mod SmallLengths
 pub mod OptionalMembers

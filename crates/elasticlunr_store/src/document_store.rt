@@ -1,7 +1,7 @@
 //! The complete texts of the documents of an index, where they are kept, and the lengths of their
 //! fields.
 ghost use Rattle.std.specs.Prelude.{◌≡◌, ◌==◌, false, OnOk, OnErr, IfOk, IfErr, IsOkUnless};
-ghost use Rattle.std.specs.Option.{option_map, option_and_then};
+ghost use Rattle.std.specs.Option.{option_map};
 ghost use Rattle.std.specs.FinMap.{get, contains_key, len};
 ghost use Rattle.elasticlunr_error.specs.declared.error.IndexError.TheVariants.{Memory};
 ghost use Rattle.elasticlunr_json.specs.Refused.{IsRefused};
@@ -9,21 +9,20 @@ ghost use Rattle.elasticlunr_store.specs.Contents.{Contents, IsContents, IsConsi
 ghost use Rattle.serde_json.specs.View.{view};
 ghost use Rattle.serde_json.specs.Written.{has_float};
 
-mod put;
 mod read;
-mod same;
-mod value;
 mod write;
 
 use elasticlunr_error::IndexError;
-use put::{put_texts, set_length};
-use read::{has_empty, has_text, read_document_lengths, read_document_texts, store_parts};
-use same::{same_document_lengths, same_document_texts};
+use elasticlunr_maps::find::find_length;
+use elasticlunr_maps::put::{put_texts, set_length};
+use elasticlunr_maps::read::{has_empty, has_text, read_document_lengths, read_document_texts};
+use elasticlunr_maps::same::{same_document_lengths, same_document_texts};
+use elasticlunr_maps::value::{document_lengths_value, document_texts_value, store_value};
+use read::store_parts;
 use serde_json::Value;
 use std::alloc::Global;
 use std::collections::BTreeMap;
 use std::marker::Model;
-use value::{document_lengths_value, document_texts_value, store_value};
 
 /// The texts of the documents of an index, where they are kept, and how many tokens their fields
 /// have.
@@ -276,16 +275,4 @@ impl Eq for DocumentStore {
     ghost use Rattle.elasticlunr_store.specs.Equal.{contents_equivalence};
 
     ghost laws = { contents_equivalence };
-}
-
-// The length of a field of a reference.
-fn find_length(
-    doc_info: &BTreeMap<String, BTreeMap<String, usize>>,
-    doc_ref: &str,
-    field: &str,
-) -> Option<usize>
-    ensures { result ≡ option_and_then (λ lengths. get lengths field.now)
-        (get (document_lengths doc_info.now.entries) doc_ref.now) }
-{
-    doc_info.get(doc_ref)?.get(field).copied()
 }

@@ -1,0 +1,5 @@
+pub mod Kept
+pub mod Values
+pub mod Writing
+pub mod SameMaps
+pub mod AreContents

@@ -10,8 +10,8 @@ use Rattle.std.specs.FinMap.{find, get, empty, get-empty, get-from_entries}
 use Rattle.std.proofs.lemmas.Cmp.{nat_list_cmp_total}
 use Rattle.std.proofs.lemmas.Map.Text.{is_eq-slice_cmp}
 use Rattle.elasticlunr_error.specs.Text.{Text, Bytes, bytes_of, is_listed, text_cmp}
-use Rattle.elasticlunr_trie.specs.Table.{Table, Entries, posting, postings_of}
-use Rattle.elasticlunr_trie.proofs.Docs as docs
+use Rattle.elasticlunr_nodes.specs.Table.{Table, Entries, posting, postings_of}
+use Rattle.elasticlunr_nodes.proofs.Entries as entries
 
 pub bytes_behind : (ss : List (String Global)) (s : String Global) → bytes_of (ss ++ s ∷ []) ≡ bytes_of ss ++ string_bytes s ∷ []
 bytes_behind [] s = refl
@@ -36,12 +36,12 @@ either false false n o same rest is = is
 either true false n o same rest is = absurd (cc)
 either false true n o same rest is = absurd (cc)
 
-listed_found : (es : Entries) (r : Bytes) → is_listed r (bytes_of (keys_of es)) ≡ is_some (find text_cmp r (docs.bytes_of es))
+listed_found : (es : Entries) (r : Bytes) → is_listed r (bytes_of (keys_of es)) ≡ is_some (find text_cmp r (entries.bytes_of es))
 listed_found [] r = refl
-listed_found (e ∷ es) r = either (bytes_eq r (string_bytes e.0)) (eq_by_cmp (slice_cmp nat_cmp) r (string_bytes e.0)) e.1 (find text_cmp r (docs.bytes_of es)) (sym (is_eq-slice_cmp r (string_bytes e.0))) _ (listed_found es r)
+listed_found (e ∷ es) r = either (bytes_eq r (string_bytes e.0)) (eq_by_cmp (slice_cmp nat_cmp) r (string_bytes e.0)) e.1 (find text_cmp r (entries.bytes_of es)) (sym (is_eq-slice_cmp r (string_bytes e.0))) _ (listed_found es r)
 
 pub listed_posting : (es : Entries) (r : Bytes) → is_listed r (bytes_of (keys_of es)) ≡ is_some (get (postings_of es) r)
-listed_posting es r = listed_found es r ∙ ap is_some (sym (get-from_entries nat_list_cmp_total (docs.bytes_of es) r))
+listed_posting es r = listed_found es r ∙ ap is_some (sym (get-from_entries nat_list_cmp_total (entries.bytes_of es) r))
 
 pub no_keys_sorted : IsStrictlySortedBy text_cmp []
 unfolding IsStrictlySortedBy

@@ -2,10 +2,10 @@
 use Rattle.std.proofs.Common.{◌≡◌, inl, inr, ℕ, zero, suc, ◌+◌, ◌<◌, ◌≤◌, Bool, true, false, cond, IsTrue, List, [], ◌∷◌, ◌++◌, length, get_or, unwrap_or, Some, refl, sym, ap, subst, ◌∙◌, arith, le_refl}
 use Rattle.std.specs.Prelude.{if◌then◌else◌}
 use Rattle.std.proofs.lemmas.Bool.{cases_eq, cases_lt, eq-eqb}
-use Rattle.elasticlunr_trie.specs.Pairs.{key_at, IsStrictlySorted}
+use Rattle.elasticlunr_nodes.specs.Pairs.{key_at, IsStrictlySorted}
 use Rattle.elasticlunr_trie.specs.Children.{Children, child}
 use Rattle.elasticlunr_trie.specs.Compact.{is_marked, new_number, kept_children}
-use Rattle.elasticlunr_trie.proofs.Places.{get_there}
+use Rattle.elasticlunr_nodes.proofs.Places.{get_there}
 use Rattle.elasticlunr_trie.proofs.Alike.{sorted_tail, not_again, skip_first}
 
 module _ (marks : List Bool) where

@@ -5,10 +5,10 @@ use Rattle.std.specs.Str.{chars}
 use Rattle.std.proofs.Math.Seq.{drop-cons, take-append_seam}
 use Rattle.std.proofs.lemmas.List.{length-map}
 use Rattle.elasticlunr_error.specs.Text.{Text, Bytes}
-use Rattle.elasticlunr_trie.specs.Table.{Table, add, IsChanged, AreChanged, additions}
-use Rattle.elasticlunr_trie.specs.Trie.{Step}
-use Rattle.elasticlunr_trie.specs.Starts.{IsStart, KeepsPaths, told}
-use Rattle.elasticlunr_trie.specs.declared.inverted_index.starts.Start.{Start}
+use Rattle.elasticlunr_nodes.specs.Table.{Table, add, IsChanged, AreChanged, additions}
+use Rattle.elasticlunr_nodes.specs.Trie.{Step}
+use Rattle.elasticlunr_nodes.specs.Starts.{IsStart, KeepsPaths, told}
+use Rattle.elasticlunr_nodes.specs.declared.start.Start.{Start}
 
 -- where paths stay, so do starts
 pub start_kept : (old new : Step) → KeepsPaths old new → (s : Start) → IsStart old s → IsStart new s

@@ -3,8 +3,8 @@ ghost use Rattle.std.specs.FinMap.{get as get_postings, len};
 ghost use Rattle.std.specs.Prelude.{◌≡◌, ◌↔◌, [], None, IsTrue, IfOk, IfErr, IsOk, OnOk, OnErr, IsOkUnless, false, unwrap_or, is_some, ◌≢◌};
 ghost use Rattle.std.specs.Str.{chars};
 ghost use Rattle.elasticlunr_error.specs.Text.{Text, Bytes};
-ghost use Rattle.elasticlunr_trie.specs.Table.{Table, new_table, knows, posting, postings, IsTable, AddsToken, RemovesToken, AreChanged, additions, told_tokens, same_tables};
-ghost use Rattle.elasticlunr_trie.specs.Copied.{copied_postings};
+ghost use Rattle.elasticlunr_nodes.specs.Table.{Table, new_table, knows, posting, postings, IsTable, AddsToken, RemovesToken, AreChanged, additions, told_tokens, same_tables};
+ghost use Rattle.elasticlunr_nodes.specs.Copied.{copied_postings};
 ghost use Rattle.serde_json.specs.View.{view};
 ghost use Rattle.elasticlunr_json.specs.Refused.{IsRefused};
 ghost use Rattle.elasticlunr_error.specs.declared.error.IndexError.TheVariants.{Memory};
@@ -12,36 +12,27 @@ ghost use Rattle.serde_json.specs.Written.{has_float};
 ghost use Rattle.elasticlunr_trie.specs.Tree.{IsTrieValue};
 
 mod add;
-mod branch;
 mod compact;
-mod docs;
-mod few;
-mod lists;
-mod names;
-mod nodes;
-mod numbered;
-mod posting;
-mod postings;
 mod read;
 mod references;
 mod remove;
-mod room;
 mod same;
 mod starts;
 mod value;
 mod write;
 
 use add::add_posting;
-use docs::copy_docs;
 use elasticlunr_error::IndexError;
 use elasticlunr_json::put_member;
-use names::Names;
-use nodes::{Node, Place, Reference, find, find_frequency, find_postings};
+use elasticlunr_nodes::docs::copy_docs;
+use elasticlunr_nodes::names::Names;
+use elasticlunr_nodes::nodes::{Node, Place, Reference, find, find_frequency, find_postings};
+use elasticlunr_nodes::start::Start;
 use read::{only_member, read_nodes};
 use remove::{remove_posting, remove_postings};
 use same::same_below;
 use serde_json::{Map, Value};
-use starts::{Start, add_starts, starts_of};
+use starts::{add_starts, starts_of};
 use std::alloc::Global;
 use std::collections::BTreeMap;
 use std::marker::Model;
@@ -74,13 +65,13 @@ pub struct InvertedIndex {
 impl Model for InvertedIndex {
     ghost use Rattle.std.specs.FinMap as map;
     ghost use Rattle.std.specs.Coded.{coded_ℕ, coded_list};
-    ghost use Rattle.elasticlunr_trie.specs.Table.{Table};
+    ghost use Rattle.elasticlunr_nodes.specs.Table.{Table};
 
     ghost Value = { Table };
 
     ghost coded = { map.code (coded_list coded_ℕ) (map.code (coded_list coded_ℕ) coded_ℕ) };
 
-    ghost use Rattle.elasticlunr_trie.specs.Trie.{table_of, IsIndex};
+    ghost use Rattle.elasticlunr_nodes.specs.Trie.{table_of, IsIndex};
 
     ghost view = { λ a. table_of a.root.items a.nodes.items a.names };
 
@@ -283,7 +274,7 @@ impl InvertedIndex {
 }
 
 impl PartialEq for InvertedIndex {
-    ghost use Rattle.elasticlunr_trie.specs.Table.{same_tables};
+    ghost use Rattle.elasticlunr_nodes.specs.Table.{same_tables};
     ghost use Rattle.elasticlunr_trie.specs.EqualTables.{tables_equivalence};
     ghost use Rattle.std.specs.Cmp.{partial_equiv_from_equiv};
 

@@ -5,7 +5,7 @@ ghost use Rattle.std.specs.Map.{keys_of};
 ghost use Rattle.std.specs.Str.{chars};
 ghost use Rattle.elasticlunr_error.specs.Text.{Bytes, bytes_of, is_listed, text_cmp};
 ghost use Rattle.elasticlunr_error.specs.declared.error.IndexError.TheVariants.{Memory};
-ghost use Rattle.elasticlunr_trie.specs.Table.{posting};
+ghost use Rattle.elasticlunr_nodes.specs.Table.{posting};
 
 use super::InvertedIndex;
 use elasticlunr_error::IndexError;

@@ -2,12 +2,12 @@
 ghost use Rattle.std.specs.Prelude.{◌≡◌, ℕ, ◌<◌, IsTrue, Some, length};
 ghost use Rattle.std.specs.Str.{chars};
 ghost use Rattle.std.specs.FinMap.{get};
-ghost use Rattle.elasticlunr_trie.specs.Nodes.{postings_at, has, AreListed, ClearsNumber, LosesNumber, LosesReference};
-ghost use Rattle.elasticlunr_trie.specs.Trie.{IsTrie, RemovesPosting};
+ghost use Rattle.elasticlunr_nodes.specs.Nodes.{postings_at, has, AreListed, ClearsNumber, LosesNumber, LosesReference};
+ghost use Rattle.elasticlunr_nodes.specs.Trie.{IsTrie, RemovesPosting};
 
-use super::lists::unlist;
-use super::names::Names;
-use super::nodes::{Node, Place, Reference, find};
+use elasticlunr_nodes::lists::unlist;
+use elasticlunr_nodes::names::Names;
+use elasticlunr_nodes::nodes::{Node, Place, Reference, find};
 use std::alloc::Global;
 use std::mem;
 

@@ -2,15 +2,15 @@
 ghost use Rattle.std.specs.Prelude.{◌≡◌, ◌<◌, ◌↔◌, ℕ, Some, length, IsTrue, slice_get};
 ghost use Rattle.elasticlunr_error.specs.Text.{Bytes};
 ghost use Rattle.std.specs.FinMap.{get};
-ghost use Rattle.elasticlunr_trie.specs.Names.{ArePostings, named_pairs, AreNames, AreNumbered, at};
-ghost use Rattle.elasticlunr_trie.specs.Nodes.{postings_at, AreAllNumbered};
-ghost use Rattle.elasticlunr_trie.specs.Trie.{named, IsTrie};
+ghost use Rattle.elasticlunr_nodes.specs.Names.{ArePostings, named_pairs, AreNames, AreNumbered, at};
+ghost use Rattle.elasticlunr_nodes.specs.Nodes.{postings_at, AreAllNumbered};
+ghost use Rattle.elasticlunr_nodes.specs.Trie.{named, IsTrie};
 ghost use Rattle.elasticlunr_trie.specs.Same.{IsSameBelow};
 
-use super::names::Names;
-use super::nodes::{Node, Place, children_at, frequency_of, postings_at};
-use super::posting::Posting;
-use super::postings::Postings;
+use elasticlunr_nodes::names::Names;
+use elasticlunr_nodes::nodes::{Node, Place, children_at, frequency_of, postings_at};
+use elasticlunr_nodes::posting::Posting;
+use elasticlunr_nodes::postings::Postings;
 
 // Has the name of a number this posting on the other side?
 fn same_posting(

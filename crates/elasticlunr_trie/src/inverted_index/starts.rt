@@ -2,46 +2,23 @@
 //! characters; the walks of several don't wait for one another.
 ghost use Rattle.std.specs.Prelude.{◌≡◌, map, All, IfOk, OnOk};
 ghost use Rattle.std.specs.Str.{chars};
-ghost use Rattle.elasticlunr_trie.specs.Table.{AreChanged, IsChanged, additions, told_tokens};
-ghost use Rattle.elasticlunr_trie.specs.Table.Change.{add};
-ghost use Rattle.elasticlunr_trie.specs.Trie.{Step, step_of, IsTrie, IsIndex};
-ghost use Rattle.elasticlunr_trie.specs.NodeTables.{node_table};
-ghost use Rattle.elasticlunr_trie.specs.Starts.{IsStart, KeepsPaths, told};
+ghost use Rattle.elasticlunr_nodes.specs.Table.{AreChanged, IsChanged, additions, told_tokens};
+ghost use Rattle.elasticlunr_nodes.specs.Table.Change.{add};
+ghost use Rattle.elasticlunr_nodes.specs.Trie.{Step, step_of, IsTrie, IsIndex};
+ghost use Rattle.elasticlunr_nodes.specs.NodeTables.{node_table};
+ghost use Rattle.elasticlunr_nodes.specs.Starts.{IsStart, KeepsPaths, told};
 
 use super::add::add_posting;
-use super::branch::locate;
-use super::names::Names;
-use super::nodes::{Node, Place, Reference, child, children_at};
-use super::room::make_room;
+use elasticlunr_nodes::branch::locate;
+use elasticlunr_nodes::names::Names;
+use elasticlunr_nodes::nodes::{Node, Place, Reference, child, children_at};
+use elasticlunr_nodes::room::make_room;
+use elasticlunr_nodes::start::Start;
 use std::alloc::{AllocError, Global};
 
 // How many characters of each token are walked side by side. What follows them is mostly a path
 // without branches, whose nodes stand side by side.
 const STEPS: usize = 5;
-
-/// A token and its frequency, where a beginning of the token leads, and what follows that.
-#[derive(Clone, Copy)]
-pub(super) struct Start<'a> {
-    pub token: &'a str,
-    pub frequency: u64,
-    pub place: Place,
-    pub rest: &'a str,
-}
-
-impl<'a> Start<'a> {
-    /// The empty beginning, which leads to the root.
-    pub fn new(token: &'a str, frequency: u64) -> Self
-        ensures start { (step : Step) → IsStart step result }
-        ensures told { told result ≡ (chars token.now, frequency) }
-    {
-        Start {
-            token,
-            frequency,
-            place: Place::Root,
-            rest: token,
-        }
-    }
-}
 
 // One character further, if there is a child under it.
 fn step<'a>(root: &[(char, u32)], nodes: &[Node], start: Start<'a>) -> Start<'a>

@@ -5,20 +5,20 @@ ghost use Rattle.json.specs.Tree.{json_tokens};
 ghost use Rattle.serde_json.specs.Data.{Data};
 ghost use Rattle.serde_json.specs.Written.{outline};
 ghost use Rattle.std.specs.FinMap.{empty};
-ghost use Rattle.elasticlunr_trie.specs.Table.{IsTable};
-ghost use Rattle.elasticlunr_trie.specs.Names.{Names, AreNumbered, AreThere, under_names};
-ghost use Rattle.elasticlunr_trie.specs.Nodes.{AreAllNumbered, postings_at};
-ghost use Rattle.elasticlunr_trie.specs.Trie.{IsTrie, named, table_of, entries_at};
+ghost use Rattle.elasticlunr_nodes.specs.Table.{IsTable};
+ghost use Rattle.elasticlunr_nodes.specs.Names.{Names, AreNumbered, AreThere, under_names};
+ghost use Rattle.elasticlunr_nodes.specs.Nodes.{AreAllNumbered, postings_at};
+ghost use Rattle.elasticlunr_nodes.specs.Trie.{IsTrie, named, table_of, entries_at};
 ghost use Rattle.elasticlunr_trie.specs.Tree.{IsTrieValue, frequencies};
 ghost use Rattle.elasticlunr_trie.specs.Printed.{IsOrder, place_members, node_tree, postings_tokens, left_members, node_members, stack_tokens, Advances, HasTrees};
 ghost use Rattle.elasticlunr_json.specs.Tokens.{tokens_of};
 
 use super::InvertedIndex;
-use super::docs::in_order;
-use super::names::NameTexts;
-use super::nodes::{Node, Place, children_of, postings_at};
-use super::postings::Postings;
 use elasticlunr_json::{Token, Tokens};
+use elasticlunr_nodes::docs::in_order;
+use elasticlunr_nodes::names::NameTexts;
+use elasticlunr_nodes::nodes::{Node, Place, children_of, postings_at};
+use elasticlunr_nodes::postings::Postings;
 use std::alloc::{AllocError, Global};
 
 // What is left to write of an object: children, and before them or among them `df` and `docs` of a

@@ -1,7 +1,7 @@
 use Rattle.std.proofs.Common.{map, ap, subst, ◌∙◌}
-use Rattle.elasticlunr_trie.specs.Table.{AreChanged, additions}
-use Rattle.elasticlunr_trie.specs.Trie.{table_of}
-use Rattle.elasticlunr_trie.specs.Starts.{told}
+use Rattle.elasticlunr_nodes.specs.Table.{AreChanged, additions}
+use Rattle.elasticlunr_nodes.specs.Trie.{table_of}
+use Rattle.elasticlunr_nodes.specs.Starts.{told}
 use Rattle.elasticlunr_trie.proofs.inverted_index.InvertedIndex.add_tokens.Goals as goal
 
 -- the starts tell the tokens and their frequencies

@@ -3,7 +3,7 @@ use mathlib.Core.Bool.{false≢true}
 use Rattle.std.specs.Str.{chars}
 use Rattle.std.specs.List.Sorted.{IsStrictlySortedBy}
 use Rattle.elasticlunr_error.specs.Text.{bytes_of, is_listed, text_cmp}
-use Rattle.elasticlunr_trie.specs.Table.{postings_of}
+use Rattle.elasticlunr_nodes.specs.Table.{postings_of}
 use Rattle.elasticlunr_trie.proofs.Keys.{keys_sorted, no_keys_sorted, none_of, listed_some, none_posted}
 use Rattle.elasticlunr_trie.proofs.inverted_index.InvertedIndex.references.Goals as goal
 

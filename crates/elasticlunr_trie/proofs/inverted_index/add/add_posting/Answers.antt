@@ -3,12 +3,12 @@ use Rattle.std.specs.Prelude.{encode_utf8}
 use Rattle.std.proofs.lemmas.List.{nil_from_length}
 use Rattle.std.specs.Str.{all_scalars}
 use Rattle.std.proofs.lemmas.Str.{scalars-chars}
-use Rattle.elasticlunr_trie.specs.Table.{AddsToken}
-use Rattle.elasticlunr_trie.specs.Trie.{step_of, table_of}
-use Rattle.elasticlunr_trie.specs.declared.inverted_index.nodes.Place.TheVariants.{Root, At}
-use Rattle.elasticlunr_trie.proofs.Forest.{within, rises}
-use Rattle.elasticlunr_trie.proofs.Letters.{first_read, nothing_read}
-use Rattle.elasticlunr_trie.proofs.Settled.{settled_trie, settled_parents, settled_paths, unseen, posting_added}
+use Rattle.elasticlunr_nodes.specs.Table.{AddsToken}
+use Rattle.elasticlunr_nodes.specs.Trie.{step_of, table_of}
+use Rattle.elasticlunr_nodes.specs.declared.nodes.Place.TheVariants.{Root, At}
+use Rattle.elasticlunr_nodes.proofs.Forest.{within, rises}
+use Rattle.elasticlunr_nodes.proofs.Letters.{first_read, nothing_read}
+use Rattle.elasticlunr_nodes.proofs.Settled.{settled_trie, settled_parents, settled_paths, unseen, posting_added}
 use Rattle.elasticlunr_trie.proofs.inverted_index.add.add_posting.Goals as goal
 
 on_err : {T E : Type 0} (r : Result T E) (P : Type 0) → P → OnErr r P

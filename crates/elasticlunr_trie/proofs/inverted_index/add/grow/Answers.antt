@@ -1,14 +1,14 @@
 use Rattle.std.proofs.Common.{◌≡◌, ◌+◌, ◌-◌, ◌≤◌, suc, IsTrue, Result, Ok, Err, OnErr, length, refl, sym, ap, subst, arith}
 use Rattle.std.specs.Str.{chars}
-use Rattle.elasticlunr_trie.specs.Names.{AreNames}
-use Rattle.elasticlunr_trie.specs.Nodes.{has, list_at}
-use Rattle.elasticlunr_trie.specs.Trie.{step_of}
-use Rattle.elasticlunr_trie.specs.Branch.{IsBranch}
-use Rattle.elasticlunr_trie.specs.declared.inverted_index.nodes.Place.TheVariants.{Root}
-use Rattle.elasticlunr_trie.proofs.Forest.{within}
-use Rattle.elasticlunr_trie.proofs.Added.{names_entered, length-entered, number-below}
+use Rattle.elasticlunr_nodes.specs.Names.{AreNames}
+use Rattle.elasticlunr_nodes.specs.Nodes.{has, list_at}
+use Rattle.elasticlunr_nodes.specs.Trie.{step_of}
+use Rattle.elasticlunr_nodes.specs.Branch.{IsBranch}
+use Rattle.elasticlunr_nodes.specs.declared.nodes.Place.TheVariants.{Root}
+use Rattle.elasticlunr_nodes.proofs.Forest.{within}
+use Rattle.elasticlunr_nodes.proofs.Added.{names_entered, length-entered, number-below}
 use Rattle.elasticlunr_trie.proofs.Growth.{branch_trie, branch_parents, branch_listed, branch_added, branch_paths}
-use Rattle.elasticlunr_trie.proofs.Unseen.{kept_index, kept_table, keeps_same, same_trie, kept_at, branch_length}
+use Rattle.elasticlunr_nodes.proofs.Unseen.{kept_index, kept_table, keeps_same, same_trie, kept_at, branch_length}
 use Rattle.elasticlunr_trie.proofs.inverted_index.add.grow.Goals as goal
 
 on_err : {T E : Type 0} (r : Result T E) (P : Type 0) → P → OnErr r P

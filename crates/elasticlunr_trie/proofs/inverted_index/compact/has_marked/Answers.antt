@@ -2,7 +2,7 @@ use Rattle.std.proofs.Common.{refl, sym, ap, ◌∙◌, arith, get_or, inl, inr}
 use mathlib.Core.Bool.{false≢true}
 use Rattle.std.proofs.lemmas.Bool.{cases_eq}
 use Rattle.elasticlunr_trie.specs.Compact.{is_marked}
-use Rattle.elasticlunr_trie.proofs.Gap.{value_at_place}
+use Rattle.elasticlunr_nodes.proofs.Gap.{value_at_place}
 use Rattle.elasticlunr_trie.proofs.Marks.{is_marked_or, child_place}
 use Rattle.elasticlunr_trie.proofs.inverted_index.compact.has_marked.Goals as goal
 

@@ -1,8 +1,8 @@
 use Rattle.std.proofs.Common.{◌≡◌, [], ◌∷◌, Some, refl, sym, ap, ◌∙◌, ◌++◌, take, append-nil, arith, get_or}
 use Rattle.std.proofs.lemmas.List.{take_more}
 use Rattle.elasticlunr_trie.specs.Compact.{kept_children, new_number}
-use Rattle.elasticlunr_trie.proofs.Places.{get_there}
-use Rattle.elasticlunr_trie.proofs.Gap.{value_at_place}
+use Rattle.elasticlunr_nodes.proofs.Places.{get_there}
+use Rattle.elasticlunr_nodes.proofs.Gap.{value_at_place}
 use Rattle.elasticlunr_trie.proofs.Marks.{is_marked_or, kept_push, kept_one, kept_none}
 use Rattle.elasticlunr_trie.proofs.inverted_index.compact.keep_children.Goals as goal
 

@@ -1,7 +1,7 @@
 use Rattle.std.proofs.Common.{◌≡◌, ◌++◌}
 use Rattle.std.specs.Map.{keys_of}
 use Rattle.elasticlunr_error.specs.Text.{bytes_of}
-use Rattle.elasticlunr_trie.specs.Table.{Entries}
+use Rattle.elasticlunr_nodes.specs.Table.{Entries}
 use Rattle.elasticlunr_trie.proofs.inverted_index.references.names_of.Given as goal
 
 -- the keys so far

@@ -1,5 +1,5 @@
 use Rattle.std.proofs.Common.{arith}
-use Rattle.elasticlunr_trie.proofs.Removed.{loses_none, loses_step, loses_skip, loses_all}
+use Rattle.elasticlunr_nodes.proofs.Removed.{loses_none, loses_step, loses_skip, loses_all}
 use Rattle.elasticlunr_trie.proofs.inverted_index.remove.remove_number.Goals as goal
 use Rattle.elasticlunr_trie.proofs.inverted_index.remove.remove_number.Goals.{then-k-len, else-k-len}
 

@@ -1,8 +1,8 @@
 use Rattle.std.proofs.Common.{◌≡◌, map, refl, sym, subst, arith}
 use Rattle.std.proofs.lemmas.List.{drop_all}
-use Rattle.elasticlunr_trie.specs.Table.{AreChanged, additions}
-use Rattle.elasticlunr_trie.specs.Trie.{table_of, IsIndex}
-use Rattle.elasticlunr_trie.specs.Starts.{told}
+use Rattle.elasticlunr_nodes.specs.Table.{AreChanged, additions}
+use Rattle.elasticlunr_nodes.specs.Trie.{table_of, IsIndex}
+use Rattle.elasticlunr_nodes.specs.Starts.{told}
 use Rattle.elasticlunr_trie.proofs.Starts.{start_kept, changed_on}
 use Rattle.elasticlunr_trie.proofs.inverted_index.starts.add_starts.Goals as goal
 

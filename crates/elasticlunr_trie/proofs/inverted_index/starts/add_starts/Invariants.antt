@@ -1,8 +1,8 @@
 use Rattle.std.proofs.Common.{map, All, drop}
-use Rattle.elasticlunr_trie.specs.Table.{Table, AreChanged, additions}
-use Rattle.elasticlunr_trie.specs.Trie.{step_of, IsIndex}
-use Rattle.elasticlunr_trie.specs.NodeTables.{node_table}
-use Rattle.elasticlunr_trie.specs.Starts.{IsStart, told}
+use Rattle.elasticlunr_nodes.specs.Table.{Table, AreChanged, additions}
+use Rattle.elasticlunr_nodes.specs.Trie.{step_of, IsIndex}
+use Rattle.elasticlunr_nodes.specs.NodeTables.{node_table}
+use Rattle.elasticlunr_nodes.specs.Starts.{IsStart, told}
 use Rattle.elasticlunr_trie.proofs.inverted_index.starts.add_starts.Given as goal
 
 -- the starts lead where they led, and what the others do from here on, all do from the beginning

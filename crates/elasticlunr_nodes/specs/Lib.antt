@@ -1,0 +1,13 @@
+pub mod Table
+pub mod Copied
+pub mod Pairs
+pub mod Frequencies
+pub mod Few
+pub mod Kept
+pub mod Names
+pub mod NameNumbers
+pub mod Nodes
+pub mod Trie
+pub mod NodeTables
+pub mod Branch
+pub mod Starts

@@ -1,0 +1,14 @@
+//! The numbered nodes of a trie, and the numbered references that have postings at them.
+#![tactic(auto)]
+
+pub mod branch;
+pub mod docs;
+pub mod few;
+pub mod lists;
+pub mod names;
+pub mod nodes;
+pub mod numbered;
+pub mod posting;
+pub mod postings;
+pub mod room;
+pub mod start;

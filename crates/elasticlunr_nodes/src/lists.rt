@@ -1,0 +1,114 @@
+//! The lists of the nodes where a reference has a posting.
+ghost use Rattle.std.specs.Prelude.{◌≡◌, ◌≢◌, ◌<◌, ◌++◌, ◌∷◌, [], ℕ, IsTrue, IfSome, length, slice_index, OnOk, OnErr};
+ghost use Rattle.std.specs.FinMap.{get};
+ghost use Rattle.elasticlunr_nodes.specs.Nodes.{list_at, has, KeepsLists, KeepsOtherNodes};
+
+use crate::nodes::{Reference, short_number};
+use crate::postings::Postings;
+use std::alloc::{AllocError, Global};
+
+// Sees to it that a number has a list.
+fn make_lists(
+    alloc: Global,
+    references: &mut Vec<Reference>,
+    number: usize,
+) -> Result<(), AllocError>
+    ensures there { OnOk result (number < length references.new.items) }
+    ensures same { (n : ℕ) → list_at references.new.items n ≡ list_at references.old.items n }
+{
+    'lists: while references.len() <= number {
+        references.push(Reference {
+            nodes: Vec::new(alloc),
+        })?;
+    }
+    Ok(())
+}
+
+/// Sees to it that the list of a reference has room for more nodes.
+pub fn reserve_list(
+    alloc: Global,
+    references: &mut Vec<Reference>,
+    number: usize,
+    count: usize,
+) -> Result<(), AllocError>
+    ensures { (n : ℕ) → list_at references.new.items n ≡ list_at references.old.items n }
+{
+    make_lists(alloc, references, number)?;
+    references[number].nodes.reserve(count)
+}
+
+// Puts a node into the list of a reference.
+fn push_node(references: &mut Vec<Reference>, number: usize, k: usize) -> Result<(), AllocError>
+    requires { number < length references.old.items }
+    ensures ok { OnOk result (list_at references.new.items number ≡ list_at references.old.items number ++ k ∷ []) }
+    ensures err { OnErr result (list_at references.new.items number ≡ list_at references.old.items number) }
+    ensures others { (n : ℕ) → n ≢ number → list_at references.new.items n ≡ list_at references.old.items n }
+{
+    let short = short_number(k)?;
+    references[number].nodes.push(short)?;
+    Ok(())
+}
+
+/// Sees to it that a reference lists a node where it has no posting yet.
+pub fn list_new(
+    alloc: Global,
+    references: &mut Vec<Reference>,
+    number: usize,
+    k: usize,
+) -> Result<(), AllocError>
+    ensures lists { OnOk result (IsTrue (has (list_at references.new.items number) k)) }
+    ensures keeps { KeepsLists references.old.items references.new.items }
+{
+    make_lists(alloc, references, number)?;
+    push_node(references, number, k)
+}
+
+/// Sees to it that a reference lists a node. Where it has a posting there, it does so already.
+pub fn list_node(
+    alloc: Global,
+    references: &mut Vec<Reference>,
+    postings: &Postings,
+    number: usize,
+    k: usize,
+) -> Result<(), AllocError>
+    requires { (f : ℕ) → get postings.now number ≡ Some f → IsTrue (has (list_at references.old.items number) k) }
+    ensures lists { OnOk result (IsTrue (has (list_at references.new.items number) k)) }
+    ensures keeps { KeepsLists references.old.items references.new.items }
+{
+    if postings.get(number).is_some() {
+        return Ok(());
+    }
+    list_new(alloc, references, number, k)
+}
+
+// Where a list has a node.
+fn place_in(list: &[u32], k: usize) -> Option<usize>
+    ensures { IfSome result (λ i. (i < length list.now) × (slice_index list.now i ≡ k)) }
+{
+    let mut i = list.len();
+    while i > 0 {
+        i -= 1;
+        if list[i] as usize == k {
+            return Some(i);
+        }
+    }
+    None
+}
+
+// Takes a node out of a list, if it is there.
+fn forget(list: &mut Vec<u32>, k: usize)
+    ensures { (q : ℕ) → q ≢ k → IsTrue (has list.old.items q) → IsTrue (has list.new.items q) }
+{
+    if let Some(at) = place_in(list, k) {
+        list.remove(at);
+    }
+}
+
+/// Takes a node out of the list of a reference.
+pub fn unlist(references: &mut Vec<Reference>, number: usize, k: usize)
+    ensures { KeepsOtherNodes references.old.items references.new.items number k }
+{
+    if number < references.len() {
+        forget(&mut references[number].nodes, k);
+    }
+}

@@ -1,5 +1,5 @@
 -- The entries of a map of postings, by the bytes of their keys.
-use Rattle.std.proofs.Common.{◌≡◌, ℕ, List, [], ◌∷◌, ◌++◌, string_bytes, string_cmp, String, Global}
+use Rattle.std.proofs.Common.{◌≡◌, ℕ, List, string_cmp}
 use Rattle.std.specs.List.Sorted.{IsStrictlySortedBy}
 use Rattle.std.specs.Map.{keys_of}
 use Rattle.std.specs.FinMap as map

@@ -1,9 +1,9 @@
 -- Pairs in the order of the ranks of their names.
-use Rattle.std.proofs.Common.{◌≡◌, ◌≢◌, inl, inr, ℕ, zero, suc, ◌<◌, Bool, true, false, cond, eqb, ne_eqb, List, [], ◌∷◌, length, map, get_or, slice_index, Option, Some, None, option_and_then, refl, sym, ap, subst, ◌∙◌, arith, Less, Greater, take, drop, ◌++◌, ◌+◌, add-one}
+use Rattle.std.proofs.Common.{◌≡◌, ◌≢◌, inl, inr, ℕ, zero, suc, ◌<◌, Bool, true, false, cond, eqb, ne_eqb, List, [], ◌∷◌, length, map, get_or, slice_index, Option, Some, None, option_and_then, refl, sym, ap, subst, ◌∙◌, arith, Less, take, drop, ◌++◌, ◌+◌, add-one}
 use Rattle.std.specs.Prelude.{T, ◌&&◌}
 use Rattle.std.specs.List.{All, AllByRecursion, Contains, IsDistinct}
 use Rattle.std.specs.List.Sorted.{IsPermutation, IsNonDecreasingBy}
-use Rattle.std.specs.Ordering.{is_lt, ordering_reverse}
+use Rattle.std.specs.Ordering.{is_lt}
 use Rattle.std.specs.FinMap.{len, len-entries, entries, get-from_entries, get-from_sorted, entries-from_sorted}
 use Rattle.std.specs.FinMap.Entries.{is_sorted, below_all}
 use Rattle.std.proofs.lemmas.Cmp.{nat_list_cmp_total}
@@ -12,7 +12,6 @@ use Rattle.std.proofs.lemmas.List.Sorted.{IsPermutation-map, IsPermutation-sym, 
 use Rattle.std.proofs.lemmas.Map.Keys.{IsDistinct-IsPermutation}
 use Rattle.elasticlunr_error.specs.Text.{Bytes, text_cmp}
 use Rattle.elasticlunr_nodes.specs.Table.{Postings}
-use Rattle.elasticlunr_nodes.proofs.Naming.{below_at, first_of, second_of}
 use Rattle.elasticlunr_nodes.specs.Pairs.{Pairs, value_of, key_at, IsStrictlySorted}
 use Rattle.elasticlunr_nodes.specs.Names.{Names, AreNames, ArePostings, AreRanks, AreThere, named_pairs, number_of, under_names}
 use Rattle.elasticlunr_nodes.proofs.Named.{named_find, pair_place}

@@ -1,8 +1,8 @@
 //! Runs the uses of the library, and prints what each gave, a line each.
 #![tactic(auto)]
 
-use elasticlunr::IndexBuilder;
 use elasticlunr::lang::English;
+use elasticlunr::{IndexBuilder, IndexError};
 use elasticlunr_own::{index_with_tokenizer, whole};
 use elasticlunr_uses::error::UseError;
 use elasticlunr_uses::first::first_index;
@@ -32,27 +32,45 @@ fn lines(alloc: Global) -> Result<String, UseError> {
     let draft = Page::new("draft", "Nothing yet.");
     let mut text = String::new(alloc);
     add_line(&mut text, first_index(alloc)?.as_str())?;
-    for reference in &built_printed_found(
-        alloc,
-        guide.reference,
-        guide.text,
-        search.reference,
-        search.text,
-        "a word",
-    )? {
-        add_line(&mut text, reference.as_str())?;
-    }
-    let orders = in_either_order(alloc, guide, search)?;
-    add_line(&mut text, orders.0.as_str())?;
-    add_line(&mut text, orders.1.as_str())?;
+    add_found(alloc, &mut text, guide, search)?;
+    add_pair(&mut text, &in_either_order(alloc, guide, search)?)?;
     let update = updated_and_new(alloc, guide, search, draft, "Words find pages.")?;
-    add_line(&mut text, update.0.as_str())?;
-    add_line(&mut text, update.1.as_str())?;
+    add_pair(&mut text, &update)?;
     add_line(&mut text, text_of_words(alloc)?.as_str())?;
-    let builder = IndexBuilder::<English>::new(alloc)?;
-    let whole_titles = index_with_tokenizer(builder, Box::new(alloc, whole)?)?;
-    add_line(&mut text, whole_titles.as_str())?;
+    add_line(&mut text, text_of_whole_titles(alloc)?.as_str())?;
     Ok(text)
+}
+
+/// Which of two pages has a word of a query, a line each.
+fn add_found(
+    alloc: Global,
+    text: &mut String,
+    one: Page<'_>,
+    other: Page<'_>,
+) -> Result<(), UseError> {
+    let found = built_printed_found(
+        alloc,
+        one.reference,
+        one.text,
+        other.reference,
+        other.text,
+        "a word",
+    )?;
+    for reference in &found {
+        add_line(text, reference.as_str())?;
+    }
+    Ok(())
+}
+
+/// The text of an index of titles as they stand.
+fn text_of_whole_titles(alloc: Global) -> Result<String, IndexError> {
+    let builder = IndexBuilder::<English>::new(alloc)?;
+    index_with_tokenizer(builder, Box::new(alloc, whole)?)
+}
+
+fn add_pair(text: &mut String, pair: &(String, String)) -> Result<(), AllocError> {
+    add_line(text, pair.0.as_str())?;
+    add_line(text, pair.1.as_str())
 }
 
 fn add_line(text: &mut String, line: &str) -> Result<(), AllocError> {

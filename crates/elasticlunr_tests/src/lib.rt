@@ -3,6 +3,8 @@
 #![tactic(auto)]
 
 #[cfg(test)]
+mod devices;
+#[cfg(test)]
 mod long_tokens;
 #[cfg(test)]
 mod own;
@@ -10,7 +12,5 @@ mod own;
 mod own_language;
 #[cfg(test)]
 mod pipelines;
-#[cfg(test)]
-mod runs;
 #[cfg(test)]
 mod texts;

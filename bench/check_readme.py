@@ -9,7 +9,8 @@ usage: check_readme.py [README]
   Such a crate holds nothing else. A block of Rust that is a file of the crate of uses, letter for
   letter, is a use, and counts as none of these.
 - Each command of a block of shell is run at the top of the repository and must end well. `make test`,
-  of which this is a part, and `make compare` are only looked up, by `make -n`.
+  of which this is a part, and `make compare` are only looked up, by `make -n`, and so is `make try` for
+  a README that is not the repository's own.
 - Each job in JSON must be answered by the built program as the definitions say (model.py).
 
 A block of another kind is for another check or none: it is named.
@@ -26,6 +27,7 @@ README = os.path.join(TOP, "README.md")
 PROGRAM = program("elasticlunr_index")
 USES = os.path.join(TOP, "crates", "elasticlunr_uses", "src")
 LONG = re.compile(r"make (test|compare)\b")
+ONCE = re.compile(r"make try\b")  # takes up to a minute: run for the page itself, and only looked up for another one
 FETCHES = re.compile(r"bench/fetch_")  # needs a network: tried by bench/browser.py
 MINUTES = 15  # that a command may take
 KINDS = ("rust", "antt", "console", "json", "text")
@@ -91,10 +93,10 @@ def why_not_a_crate(line_of_crate, texts):
     return f"crates/{name}/{other[0]} is another text" if other else None
 
 
-def why_not_run(command):
+def why_not_run(command, is_page):
     if FETCHES.match(command):
         return None if os.access(os.path.join(TOP, command.split()[0]), os.X_OK) else "there is no such script"
-    if not LONG.match(command):
+    if not LONG.match(command) and (is_page or not ONCE.match(command)):
         ended = run(["sh", "-c", command], seconds=60 * MINUTES, cwd=TOP)
         return None if ended.status == 0 else f"status {ended.status}: {ended.err.decode(errors='replace')[-500:]}"
     ended = run(["sh", "-c", command.replace("make", "make -n", 1)], cwd=TOP)
@@ -129,7 +131,7 @@ def tried(path):
     for kind, line, text in found:
         if kind == "console":
             for command in commands(text):
-                yield f"line {line}: {command}", why_not_run(command)
+                yield f"line {line}: {command}", why_not_run(command, path == README)
         if kind == "json":
             yield f"line {line}: a job", why_not_answered(text)
     for kind in ("console", "json"):

@@ -5,5 +5,5 @@
 mod members;
 mod tokens;
 
-pub use members::put_member;
+pub use members::{put_member, set_member};
 pub use tokens::{CompactText, PrettyText, Token, Tokens};

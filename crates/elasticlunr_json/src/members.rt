@@ -5,7 +5,7 @@ ghost use Rattle.serde_json.specs.Data.{put};
 ghost use Rattle.serde_json.specs.View.{view, members_view};
 
 use serde_json::{Map, Value};
-use std::alloc::AllocError;
+use std::alloc::{AllocError, Global};
 
 /// Sets the member of an object under a key.
 pub fn put_member(
@@ -19,4 +19,18 @@ pub fn put_member(
 {
     members.insert(key, value)?;
     Ok(())
+}
+
+/// Sets the member of an object under a copy of a key.
+pub fn set_member(
+    alloc: Global,
+    members: &mut Map<String, Value>,
+    key: &str,
+    value: Value,
+) -> Result<(), AllocError>
+    ensures put { OnOk result (members_view members.new.entries
+        ≡ put key.now (view value) (members_view members.old.entries)) }
+    ensures ordered { OnOk result (IsOrdered string_cmp members.new) }
+{
+    put_member(members, String::from_str(alloc, key)?, value)
 }

@@ -5,7 +5,7 @@ ghost use Rattle.elasticlunr_json.specs.Maps.{keyed, count};
 ghost use Rattle.serde_json.specs.Data.{string};
 ghost use Rattle.serde_json.specs.View.{view};
 
-use elasticlunr_json::put_member;
+use elasticlunr_json::set_member;
 use serde_json::{Map, Value};
 use std::alloc::{AllocError, Global};
 use std::collections::BTreeMap;
@@ -16,7 +16,7 @@ fn texts_value(alloc: Global, texts: &BTreeMap<String, String>) -> Result<Value,
 {
     let mut members = Map::new(alloc);
     for (field, text) in texts.iter() {
-        put_member(&mut members, field.clone()?, Value::String(text.clone()?))?;
+        set_member(alloc, &mut members, field, Value::String(text.clone()?))?;
     }
     Ok(Value::Object(members))
 }
@@ -30,7 +30,7 @@ pub fn document_texts_value(
 {
     let mut members = Map::new(alloc);
     for (doc_ref, texts) in docs.iter() {
-        put_member(&mut members, doc_ref.clone()?, texts_value(alloc, texts)?)?;
+        set_member(alloc, &mut members, doc_ref, texts_value(alloc, texts)?)?;
     }
     Ok(Value::Object(members))
 }
@@ -41,7 +41,7 @@ fn lengths_value(alloc: Global, lengths: &BTreeMap<String, usize>) -> Result<Val
 {
     let mut members = Map::new(alloc);
     for (field, length) in lengths.iter() {
-        put_member(&mut members, field.clone()?, Value::from(*length))?;
+        set_member(alloc, &mut members, field, Value::from(*length))?;
     }
     Ok(Value::Object(members))
 }
@@ -55,11 +55,7 @@ pub fn document_lengths_value(
 {
     let mut members = Map::new(alloc);
     for (doc_ref, lengths) in doc_info.iter() {
-        put_member(
-            &mut members,
-            doc_ref.clone()?,
-            lengths_value(alloc, lengths)?,
-        )?;
+        set_member(alloc, &mut members, doc_ref, lengths_value(alloc, lengths)?)?;
     }
     Ok(Value::Object(members))
 }
@@ -75,17 +71,9 @@ pub fn store_value(
     ensures { IfOk result (λ v. view v ≡ store_object save (view docs) (view doc_info) length) }
 {
     let mut members = Map::new(alloc);
-    put_member(
-        &mut members,
-        String::from_str(alloc, "save")?,
-        Value::Bool(save),
-    )?;
-    put_member(&mut members, String::from_str(alloc, "docs")?, docs)?;
-    put_member(&mut members, String::from_str(alloc, "docInfo")?, doc_info)?;
-    put_member(
-        &mut members,
-        String::from_str(alloc, "length")?,
-        Value::from(length),
-    )?;
+    set_member(alloc, &mut members, "save", Value::Bool(save))?;
+    set_member(alloc, &mut members, "docs", docs)?;
+    set_member(alloc, &mut members, "docInfo", doc_info)?;
+    set_member(alloc, &mut members, "length", Value::from(length))?;
     Ok(Value::Object(members))
 }

@@ -3,6 +3,7 @@ pub mod Frequencies
 pub mod Numbers
 pub mod Removed
 pub mod Listed
+mod Unlisted
 pub mod Added
 pub mod Unseen
 pub mod Gap

@@ -1,5 +1,6 @@
 -- Numbered nodes whose postings name their references by number; for private clauses.
-use Rattle.std.specs.Prelude.{◌≡◌, ◌≢◌, ◌<◌, ◌^◌, ℕ, Bool, false, ◌||◌, ◌==◌, IsTrue, List, [], ◌∷◌, length, slice_get, slice_index, Option, Some, None}
+use Rattle.std.specs.Prelude.{◌≡◌, ◌≢◌, ◌<◌, ◌^◌, ℕ, Bool, false, ◌||◌, ◌==◌, IsTrue, IsFalse, List, [], ◌∷◌, length, slice_get, slice_index, SomeIndex, Option, Some, None}
+use Rattle.std.specs.List.{remove as without}
 use Rattle.std.specs.FinMap.{get, empty, insert, remove}
 use Rattle.elasticlunr_nodes.specs.Pairs.{Pairs}
 use Rattle.elasticlunr_nodes.specs.Frequencies.{Frequencies}
@@ -32,6 +33,16 @@ list_at references n = list_of (slice_get references n)
 abbrev pub has : List ℕ → ℕ → Bool
 has [] k = false
 has (j ∷ js) k = (j == k) || has js k
+
+-- ks is the list js without one k, or js where it has none
+pub record LosesOne (js ks : List ℕ) (k : ℕ) : Type 0 where
+  pub one : IsTrue (has js k) → SomeIndex js (λ i. (slice_index js i ≡ k) × (ks ≡ without js i))
+  pub none : IsFalse (has js k) → ks ≡ js
+
+-- the reference n lists a node k less, and the others what they did
+pub record LosesNode (old new : List Reference) (n k : ℕ) : Type 0 where
+  pub here : LosesOne (list_at old n) (list_at new n) k
+  pub elsewhere : (m : ℕ) → m ≢ n → list_at new m ≡ list_at old m
 
 -- postings of the node k are those of names, their frequencies have 64 bits, and their references list the node
 pub record IsListed (names : Names) (references : List Reference) (k : ℕ) (P : Frequencies) : Type 0 where

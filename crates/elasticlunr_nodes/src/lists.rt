@@ -1,7 +1,7 @@
 //! The lists of the nodes where a reference has a posting.
-ghost use Rattle.std.specs.Prelude.{◌≡◌, ◌≢◌, ◌<◌, ◌++◌, ◌∷◌, [], ℕ, IsTrue, IfSome, length, slice_index, OnOk, OnErr};
+ghost use Rattle.std.specs.Prelude.{◌≡◌, ◌≢◌, ◌<◌, ◌++◌, ◌∷◌, [], ℕ, IsTrue, IsFalse, IfSome, IfNone, length, slice_index, OnOk, OnErr};
 ghost use Rattle.std.specs.FinMap.{get};
-ghost use Rattle.elasticlunr_nodes.specs.Nodes.{list_at, has, KeepsLists, KeepsOtherNodes};
+ghost use Rattle.elasticlunr_nodes.specs.Nodes.{list_at, has, KeepsLists, KeepsOtherNodes, LosesOne, LosesNode};
 
 use crate::nodes::{Reference, short_number};
 use crate::postings::Postings;
@@ -24,14 +24,15 @@ fn make_lists(
     Ok(())
 }
 
-/// Sees to it that the list of a reference has room for more nodes.
+/// Sees to it that a reference has a list, with room for more nodes.
 pub fn reserve_list(
     alloc: Global,
     references: &mut Vec<Reference>,
     number: usize,
     count: usize,
 ) -> Result<(), AllocError>
-    ensures { (n : ℕ) → list_at references.new.items n ≡ list_at references.old.items n }
+    ensures there { OnOk result (number < length references.new.items) }
+    ensures same { (n : ℕ) → list_at references.new.items n ≡ list_at references.old.items n }
 {
     make_lists(alloc, references, number)?;
     references[number].nodes.reserve(count)
@@ -83,7 +84,8 @@ pub fn list_node(
 
 // Where a list has a node.
 fn place_in(list: &[u32], k: usize) -> Option<usize>
-    ensures { IfSome result (λ i. (i < length list.now) × (slice_index list.now i ≡ k)) }
+    ensures some { IfSome result (λ i. (i < length list.now) × (slice_index list.now i ≡ k)) }
+    ensures none { IfNone result (IsFalse (has list.now k)) }
 {
     let mut i = list.len();
     while i > 0 {
@@ -97,16 +99,19 @@ fn place_in(list: &[u32], k: usize) -> Option<usize>
 
 // Takes a node out of a list, if it is there.
 fn forget(list: &mut Vec<u32>, k: usize)
-    ensures { (q : ℕ) → q ≢ k → IsTrue (has list.old.items q) → IsTrue (has list.new.items q) }
+    ensures loses { LosesOne list.old.items list.new.items k }
+    ensures keeps { (q : ℕ) → q ≢ k → IsTrue (has list.old.items q) → IsTrue (has list.new.items q) }
 {
     if let Some(at) = place_in(list, k) {
         list.remove(at);
     }
 }
 
-/// Takes a node out of the list of a reference.
+/// Takes a node out of the list of a reference, where it stands in that list: the last of several.
+/// The list is searched from its end.
 pub fn unlist(references: &mut Vec<Reference>, number: usize, k: usize)
-    ensures { KeepsOtherNodes references.old.items references.new.items number k }
+    ensures loses { LosesNode references.old.items references.new.items number k }
+    ensures keeps { KeepsOtherNodes references.old.items references.new.items number k }
 {
     if number < references.len() {
         forget(&mut references[number].nodes, k);

@@ -1,5 +1,6 @@
 //! Room for what several tokens add to the list of a reference, requested at once.
-ghost use Rattle.std.specs.Prelude.{◌≡◌};
+ghost use Rattle.std.specs.Prelude.{◌≡◌, ◌<◌, ℕ, Some, OnOk, length};
+ghost use Rattle.elasticlunr_nodes.specs.Names.{entered, number_of};
 ghost use Rattle.elasticlunr_nodes.specs.Pairs.{Pairs};
 ghost use Rattle.elasticlunr_nodes.specs.Trie.{table_of, IsIndex};
 
@@ -40,6 +41,8 @@ pub fn make_room(
     doc_ref: &str,
     starts: &[Start<'_>],
 ) -> Result<(), AllocError>
+    ensures names { OnOk result (names.new ≡ entered names.old doc_ref.now) }
+    ensures listed { OnOk result ((n : ℕ) → number_of names.new doc_ref.now ≡ Some n → n < length references.new.items) }
     ensures index { (root : Pairs) → IsIndex root nodes.now names.old references.old.items
         → IsIndex root nodes.now names.new references.new.items }
     ensures table { (root : Pairs) → IsIndex root nodes.now names.old references.old.items

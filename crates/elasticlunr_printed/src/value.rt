@@ -11,7 +11,7 @@ ghost use Rattle.serde_json.specs.Written.{has_float};
 
 use crate::parts::{ELASTICLUNR_VERSION, Parts};
 use elasticlunr_error::IndexError;
-use elasticlunr_json::put_member;
+use elasticlunr_json::set_member;
 use elasticlunr_trie::InvertedIndex;
 use serde_json::{Map, Value};
 use std::alloc::{AllocError, Global};
@@ -24,23 +24,19 @@ pub fn index_value(alloc: Global, parts: Parts<'_>) -> Result<Value, IndexError>
 {
     let mut members = Map::new(alloc);
     let documents = parts.store.to_value()?;
-    put_member(
-        &mut members,
-        String::from_str(alloc, "documentStore")?,
-        documents,
-    )?;
+    set_member(alloc, &mut members, "documentStore", documents)?;
     let fields = array_of_names(alloc, parts.fields)?;
-    put_member(&mut members, String::from_str(alloc, "fields")?, fields)?;
+    set_member(alloc, &mut members, "fields", fields)?;
     let tries = object_of_tries(alloc, parts.fields, parts.tries)?;
-    put_member(&mut members, String::from_str(alloc, "index")?, tries)?;
+    set_member(alloc, &mut members, "index", tries)?;
     let language = Value::try_from_str(alloc, parts.language)?;
-    put_member(&mut members, String::from_str(alloc, "lang")?, language)?;
+    set_member(alloc, &mut members, "lang", language)?;
     let stages = array_of_names(alloc, parts.stages)?;
-    put_member(&mut members, String::from_str(alloc, "pipeline")?, stages)?;
+    set_member(alloc, &mut members, "pipeline", stages)?;
     let reference = Value::try_from_str(alloc, parts.ref_field)?;
-    put_member(&mut members, String::from_str(alloc, "ref")?, reference)?;
+    set_member(alloc, &mut members, "ref", reference)?;
     let version = Value::try_from_str(alloc, ELASTICLUNR_VERSION)?;
-    put_member(&mut members, String::from_str(alloc, "version")?, version)?;
+    set_member(alloc, &mut members, "version", version)?;
     Ok(Value::Object(members))
 }
 
@@ -69,7 +65,7 @@ fn object_of_tries(
 {
     let mut members = Map::new(alloc);
     for (name, trie) in fields.iter().zip(tries) {
-        put_member(&mut members, name.clone()?, trie.to_value()?)?;
+        set_member(alloc, &mut members, name, trie.to_value()?)?;
     }
     Ok(Value::Object(members))
 }

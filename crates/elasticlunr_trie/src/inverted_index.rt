@@ -23,7 +23,7 @@ mod write;
 
 use add::add_posting;
 use elasticlunr_error::IndexError;
-use elasticlunr_json::put_member;
+use elasticlunr_json::set_member;
 use elasticlunr_nodes::docs::copy_docs;
 use elasticlunr_nodes::names::Names;
 use elasticlunr_nodes::nodes::{Node, Place, Reference, find, find_frequency, find_postings};
@@ -237,7 +237,7 @@ impl InvertedIndex {
         let alloc = *self.nodes.allocator();
         let root = tree_value(alloc, &self.root, &self.nodes, &self.names)?;
         let mut members = Map::new(alloc);
-        put_member(&mut members, String::from_str(alloc, "root")?, root)?;
+        set_member(alloc, &mut members, "root", root)?;
         Ok(Value::Object(members))
     }
 

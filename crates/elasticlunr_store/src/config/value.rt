@@ -7,7 +7,7 @@ ghost use Rattle.elasticlunr_store.specs.Options.{field_map, bool_value, field_v
 ghost use Rattle.elasticlunr_store.specs.OptionalMembers.{put_part};
 
 use super::{FieldOptions, SearchBool, SearchOptionsField};
-use elasticlunr_json::put_member;
+use elasticlunr_json::set_member;
 use serde_json::{Map, Value};
 use std::alloc::{AllocError, Global};
 
@@ -32,7 +32,7 @@ pub(super) fn put_part(
         ≡ put_part key.now (option_map view value) (members_view members.old.entries)) }
 {
     match value {
-        Some(value) => { put_member(members, String::from_str(alloc, key)?, value) }
+        Some(value) => set_member(alloc, members, key, value),
         None => Ok(()),
     }
 }
@@ -78,13 +78,9 @@ pub(super) fn whole_value(
 {
     let mut members = Map::new(alloc);
     let bool = bool_value(alloc, bool)?;
-    put_member(&mut members, String::from_str(alloc, "bool")?, bool)?;
-    put_member(
-        &mut members,
-        String::from_str(alloc, "expand")?,
-        Value::Bool(expand),
-    )?;
-    put_member(&mut members, String::from_str(alloc, "fields")?, fields)?;
+    set_member(alloc, &mut members, "bool", bool)?;
+    set_member(alloc, &mut members, "expand", Value::Bool(expand))?;
+    set_member(alloc, &mut members, "fields", fields)?;
     Ok(Value::Object(members))
 }
 
@@ -106,7 +102,7 @@ pub(super) fn fields_value(alloc: Global, fields: &FieldOptions) -> Result<Value
 {
     let mut members = Map::new(alloc);
     for (name, field) in fields.iter() {
-        put_member(&mut members, name.clone()?, field_value(alloc, field)?)?;
+        set_member(alloc, &mut members, name, field_value(alloc, field)?)?;
     }
     Ok(Value::Object(members))
 }

@@ -12,7 +12,7 @@ ghost use Rattle.serde_json.specs.View.{view, members_view};
 ghost use Rattle.elasticlunr_trie.specs.Tree.{frequencies, IsTree};
 ghost use Rattle.elasticlunr_trie.specs.Finished.{HasChildren, KeepsOtherValues, IsNode};
 
-use elasticlunr_json::put_member;
+use elasticlunr_json::{put_member, set_member};
 use elasticlunr_nodes::docs::in_order;
 use elasticlunr_nodes::names::{NameTexts, Names};
 use elasticlunr_nodes::nodes::Node;
@@ -33,14 +33,11 @@ fn docs_value(
     let mut docs = Map::new(alloc);
     for &(_, number, term_freq) in ranked {
         let mut frequency = Map::new(alloc);
-        put_member(
-            &mut frequency,
-            String::from_str(alloc, "tf")?,
-            Value::from(term_freq),
-        )?;
-        put_member(
+        set_member(alloc, &mut frequency, "tf", Value::from(term_freq))?;
+        set_member(
+            alloc,
             &mut docs,
-            String::from_str(alloc, names.name(number))?,
+            names.name(number),
             Value::Object(frequency),
         )?;
     }
@@ -86,12 +83,8 @@ fn node_value(
 {
     let mut members = Map::new(alloc);
     put_children(alloc, &mut members, children, finished)?;
-    put_member(&mut members, String::from_str(alloc, "docs")?, docs)?;
-    put_member(
-        &mut members,
-        String::from_str(alloc, "df")?,
-        Value::from(df),
-    )?;
+    set_member(alloc, &mut members, "docs", docs)?;
+    set_member(alloc, &mut members, "df", Value::from(df))?;
     Ok(Value::Object(members))
 }
 

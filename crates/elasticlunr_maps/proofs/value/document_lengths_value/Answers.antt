@@ -20,7 +20,7 @@ loop-doc_ref-preserved c =
     let sorted = subst (λ es. IsStrictlySortedBy string_cmp (keys_of es)) (sym more) c.iter-doc_ref-items.ensures.ordered in (
       held.0 ++ (c.in-Some.doc_ref.now, c.in-Some.lengths.now) ∷ [],
       append_assoc held.0 _ c.next.new.self ∙ more,
-      c.in_ok-put_member.ensures.put ∙ (λ i. put (c.in_ok-clone.ensures.cases i) (inner i) (held.2 i))
+      c.in_ok-set_member.ensures.put ∙ (λ i. put (c.deref.ensures i) (inner i) (held.2 i))
           ∙ put_last (λ m. length_map m.entries) (keyed count) held.0 (c.in-Some.doc_ref.now, c.in-Some.lengths.now) c.next.new.self _ sorted refl,
     )
 

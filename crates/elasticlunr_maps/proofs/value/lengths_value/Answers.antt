@@ -19,7 +19,7 @@ loop-field-preserved c =
     let sorted = subst (λ es. IsStrictlySortedBy string_cmp (keys_of es)) (sym more) c.iter-field-items.ensures.ordered in (
       held.0 ++ (c.in-Some.field.now, c.in-Some.length.now) ∷ [],
       append_assoc held.0 _ c.next.new.self ∙ more,
-      c.in_ok-put_member.ensures.put ∙ (λ i. put (c.in_ok-clone.ensures.cases i) (inner i) (held.2 i))
+      c.in_ok-set_member.ensures.put ∙ (λ i. put (c.deref.ensures i) (inner i) (held.2 i))
           ∙ put_last (λ n. n) count held.0 (c.in-Some.field.now, c.in-Some.length.now) c.next.new.self _ sorted refl,
     )
 

@@ -15,11 +15,11 @@ pub loop-field-preserved : goal.loop-field-preserved
 loop-field-preserved c =
     let held = c.loop-field.invariant in
     let more = ap (λ es. held.0 ++ es) (sym c.in-Some.ensures.steps) ∙ held.1 in
-    let inner = view-String _ ∙ ap string c.in_ok-clone-2.ensures.cases in
+    let inner = view-String _ ∙ ap string c.in_ok-clone.ensures.cases in
     let sorted = subst (λ es. IsStrictlySortedBy string_cmp (keys_of es)) (sym more) c.iter-field-items.ensures.ordered in (
       held.0 ++ (c.in-Some.field.now, c.in-Some.text.now) ∷ [],
       append_assoc held.0 _ c.next.new.self ∙ more,
-      c.in_ok-put_member.ensures.put ∙ (λ i. put (c.in_ok-clone.ensures.cases i) (inner i) (held.2 i))
+      c.in_ok-set_member.ensures.put ∙ (λ i. put (c.deref.ensures i) (inner i) (held.2 i))
           ∙ put_last string_bytes string held.0 (c.in-Some.field.now, c.in-Some.text.now) c.next.new.self _ sorted refl,
     )
 

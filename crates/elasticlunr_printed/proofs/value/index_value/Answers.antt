@@ -1,6 +1,5 @@
-use Rattle.std.proofs.Common.{◌≡◌, ℕ, List, string_bytes, sym, ap, ◌∙◌}
+use Rattle.std.proofs.Common.{string_bytes, sym, ap, ◌∙◌}
 use Rattle.std.proofs.lemmas.List.{length-map}
-use Rattle.serde_json.specs.Data.{Data, Members, put}
 use Rattle.serde_json.specs.View.{view, members_view}
 use Rattle.serde_json.specs.declared.value.Value.{Object}
 use Rattle.serde_json.proofs.Views.{view-Object}
@@ -9,10 +8,6 @@ use Rattle.elasticlunr_printed.proofs.Values.{seven_members}
 use Rattle.elasticlunr_printed.proofs.Plain.{no_float}
 use Rattle.elasticlunr_printed.proofs.PlainValues.{value_plain}
 use Rattle.elasticlunr_printed.proofs.value.index_value.Goals as goal
-
--- what is put under a key is put under its name
-put_under : (key name : List ℕ) (value : Data) (members after : Members) → after ≡ put key value members → key ≡ name → after ≡ put name value members
-put_under key name value members after is named = is ∙ ap (λ k. put k value members) named
 
 pub returns-clause-value : goal.returns-clause-value
 returns-clause-value c =
@@ -26,19 +21,19 @@ returns-clause-value c =
         documents = view c.in_ok-documents.documents;
         each_trie = tries.1;
         store = c.in_ok-documents.ensures.value;
-        whole = view-Object c.put_member-7.new.members
+        whole = view-Object c.set_member-7.new.members
             ∙ seven_members (plan_of_parts c.args.parts) tries.0 (view c.in_ok-documents.documents) _ _ _ _ _ _ _ _ _ _ _ _ _ _
             c.in_ok-fields.ensures tries.2 c.in_ok-language.ensures c.in_ok-stages.ensures c.in_ok-reference.ensures c.in_ok-version.ensures
             (ap (λ es. members_view es) c.new-members.ensures.empty)
-            (put_under _ _ _ _ _ c.in_ok-put_member.ensures.put c.in_ok-from_str.ensures.ok)
-            (put_under _ _ _ _ _ c.in_ok-put_member-2.ensures.put c.in_ok-from_str-2.ensures.ok)
-            (put_under _ _ _ _ _ c.in_ok-put_member-3.ensures.put c.in_ok-from_str-3.ensures.ok)
-            (put_under _ _ _ _ _ c.in_ok-put_member-4.ensures.put c.in_ok-from_str-4.ensures.ok)
-            (put_under _ _ _ _ _ c.in_ok-put_member-5.ensures.put c.in_ok-from_str-5.ensures.ok)
-            (put_under _ _ _ _ _ c.in_ok-put_member-6.ensures.put c.in_ok-from_str-6.ensures.ok)
-            (put_under _ _ _ _ _ c.in_ok-put_member-7.ensures.put c.in_ok-from_str-7.ensures.ok);
+            c.in_ok-set_member.ensures.put
+            c.in_ok-set_member-2.ensures.put
+            c.in_ok-set_member-3.ensures.put
+            c.in_ok-set_member-4.ensures.put
+            c.in_ok-set_member-5.ensures.put
+            c.in_ok-set_member-6.ensures.put
+            c.in_ok-set_member-7.ensures.put;
       };
     }
 
 pub returns-clause-whole : goal.returns-clause-whole
-returns-clause-whole c = no_float _ (value_plain (plan_of_parts c.args.parts) c.args.parts.tries.now c.args.parts.store.now (view (Object c.put_member-7.new.members)) (returns-clause-value c).printed)
+returns-clause-whole c = no_float _ (value_plain (plan_of_parts c.args.parts) c.args.parts.tries.now c.args.parts.store.now (view (Object c.set_member-7.new.members)) (returns-clause-value c).printed)

@@ -25,7 +25,7 @@ loop-name-preserved c =
     let both = subst (λ ns. WillHold all c.args.tries.now (map string_bytes ns) c.loop-name.name-iterator.b.rest.now members) steps.0 c.loop-name.invariant in
     let before = subst (λ ts. WillHold all c.args.tries.now (map string_bytes (c.in-Some.name.now ∷ c.next.new.self.a.rest.now)) ts members) steps.1 both in
     let value = view c.in_ok-to_value.field-0 in
-    let after = c.in_ok-put_member.ensures.put ∙ ap (λ key. put key value members) c.in_ok-clone.ensures.cases in
+    let after = c.in_ok-set_member.ensures.put ∙ ap (λ key. put key value members) c.deref.ensures in
     subst (WillHold all c.args.tries.now (map string_bytes c.next.new.self.a.rest.now) c.next.new.self.b.rest.now) (sym after)
     (hold_more all c.args.tries.now (string_bytes c.in-Some.name.now) _ c.in-Some.trie.now c.next.new.self.b.rest.now members value c.to_value.ensures.table c.in_ok-to_value.ensures.tree before)
 

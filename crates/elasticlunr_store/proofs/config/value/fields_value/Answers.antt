@@ -19,7 +19,7 @@ loop-name-preserved c =
     let sorted = subst (λ es. IsStrictlySortedBy string_cmp (keys_of es)) (sym more) c.iter-name-items.ensures.ordered in (
       held.0 ++ (c.in-Some.name.now, c.in-Some.field.now) ∷ [],
       append_assoc held.0 _ c.next.new.self ∙ more,
-      c.in_ok-put_member.ensures.put ∙ (λ i. put (c.in_ok-clone.ensures.cases i) (c.in_ok-field_value.ensures i) (held.2 i))
+      c.in_ok-set_member.ensures.put ∙ (λ i. put (c.deref.ensures i) (c.in_ok-field_value.ensures i) (held.2 i))
           ∙ put_last (λ field. field) field_value held.0 (c.in-Some.name.now, c.in-Some.field.now) c.next.new.self _ sorted (λ i. field_value c.in-Some.field.now),
     )
 

@@ -1,4 +1,4 @@
-use Rattle.std.proofs.Common.{subst, ap, ◌∙◌}
+use Rattle.std.proofs.Common.{subst, ap, ◌∙◌, codes}
 use Rattle.serde_json.specs.View.{members_view, view}
 use Rattle.serde_json.specs.Data.{put, object}
 use Rattle.serde_json.proofs.Views.{view-Object}
@@ -14,13 +14,13 @@ returns-clause-only c U table value =
     let root = c.self.inside.root.items in
     let nodes = c.self.inside.nodes.items in
     let tree = rw (c.deref.ensures.value, c.deref-2.ensures.value) at c.in_ok-root.ensures in
-    let whole = view-Object c.put_member.new.members ∙ ap object (c.in_ok-put_member.ensures.put ∙ (λ i. put (c.in_ok-from_str.ensures.ok i) (view c.in_ok-root.root) (members_view (c.new-members.ensures.empty i)))) in
+    let whole = view-Object c.set_member.new.members ∙ ap object (c.in_ok-set_member.ensures.put ∙ (λ i. put (codes "root") (view c.in_ok-root.root) (members_view (c.new-members.ensures.empty i)))) in
     one_table U (table_of root nodes c.self.inside.names) (closed U table) (closed_nodes root nodes c.self.invariant.trie c.self.inside.names) _ value (view c.in_ok-root.root, whole, tree) ∙ c.self.view_is
 
 pub returns-clause-whole : goal.returns-clause-whole
 returns-clause-whole c =
     let tree = rw (c.deref.ensures.value, c.deref-2.ensures.value) at c.in_ok-root.ensures in
-    let whole = view-Object c.put_member.new.members ∙ ap object (c.in_ok-put_member.ensures.put ∙ (λ i. put (c.in_ok-from_str.ensures.ok i) (view c.in_ok-root.root) (members_view (c.new-members.ensures.empty i)))) in
+    let whole = view-Object c.set_member.new.members ∙ ap object (c.in_ok-set_member.ensures.put ∙ (λ i. put (codes "root") (view c.in_ok-root.root) (members_view (c.new-members.ensures.empty i)))) in
     no_float (table_of c.self.inside.root.items c.self.inside.nodes.items c.self.inside.names) _ (view c.in_ok-root.root, whole, tree)
 
 pub returns-clause-table : goal.returns-clause-table
@@ -29,8 +29,5 @@ returns-clause-table c = subst IsTable c.self.view_is (nodes_table c.self.inside
 pub returns-in_err-root-clause-table : goal.returns-in_err-root-clause-table
 returns-in_err-root-clause-table c = subst IsTable c.self.view_is (nodes_table c.self.inside.root.items c.self.inside.nodes.items c.self.invariant.trie c.self.inside.names c.self.inside.references.items c.self.invariant)
 
-pub returns-in_err-from_str-clause-table : goal.returns-in_err-from_str-clause-table
-returns-in_err-from_str-clause-table c = subst IsTable c.self.view_is (nodes_table c.self.inside.root.items c.self.inside.nodes.items c.self.invariant.trie c.self.inside.names c.self.inside.references.items c.self.invariant)
-
-pub returns-in_err-put_member-clause-table : goal.returns-in_err-put_member-clause-table
-returns-in_err-put_member-clause-table c = subst IsTable c.self.view_is (nodes_table c.self.inside.root.items c.self.inside.nodes.items c.self.invariant.trie c.self.inside.names c.self.inside.references.items c.self.invariant)
+pub returns-in_err-set_member-clause-table : goal.returns-in_err-set_member-clause-table
+returns-in_err-set_member-clause-table c = subst IsTable c.self.view_is (nodes_table c.self.inside.root.items c.self.inside.nodes.items c.self.invariant.trie c.self.inside.names c.self.inside.references.items c.self.invariant)

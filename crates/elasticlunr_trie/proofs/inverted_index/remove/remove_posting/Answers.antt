@@ -13,7 +13,7 @@ clear_number-requires c =
 
 pub returns-in-Some-At-clause-listed : goal.returns-in-Some-At-clause-listed
 returns-in-Some-At-clause-listed c =
-    cleared_listed c.args.names.now c.args.references.now.items c.unlist.new.references.items c.args.nodes.now.items c.clear_number.new.nodes.items c.in-Some-At.k c.in-Some.number c.requires.listed c.clear_number.ensures c.unlist.ensures
+    cleared_listed c.args.names.now c.args.references.now.items c.unlist.new.references.items c.args.nodes.now.items c.clear_number.new.nodes.items c.in-Some-At.k c.in-Some.number c.requires.listed c.clear_number.ensures c.unlist.ensures.keeps
 
 pub returns-in-Some-At-clause-removes : goal.returns-in-Some-At-clause-removes
 returns-in-Some-At-clause-removes c =

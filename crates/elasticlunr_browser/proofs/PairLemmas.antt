@@ -1,5 +1,5 @@
 -- The pairs of a change, as far as a loop has come.
-use Rattle.std.proofs.Common.{◌≡◌, ℕ, ◌+◌, ◌<◌, ◌≤◌, ◌⊎◌, inl, inr, List, [], ◌∷◌, ◌++◌, Bool, true, false, not, String, Option, Some, None, IfSome, IsNone, option_to_list, option_map, string_bytes, refl, sym, ap, subst, ◌∙◌, arith, below_more}
+use Rattle.std.proofs.Common.{◌≡◌, ℕ, ◌+◌, ◌<◌, ◌≤◌, ◌⊎◌, inl, inr, List, [], ◌∷◌, ◌++◌, Bool, true, false, not, String, Option, Some, None, IfSome, IsNone, option_to_list, option_map, length, get_or, string_bytes, refl, sym, ap, subst, ◌∙◌, arith, below_more}
 use Rattle.std.specs.List.{All, Contains}
 use Rattle.std.specs.Option.{is_none, is_some, unwrap_or}
 use Rattle.std.specs.Char.{InScalarRange}
@@ -67,6 +67,12 @@ pair_text changed pair text new bytes c code first is put after same =
     ap chars put ∙ chars-append (string_bytes pair) bytes (IsUtf8-string_bytes pair) ∙ ap (λ t. t ++ chars bytes) first
     ∙ ap (λ bs. c ∷ chars bs) is ∙ ap (λ t. c ∷ t) after ∙ ap (λ x. x ∷ changed x) same
 
+-- a text of one letter
+pub only_one : (letters : Text) (d c : ℕ) → 1 ≤ length letters → length letters < 2 → d ≡ get_or letters 0 d → d ≡ c → letters ≡ c ∷ []
+only_one [] d c some few is same = absurd (omega (arith, some))
+only_one (x ∷ []) d c some few is same = ap (λ y. y ∷ []) (sym is ∙ same)
+only_one (x ∷ y ∷ letters) d c some few is same = absurd (omega (arith, few))
+
 -- a character alone is dropped where the first test finds it, whatever the second does
 module _ (drops changes : ℕ → Bool) (new c : ℕ) where
   pub left_alone : is_none (unless_empty (with_first changes new (without_first drops (c ∷ [])))) ≡ drops c
@@ -100,3 +106,7 @@ module _ (left : Option (String Global)) (token : Text) (c : ℕ) (is : option_m
 
   pub stands_left : (text : String Global) → left ≡ Some text → text_of text ≡ arabic_change c
   stands_left text some = sym (ap (λ stem. unwrap_or stem (c ∷ [])) (stem_of_one ∙ ap (option_map text_of) some))
+
+  -- where it left the character, that stands for itself
+  pub stands_alone : (text : String Global) → left ≡ Some text → text_of text ≡ c ∷ [] → arabic_change c ≡ c ∷ []
+  stands_alone text some same = sym (stands_left text some) ∙ same

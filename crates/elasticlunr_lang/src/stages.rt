@@ -1,6 +1,6 @@
 //! The stages of the kept languages. Their names and classes are good, so that memory alone can be
 //! wanting.
-ghost use Rattle.std.specs.Prelude.{◌≡◌, ◌++◌, ℕ, string_bytes, IfOk};
+ghost use Rattle.std.specs.Prelude.{◌≡◌, ◌++◌, ℕ, codes, string_bytes, IfOk};
 ghost use Rattle.elasticlunr_text.specs.Text.{word_texts};
 ghost use Rattle.elasticlunr_text.specs.StopWords.{filter_name, HasWords};
 ghost use Rattle.elasticlunr_text.specs.Classes.{in_scripts};
@@ -29,17 +29,6 @@ fn stop_word_filter(
     }
 }
 
-/// The trimmer of the characters of the scripts.
-fn class_trimmer(alloc: Global, name: &str, scripts: &[Script]) -> Result<RegexTrimmer, AllocError>
-    ensures name { IfOk result (λ trimmer. trimmer_name trimmer ≡ name.now) }
-    ensures class { IfOk result (λ trimmer. (c : ℕ) → keeps trimmer c ≡ in_scripts scripts.now c) }
-{
-    match RegexTrimmer::of_scripts(alloc, name, scripts) {
-        Ok(trimmer) => Ok(trimmer),
-        Err(_) => Err(AllocError),
-    }
-}
-
 /// The name of a stage: the prefix, and the code of the language.
 fn stage_name(alloc: Global, prefix: &str, code: &str) -> Result<String, AllocError>
     ensures { IfOk result (λ name. string_bytes name ≡ prefix.now ++ code.now) }
@@ -47,6 +36,35 @@ fn stage_name(alloc: Global, prefix: &str, code: &str) -> Result<String, AllocEr
     let mut name = String::from_str(alloc, prefix)?;
     name.push_str(code)?;
     Ok(name)
+}
+
+/// The filter of the stop words of the language with the code.
+fn filter_of_language(
+    alloc: Global,
+    code: &str,
+    stop_words: &[&str],
+) -> Result<StopWordFilter, AllocError>
+    ensures name { IfOk result (λ filter. filter_name filter ≡ codes "stopWordFilter-" ++ code.now) }
+    ensures words { IfOk result (λ filter. HasWords filter (word_texts stop_words.now)) }
+{
+    let name = stage_name(alloc, "stopWordFilter-", code)?;
+    stop_word_filter(alloc, name.as_str(), stop_words)
+}
+
+/// The trimmer of the characters of the scripts, for the language with the code.
+fn trimmer_of_language(
+    alloc: Global,
+    code: &str,
+    scripts: &[Script],
+) -> Result<RegexTrimmer, AllocError>
+    ensures name { IfOk result (λ trimmer. trimmer_name trimmer ≡ codes "trimmer-" ++ code.now) }
+    ensures class { IfOk result (λ trimmer. (c : ℕ) → keeps trimmer c ≡ in_scripts scripts.now c) }
+{
+    let name = stage_name(alloc, "trimmer-", code)?;
+    match RegexTrimmer::of_scripts(alloc, name.as_str(), scripts) {
+        Ok(trimmer) => Ok(trimmer),
+        Err(_) => Err(AllocError),
+    }
 }
 
 /// The pipeline of a trimmer of some scripts and of stop words, for the language with the code.
@@ -63,10 +81,8 @@ pub fn class_pipeline(
     ensures known { IfOk result (λ pipeline. HasKnownStages pipeline) }
 {
     let mut pipeline = empty;
-    let trimmer_name = stage_name(alloc, "trimmer-", code)?;
-    let trimmer = class_trimmer(alloc, trimmer_name.as_str(), scripts)?;
-    let filter_name = stage_name(alloc, "stopWordFilter-", code)?;
-    let filter = stop_word_filter(alloc, filter_name.as_str(), stop_words)?;
+    let trimmer = trimmer_of_language(alloc, code, scripts)?;
+    let filter = filter_of_language(alloc, code, stop_words)?;
     pipeline.queue = vec![in alloc; Stage::Class(trimmer), Stage::StopWords(filter)]?;
     Ok(pipeline)
 }

@@ -1,4 +1,4 @@
-//! Comparing two stores.
+//! Comparing maps of texts and of lengths.
 ghost use Rattle.std.specs.Prelude.{◌≡◌, nat_eq};
 ghost use Rattle.std.specs.Str.{bytes_eq};
 ghost use Rattle.elasticlunr_json.specs.Maps.{same_map};

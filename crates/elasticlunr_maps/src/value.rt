@@ -1,4 +1,4 @@
-//! The JSON value of a document store.
+//! The JSON values of maps of texts and of lengths, and the object that a document store makes of them.
 ghost use Rattle.std.specs.Prelude.{◌≡◌, IfOk};
 ghost use Rattle.elasticlunr_maps.specs.Contents.{store_object, text_map, length_map, document_texts, document_lengths};
 ghost use Rattle.elasticlunr_json.specs.Maps.{keyed, count};

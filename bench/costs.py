@@ -1,0 +1,58 @@
+#!/usr/bin/env python3
+"""Says where the seconds of a crate's proof go: for each function, and for what is made of it.
+
+usage: costs.py FOLDER [COUNT]
+
+FOLDER is what a check with one job kept while it proved the crate from nothing: crates/NAME/out/incremental
+after `rm -rf crates/NAME/out/incremental` and `rt check --jobs 1` in the crate's folder. Each file of it
+took the time since the one before it was written. Of a function, `Lts` are the steps of its body, which grow
+faster than the body does, by its exits and by what is alive at each; `Proof` is what was left to the search.
+The COUNT costliest are shown, 20 when absent.
+"""
+import collections
+import os
+import re
+import sys
+
+MODULE = re.compile(r"Rattle-\w+?-(proofs|specs)\.(.*?)(\.decls)?\.oantt$")
+# what rattle makes of a function, and what is written of its proof
+PARTS = "Lts Proof Tie Goals Given Reads Answers Invariants Code Layout Kinds TheLink TheLinks Symbol Key".split()
+
+
+def written(folder):
+    """The files of a folder with the seconds that each took, in the order in which they were written."""
+    found = []
+    for at, _, names in os.walk(folder):
+        found += [(os.lstat(os.path.join(at, name)).st_mtime_ns / 1e9, name) for name in names]
+    found.sort()
+    for (before, _), (time, name) in zip(found, found[1:]):
+        yield name, time - before
+
+
+def place(name):
+    """The function, or the file of lemmas or definitions, that a module belongs to, and which part of it it is."""
+    module = MODULE.match(name)
+    if not module:
+        return "(other)", "other"
+    words = module[2].split(".")
+    at = next((at for at, word in enumerate(words) if word in PARTS), len(words))
+    part = words[at] if at < len(words) else {"proofs": "lemmas", "specs": "definitions"}[module[1]]
+    return ".".join(words[:at]) or "(crate)", part
+
+
+def main():
+    if len(sys.argv) < 2:
+        sys.exit(__doc__)
+    costs = collections.defaultdict(collections.Counter)
+    for name, seconds in written(sys.argv[1]):
+        function, part = place(name)
+        costs[function][part] += seconds
+    print(f"{sum(sum(it.values()) for it in costs.values()):7.1f} in all")
+    count = int(sys.argv[2]) if len(sys.argv) > 2 else 20
+    for function, parts in sorted(costs.items(), key=lambda it: -sum(it[1].values()))[:count]:
+        shown = ", ".join(f"{part} {seconds:.1f}" for part, seconds in parts.most_common(4) if seconds >= 0.1)
+        print(f"{sum(parts.values()):7.1f} {function} ({shown})")
+
+
+if __name__ == "__main__":
+    main()

@@ -35,8 +35,9 @@ def place(name):
     if not module:
         return "(other)", "other"
     words = module[2].split(".")
-    at = next((at for at, word in enumerate(words) if word in PARTS), len(words))
-    part = words[at] if at < len(words) else {"proofs": "lemmas", "specs": "definitions"}[module[1]]
+    # (a part may have the number of a call behind it)
+    at = next((at for at, word in enumerate(words) if word.partition("-")[0] in PARTS), len(words))
+    part = words[at].partition("-")[0] if at < len(words) else {"proofs": "lemmas", "specs": "definitions"}[module[1]]
     return ".".join(words[:at]) or "(crate)", part
 
 

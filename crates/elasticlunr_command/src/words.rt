@@ -5,12 +5,7 @@ use std::alloc::{AllocError, Global};
 
 /// The command and its sub-commands.
 pub(crate) fn command_line<'a>(alloc: Global) -> Result<Command<'a>, AllocError> {
-    let build = build_words(alloc)?;
-    let check = check_words(alloc)?;
-    let search = search_words(alloc)?;
-    let languages = Command::new(alloc, "languages").about(
-        "Lists the languages: name, code and the stages of each",
-    );
+    let languages = "Lists the languages: name, code and the stages of each";
     Command::new(alloc, "elasticlunr")
         .bin_name("elasticlunr")?
         .version("3.0.2")
@@ -18,39 +13,28 @@ pub(crate) fn command_line<'a>(alloc: Global) -> Result<Command<'a>, AllocError>
         .subcommand_required(true)
         .arg_required_else_help(true)
         .disable_help_subcommand(true)
-        .subcommand(build)?
-        .subcommand(check)?
-        .subcommand(search)?
-        .subcommand(languages)
+        .subcommand(build_words(alloc)?)?
+        .subcommand(check_words(alloc)?)?
+        .subcommand(search_words(alloc)?)?
+        .subcommand(Command::new(alloc, "languages").about(languages))
 }
 
 /// `build`: what `check` takes, and what is done with the index.
 fn build_words<'a>(alloc: Global) -> Result<Command<'a>, AllocError> {
-    let command = Command::new(alloc, "build").about(
-        "Prints an index of the documents in FILE, or of standard input",
-    );
-    let output = option(
-        alloc,
-        "output",
-        "FILE",
-        "Writes the index there, whole or not at all",
+    let about = "Prints an index of the documents in FILE, or of standard input";
+    let output = "Writes the index there, whole or not at all";
+    let script = "Writes this text before the index and `;` after it";
+    let pretty = "Prints the index with a line for each member";
+    let words = vec![in alloc;
+        option(alloc, "output", "FILE", output).short('o'),
+        flag(alloc, "no-save", "Keeps no texts of documents in the index"),
+        flag(alloc, "pretty", pretty),
+        option(alloc, "js", "TEXT", script),
+    ]?;
+    with_words(
+        input_words(alloc, Command::new(alloc, "build").about(about))?,
+        words,
     )
-    .short('o');
-    let script = option(
-        alloc,
-        "js",
-        "TEXT",
-        "Writes this text before the index and `;` after it",
-    );
-    input_words(alloc, command)?
-        .arg(output)?
-        .arg(flag(alloc, "no-save", "Keeps no texts of documents in the index"))?
-        .arg(flag(
-            alloc,
-            "pretty",
-            "Prints the index with a line for each member",
-        ))?
-        .arg(script)
 }
 
 /// `check`: the input and how it is read.
@@ -63,64 +47,54 @@ fn check_words<'a>(alloc: Global) -> Result<Command<'a>, AllocError> {
 
 /// The words of an input: where it is and how it is read.
 fn input_words<'a>(alloc: Global, command: Command<'a>) -> Result<Command<'a>, AllocError> {
-    let file = Arg::new(alloc, "file")
-        .value_name("FILE")
-        .help("A job, an array of objects, or a line for each object");
-    let format = option(
-        alloc,
-        "format",
-        "FORM",
-        "The form of the input, where its beginning doesn't tell it",
-    )
-    .value_parser(["job", "objects", "lines"].as_slice());
-    let reference = option(
-        alloc,
-        "ref",
-        "KEY",
-        "The key of an object's reference [default: id]",
-    );
-    let fields = option(
-        alloc,
-        "fields",
-        "KEYS",
-        "The fields, with a comma between them",
-    );
-    let language = option(
-        alloc,
-        "lang",
-        "LANGUAGE",
-        "A name or a code of `elasticlunr languages`",
-    );
-    command
-        .arg(file)?
-        .arg(format)?
-        .arg(reference)?
-        .arg(fields)?
-        .arg(language)?
-        .arg(flag(alloc, "strict", "Refuses what there is a warning of"))?
-        .arg(flag(
-            alloc,
-            "progress",
-            "Says when the input is read and its index made",
-        ))
+    let file = "A job, an array of objects, or a line for each object";
+    let format = "The form of the input, where its beginning doesn't tell it";
+    let forms = ["job", "objects", "lines"].as_slice();
+    let reference = "The key of an object's reference [default: id]";
+    let fields = "The fields, with a comma between them";
+    let language = "A name or a code of `elasticlunr languages`";
+    let progress = "Says when the input is read and its index made";
+    let words = vec![in alloc;
+        Arg::new(alloc, "file").value_name("FILE").help(file),
+        option(alloc, "format", "FORM", format).value_parser(forms),
+        option(alloc, "ref", "KEY", reference),
+        option(alloc, "fields", "KEYS", fields),
+        option(alloc, "lang", "LANGUAGE", language),
+        flag(alloc, "strict", "Refuses what there is a warning of"),
+        flag(alloc, "progress", progress),
+    ]?;
+    with_words(command, words)
 }
 
 /// `search`: an index, a query, and how its words are joined.
 fn search_words<'a>(alloc: Global) -> Result<Command<'a>, AllocError> {
-    let index = Arg::new(alloc, "index")
-        .value_name("INDEX")
+    let about = "Prints the references that a query finds in an index, one a line";
+    let words = vec![in alloc;
+        needed(alloc, "index", "INDEX", "The file of a printed index"),
+        needed(alloc, "query", "QUERY", "The words to find"),
+        option(alloc, "field", "FIELD", "Finds in this field alone"),
+        flag(alloc, "all", "Finds what has every word, and not any"),
+    ]?;
+    with_words(Command::new(alloc, "search").about(about), words)
+}
+
+/// A command that takes these words, too.
+fn with_words<'a>(
+    mut command: Command<'a>,
+    words: Vec<Arg<'a>>,
+) -> Result<Command<'a>, AllocError> {
+    for word in words {
+        command = command.arg(word)?;
+    }
+    Ok(command)
+}
+
+/// A word that has to be there.
+fn needed<'a>(alloc: Global, name: &'a str, value: &'a str, help: &'a str) -> Arg<'a> {
+    Arg::new(alloc, name)
+        .value_name(value)
         .required(true)
-        .help("The file of a printed index");
-    let query = Arg::new(alloc, "query")
-        .value_name("QUERY")
-        .required(true)
-        .help("The words to find");
-    Command::new(alloc, "search")
-        .about("Prints the references that a query finds in an index, one a line")
-        .arg(index)?
-        .arg(query)?
-        .arg(option(alloc, "field", "FIELD", "Finds in this field alone"))?
-        .arg(flag(alloc, "all", "Finds what has every word, and not any"))
+        .help(help)
 }
 
 /// An option with a value.

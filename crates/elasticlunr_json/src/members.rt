@@ -1,6 +1,6 @@
 //! The members of JSON objects.
-ghost use Rattle.std.specs.Prelude.{◌≡◌, OnOk, string_bytes, string_cmp};
-ghost use Rattle.std.specs.BTreeMap.{IsOrdered};
+ghost use Rattle.std.specs.Prelude.{◌≡◌, OnOk, OnErr, string_bytes, string_cmp};
+ghost use Rattle.std.specs.BTreeMap.{IsOrdered, IsUnchanged};
 ghost use Rattle.serde_json.specs.Data.{put};
 ghost use Rattle.serde_json.specs.View.{view, members_view};
 
@@ -15,6 +15,7 @@ pub fn put_member(
 ) -> Result<(), AllocError>
     ensures put { OnOk result (members_view members.new.entries
         ≡ put (string_bytes key) (view value) (members_view members.old.entries)) }
+    ensures stays { OnErr result (IsUnchanged members.old members.new) }
     ensures ordered { IsOrdered string_cmp members.new }
 {
     members.insert(key, value)?;
@@ -30,6 +31,7 @@ pub fn set_member(
 ) -> Result<(), AllocError>
     ensures put { OnOk result (members_view members.new.entries
         ≡ put key.now (view value) (members_view members.old.entries)) }
+    ensures stays { OnErr result (IsUnchanged members.old members.new) }
     ensures ordered { OnOk result (IsOrdered string_cmp members.new) }
 {
     put_member(members, String::from_str(alloc, key)?, value)

@@ -107,8 +107,8 @@ fn forget(list: &mut Vec<u32>, k: usize)
     }
 }
 
-/// Takes a node out of the list of a reference, where it stands in that list: the last of several.
-/// The list is searched from its end.
+/// Takes a node out of the list of a reference, where it stands in that list. The list is searched
+/// from its end.
 pub fn unlist(references: &mut Vec<Reference>, number: usize, k: usize)
     ensures loses { LosesNode references.old.items references.new.items number k }
     ensures keeps { KeepsOtherNodes references.old.items references.new.items number k }

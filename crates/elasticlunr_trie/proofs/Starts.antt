@@ -1,11 +1,12 @@
 -- Tokens of which a beginning has been walked.
-use Rattle.std.proofs.Common.{◌≡◌, ℕ, suc, ◌+◌, ◌<◌, List, ◌∷◌, ◌++◌, map, length, take, drop, All, sym, ap, subst, ◌∙◌, arith}
+use Rattle.std.proofs.Common.{◌≡◌, ℕ, suc, ◌+◌, ◌<◌, Bor, List, [], ◌∷◌, ◌++◌, map, length, take, drop, All, sym, ap, subst, ◌∙◌, arith}
 use Rattle.std.specs.Prelude.{slice_index_or}
 use Rattle.std.specs.Str.{chars}
 use Rattle.std.proofs.Math.Seq.{drop-cons, take-append_seam}
-use Rattle.std.proofs.lemmas.List.{length-map}
+use Rattle.std.proofs.lemmas.List.{length-map, map-append, append_assoc}
+use Rattle.std.proofs.lemmas.List.Elements.{All-nil, All-push}
 use Rattle.elasticlunr_error.specs.Text.{Text, Bytes}
-use Rattle.elasticlunr_nodes.specs.Table.{Table, add, IsChanged, AreChanged, additions}
+use Rattle.elasticlunr_nodes.specs.Table.{Table, add, IsChanged, AreChanged, additions, told_tokens}
 use Rattle.elasticlunr_nodes.specs.Trie.{Step}
 use Rattle.elasticlunr_nodes.specs.Starts.{IsStart, KeepsPaths, told}
 use Rattle.elasticlunr_nodes.specs.declared.start.Start.{Start}
@@ -27,3 +28,20 @@ pub walked_on : (step : Step) (n : ℕ) (old new rest : List Start) (tokens : Li
 walked_on step n old new rest tokens count same are tell =
     let all = ap (λ m. take m (new ++ rest)) (sym count ∙ sym (length-map old told) ∙ ap length (sym same) ∙ length-map new told) ∙ take-append_seam new rest in
     (subst (All (IsStart step)) (sym all) are, ap (map told) all ∙ same ∙ tell)
+
+-- a start that tells a token comes behind those of the tokens before
+pub pushed : (step : Step) (old new : List Start) (s : Start) (tokens : List (Bor Bytes × ℕ)) (i : ℕ) (d : Bor Bytes × ℕ) → i < length tokens → new ≡ old ++ s ∷ [] → IsStart step s
+    → told s ≡ (chars (slice_index_or tokens i d).0.now, (slice_index_or tokens i d).1)
+    → All (IsStart step) old × (map told old ++ told_tokens (drop i tokens) ≡ told_tokens tokens) → All (IsStart step) new × (map told new ++ told_tokens (drop (i + 1) tokens) ≡ told_tokens tokens)
+pushed step old new s tokens i d lt items is tell before =
+    let next : suc i ≡ i + 1 = omega arith in
+    let rest = ap told_tokens (drop-cons tokens i d lt ∙ ap (λ n. slice_index_or tokens i d ∷ drop n tokens) next) in
+    let seam = ap (λ ss. map told ss ++ told_tokens (drop (i + 1) tokens)) items ∙ ap (λ ts. ts ++ told_tokens (drop (i + 1) tokens)) (map-append told old (s ∷ [])) ∙ append_assoc (map told old) (told s ∷ []) (told_tokens (drop (i + 1) tokens)) in
+    (
+      subst (All (IsStart step)) (sym items) (All-push (IsStart step) old s before.0 is),
+      seam ∙ ap (λ t. map told old ++ t ∷ told_tokens (drop (i + 1) tokens)) tell ∙ sym (ap (λ ts. map told old ++ ts) rest) ∙ before.1,
+    )
+
+-- before the first token there is no start
+pub none_yet : (step : Step) (starts : List Start) (tokens : List (Bor Bytes × ℕ)) → starts ≡ [] → All (IsStart step) starts × (map told starts ++ told_tokens tokens ≡ told_tokens tokens)
+none_yet step starts tokens none = (subst (All (IsStart step)) (sym none) (All-nil (IsStart step)), ap (λ ss. map told ss ++ told_tokens tokens) none)

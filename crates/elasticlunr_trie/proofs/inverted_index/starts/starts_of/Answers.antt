@@ -3,7 +3,7 @@ use Rattle.std.proofs.lemmas.List.{append-nil, drop_all}
 use Rattle.elasticlunr_nodes.specs.Starts.{told}
 use Rattle.elasticlunr_nodes.specs.Table.{told_tokens}
 use Rattle.elasticlunr_nodes.specs.Trie.{step_of}
-use Rattle.elasticlunr_trie.proofs.Starts.{walked_on}
+use Rattle.elasticlunr_trie.proofs.Starts.{walked_on, pushed, none_yet}
 use Rattle.elasticlunr_trie.proofs.inverted_index.starts.starts_of.Goals as goal
 
 pub loop-preserved : goal.loop-preserved
@@ -21,3 +21,10 @@ loop-init c = (
   sym (ap (λ rest. map told c.loop-token.starts.items ++ told_tokens rest) (drop_all c.loop-token.token-index c.args.tokens.now c.loop-token-test.false) ∙ append-nil (map told c.loop-token.starts.items))
       ∙ c.loop-token.invariant.1,
 )
+
+pub loop-token-preserved : goal.loop-token-preserved
+loop-token-preserved c =
+    pushed (step_of c.args.root.now c.args.nodes.now) c.loop-token.starts.items c.push.new.self.items c.new.result c.args.tokens.now c.loop-token.token-index _ c.loop-token-test.true c.in_ok-push.ensures.items (c.new.ensures.start _) c.new.ensures.told c.loop-token.invariant
+
+pub loop-token-init : goal.loop-token-init
+loop-token-init c = none_yet (step_of c.args.root.now c.args.nodes.now) c.in_ok-starts.starts.items c.args.tokens.now c.in_ok-starts.ensures.items

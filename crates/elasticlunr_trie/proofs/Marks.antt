@@ -1,6 +1,7 @@
 -- The marked nodes and their new numbers.
-use Rattle.std.proofs.Common.{◌≡◌, inl, inr, ℕ, zero, suc, ◌+◌, ◌<◌, ◌≤◌, Bool, true, false, cond, IsTrue, List, [], ◌∷◌, ◌++◌, length, get_or, unwrap_or, Some, refl, sym, ap, subst, ◌∙◌, arith, le_refl}
+use Rattle.std.proofs.Common.{◌≡◌, inl, inr, ℕ, zero, suc, ◌+◌, ◌<◌, ◌≤◌, Bool, true, false, cond, IsTrue, List, [], ◌∷◌, ◌++◌, length, take, get_or, unwrap_or, Some, refl, sym, ap, subst, ◌∙◌, arith, le_refl}
 use Rattle.std.specs.Prelude.{if◌then◌else◌}
+use Rattle.std.proofs.Math.Seq.{take-append_seam}
 use Rattle.std.proofs.lemmas.Bool.{cases_eq, cases_lt, eq-eqb}
 use Rattle.elasticlunr_nodes.specs.Pairs.{key_at, IsStrictlySorted}
 use Rattle.elasticlunr_trie.specs.Children.{Children, child}
@@ -140,3 +141,9 @@ child_place (x ∷ es) c k e = elim (cases_eq x.0 c) [
       (0, omega arith, (cc))
   | inr apart ↦ let later = child_place es c k (sym (skip_first x es c apart) ∙ e) in (suc later.0, omega (arith, later.1), later.2)
 ]
+
+-- marks of all nodes fill the vector that they are written back to
+pub whole_marks : (n i m : ℕ) (old now new rest : List Bool) → length now ≡ n → now ≡ old → length old ≡ i → m ≤ i → i ≤ m → length new ≡ m → take n (new ++ rest) ≡ new
+whole_marks n i m old now new rest len value count up down one_each =
+    let same : i ≡ m = omega arith in
+    ap (λ k. take k (new ++ rest)) (sym len ∙ ap length value ∙ count ∙ same ∙ sym one_each) ∙ take-append_seam new rest

@@ -36,8 +36,7 @@ pub pushed : (step : Step) (old new : List Start) (s : Start) (tokens : List (Bo
 pushed step old new s tokens i d lt items is tell before =
     let next : suc i ≡ i + 1 = omega arith in
     let rest = ap told_tokens (drop-cons tokens i d lt ∙ ap (λ n. slice_index_or tokens i d ∷ drop n tokens) next) in
-    let seam = ap (λ ss. map told ss ++ told_tokens (drop (i + 1) tokens)) items ∙ ap (λ ts. ts ++ told_tokens (drop (i + 1) tokens)) (map-append told old (s ∷ [])) ∙ append_assoc (map told old) (told s ∷ []) (told_tokens (drop (i + 1) tokens)) in
-    (
+    let seam = ap (λ ss. map told ss ++ told_tokens (drop (i + 1) tokens)) items ∙ ap (λ ts. ts ++ told_tokens (drop (i + 1) tokens)) (map-append told old (s ∷ [])) ∙ append_assoc (map told old) (told s ∷ []) (told_tokens (drop (i + 1) tokens)) in (
       subst (All (IsStart step)) (sym items) (All-push (IsStart step) old s before.0 is),
       seam ∙ ap (λ t. map told old ++ t ∷ told_tokens (drop (i + 1) tokens)) tell ∙ sym (ap (λ ts. map told old ++ ts) rest) ∙ before.1,
     )

@@ -23,7 +23,7 @@ from concurrent.futures import FIRST_COMPLETED, ThreadPoolExecutor, wait
 import room
 
 LOGS = os.path.join(room.TOP, "out")
-FIRST = {"elasticlunr_index": "10 to 21 minutes on four cores, by how fast they are"}  # what a build from nothing takes
+FIRST = {"elasticlunr_index": "10 to 22 minutes on four cores, by how fast they are"}  # what a build from nothing takes
 GIGABYTES_OF_JOB = 2  # that a job of a check was seen to take
 SHOWN = 40  # lines of the log that are shown where a crate isn't proved
 BUILT = (b"\nlogic=proved ", b"nothing has changed since the last proved build")  # what rt says of a program

@@ -7,7 +7,7 @@ FOLDER is what a check with one job kept while it proved the crate from nothing:
 after `rm -rf crates/NAME/out/incremental` and `rt check --jobs 1` in the crate's folder. Each file of it
 took the time since the one before it was written. Of a function, `Lts` are the steps of its body, which grow
 faster than the body does, by its exits and by what is alive at each; `Proof` is what was left to the search.
-The COUNT costliest are shown, 20 when absent.
+A small file right after large steps may have the end of them. The COUNT costliest are shown, 20 when absent.
 """
 import collections
 import os

@@ -36,8 +36,8 @@ calls:
 demo: build
 	@python3 bench/browser_demo.py $(PORT)
 
-# `rt ci` (proves every crate from nothing, tries the wrong bodies, runs the tests and the programs), then the checks of
-# bench/ on the built programs.
+# `rt ci` (proves every crate from nothing, tries the wrong bodies, runs the tests and the programs) and, beside it, the
+# checks of bench/ on the programs that it built.
 test:
 	@bench/test.sh
 

@@ -1,22 +1,28 @@
 #!/usr/bin/env python3
-"""Runs `rt ci` and says how it gets on: a line for each crate as it is proved, with the seconds since the beginning.
+"""Runs `rt ci` and, as soon as its programs stand, the checks of bench/ beside it, and says how both get on.
 
 usage: gate.py LOG
 
-`rt ci` keeps beside the kit what it passed on this machine: it does not prove again what an earlier run
-proved of the very same files, nor try such a wrong body again. A crate of which that is so has a line
-that says so. Tests and programs are run each time.
+A crate has a line as it is proved, with the seconds since the beginning. `rt ci` keeps beside the kit
+what it passed on this machine: it does not prove again what an earlier run proved of the very same
+files, nor try such a wrong body again. A crate of which that is so has a line that says so. Tests and
+programs are run each time.
 
 All that `rt ci` says goes to the log. What it says of a crate that is not proved, of an edit that was
-not refused or of a test that failed is shown, too. The last line counts as that of `rt ci` does.
+not refused or of a test that failed is shown, too; then the checks count for nothing, and are ended.
+What they say (checks.py) is shown as it comes, and follows in the log.
 """
 import os
 import re
 import shutil
+import signal
 import subprocess
 import sys
 import time
 
+BENCH = os.path.dirname(os.path.abspath(__file__))
+CRATES = os.path.join(os.path.dirname(BENCH), "crates")
+WHOLE = 5  # seconds after which a program that is written into its place is there as a whole
 GIGABYTES_OF_ONE = 6  # that the greatest check was seen to take, and each one beside it
 GIGABYTES_OF_NEXT = 4
 GOOD = re.compile(r"rt: \w+(: its tests( are)?)? (proved|passed)$")
@@ -36,6 +42,49 @@ def environment():
     return {**os.environ, "RT_JOBS": str(processors)} if fits and "RT_JOBS" not in os.environ else dict(os.environ)
 
 
+def programs():
+    """What `rt ci` builds and a check runs: each program, and the test that makes single calls."""
+    for crate in sorted(os.listdir(CRATES)):
+        if os.path.isfile(os.path.join(CRATES, crate, "src", "main.rt")):
+            yield os.path.join(CRATES, crate, "out", crate)
+    yield os.path.join(CRATES, "elasticlunr_calls", "out", "elasticlunr_calls_tests")
+
+
+class Checks:
+    """The checks of bench/, which begin once all programs stand that this run built, or took from an earlier one."""
+
+    def __init__(self, log):
+        self.log = log
+        self.own = os.path.join(os.path.dirname(log), "checks.log")
+        self.since = time.time()
+        self.running = None
+
+    def begin(self, is_sure=False):
+        if not self.running and (is_sure or all(map(self.stands, programs()))):
+            open(self.own, "w", encoding="utf-8").close()
+            command = [sys.executable, os.path.join(BENCH, "checks.py"), self.own]
+            self.running = subprocess.Popen(command, start_new_session=True)
+
+    def stands(self, path):
+        try:
+            return self.since < os.path.getmtime(path) < time.time() - WHOLE
+        except OSError:
+            return False
+
+    def end(self):
+        """Their status; what they said goes to the log."""
+        self.begin(is_sure=True)
+        status = self.running.wait()
+        with open(self.own, encoding="utf-8") as said, open(self.log, "a", encoding="utf-8") as log:
+            log.write(said.read())
+        return status
+
+    def drop(self):
+        if self.running:
+            os.killpg(self.running.pid, signal.SIGKILL)
+            self.running.wait()
+
+
 def main():
     if not shutil.which("rt"):
         print("gate.py: there is no rt on the path: the Rattle kit has it")
@@ -44,13 +93,15 @@ def main():
     refused = earlier = 0
     said = []  # of the crate that is being told of, till it is known whether it is proved
     last = ""
+    checks = Checks(sys.argv[1])
     with open(sys.argv[1], "a", encoding="utf-8") as log:
         gate = subprocess.Popen(
-            ["rt", "ci"], env=environment(), stdout=subprocess.PIPE, stderr=subprocess.STDOUT, text=True, errors="replace"
+            ["nice", "-n", "5", "rt", "ci"], env=environment(), stdout=subprocess.PIPE, stderr=subprocess.STDOUT, text=True, errors="replace"
         )
         for line in gate.stdout:
             log.write(line)
             log.flush()
+            checks.begin()
             line = last = line.rstrip("\n")
             seconds = f"({time.monotonic() - begun:.0f} s)"
             refused += bool(REFUSED.match(line))
@@ -71,10 +122,11 @@ def main():
         print(f"  {refused} wrong bodies refused" + (f", {earlier} of them in an earlier run" if earlier else ""))
     status = gate.wait()
     if status:
+        checks.drop()
         print("\n".join(said[-30:]))
-    else:
-        print(last)
-    return status
+        return status
+    print(last, flush=True)
+    return checks.end()
 
 
 if __name__ == "__main__":

@@ -6,17 +6,22 @@ use std::alloc::{AllocError, Global};
 /// The command and its sub-commands.
 pub(crate) fn command_line<'a>(alloc: Global) -> Result<Command<'a>, AllocError> {
     let languages = "Lists the languages: name, code and the stages of each";
-    Command::new(alloc, "elasticlunr")
-        .bin_name("elasticlunr")?
-        .version("3.0.2")
-        .about("Builds search indexes for elasticlunr.js, checks documents and searches")
-        .subcommand_required(true)
-        .arg_required_else_help(true)
-        .disable_help_subcommand(true)
+    bare_command(alloc)?
         .subcommand(build_words(alloc)?)?
         .subcommand(check_words(alloc)?)?
         .subcommand(search_words(alloc)?)?
         .subcommand(Command::new(alloc, "languages").about(languages))
+}
+
+/// The command without its sub-commands.
+fn bare_command<'a>(alloc: Global) -> Result<Command<'a>, AllocError> {
+    let command = Command::new(alloc, "elasticlunr")
+        .version("3.0.2")
+        .about("Builds search indexes for elasticlunr.js, checks documents and searches")
+        .subcommand_required(true)
+        .arg_required_else_help(true)
+        .disable_help_subcommand(true);
+    command.bin_name("elasticlunr")
 }
 
 /// `build`: what `check` takes, and what is done with the index.
@@ -25,16 +30,13 @@ fn build_words<'a>(alloc: Global) -> Result<Command<'a>, AllocError> {
     let output = "Writes the index there, whole or not at all";
     let script = "Writes this text before the index and `;` after it";
     let pretty = "Prints the index with a line for each member";
-    let words = vec![in alloc;
+    let arguments = vec![in alloc;
         option(alloc, "output", "FILE", output).short('o'),
         flag(alloc, "no-save", "Keeps no texts of documents in the index"),
         flag(alloc, "pretty", pretty),
         option(alloc, "js", "TEXT", script),
     ]?;
-    with_words(
-        input_words(alloc, Command::new(alloc, "build").about(about))?,
-        words,
-    )
+    input_words(alloc, Command::new(alloc, "build").about(about))?.args(arguments)
 }
 
 /// `check`: the input and how it is read.
@@ -54,7 +56,7 @@ fn input_words<'a>(alloc: Global, command: Command<'a>) -> Result<Command<'a>, A
     let fields = "The fields, with a comma between them";
     let language = "A name or a code of `elasticlunr languages`";
     let progress = "Says when the input is read and its index made";
-    let words = vec![in alloc;
+    let arguments = vec![in alloc;
         Arg::new(alloc, "file").value_name("FILE").help(file),
         option(alloc, "format", "FORM", format).value_parser(forms),
         option(alloc, "ref", "KEY", reference),
@@ -63,34 +65,23 @@ fn input_words<'a>(alloc: Global, command: Command<'a>) -> Result<Command<'a>, A
         flag(alloc, "strict", "Refuses what there is a warning of"),
         flag(alloc, "progress", progress),
     ]?;
-    with_words(command, words)
+    command.args(arguments)
 }
 
 /// `search`: an index, a query, and how its words are joined.
 fn search_words<'a>(alloc: Global) -> Result<Command<'a>, AllocError> {
     let about = "Prints the references that a query finds in an index, one a line";
-    let words = vec![in alloc;
-        needed(alloc, "index", "INDEX", "The file of a printed index"),
-        needed(alloc, "query", "QUERY", "The words to find"),
+    let arguments = vec![in alloc;
+        required(alloc, "index", "INDEX", "The file of a printed index"),
+        required(alloc, "query", "QUERY", "The words to find"),
         option(alloc, "field", "FIELD", "Finds in this field alone"),
         flag(alloc, "all", "Finds what has every word, and not any"),
     ]?;
-    with_words(Command::new(alloc, "search").about(about), words)
+    Command::new(alloc, "search").about(about).args(arguments)
 }
 
-/// A command that takes these words, too.
-fn with_words<'a>(
-    mut command: Command<'a>,
-    words: Vec<Arg<'a>>,
-) -> Result<Command<'a>, AllocError> {
-    for word in words {
-        command = command.arg(word)?;
-    }
-    Ok(command)
-}
-
-/// A word that has to be there.
-fn needed<'a>(alloc: Global, name: &'a str, value: &'a str, help: &'a str) -> Arg<'a> {
+/// An argument that has to be there.
+fn required<'a>(alloc: Global, name: &'a str, value: &'a str, help: &'a str) -> Arg<'a> {
     Arg::new(alloc, name)
         .value_name(value)
         .required(true)

@@ -18,6 +18,7 @@ import shutil
 import signal
 import subprocess
 import sys
+import threading
 import time
 
 BENCH = os.path.dirname(os.path.abspath(__file__))
@@ -50,20 +51,31 @@ def programs():
     yield os.path.join(CRATES, "elasticlunr_calls", "out", "elasticlunr_calls_tests")
 
 
-class Checks:
+class Checks(threading.Thread):
     """The checks of bench/, which begin once all programs stand that this run built, or took from an earlier one."""
 
     def __init__(self, log):
+        super().__init__(daemon=True)
         self.log = log
         self.own = os.path.join(os.path.dirname(log), "checks.log")
         self.since = time.time()
+        self.gate_ended = threading.Event()
+        self.turn = threading.Lock()
+        self.is_dropped = False
         self.running = None
+        self.status = 1
+        self.start()
 
-    def begin(self, is_sure=False):
-        if not self.running and (is_sure or all(map(self.stands, programs()))):
+    def run(self):
+        while not self.gate_ended.wait(WHOLE) and not all(map(self.stands, programs())):
+            pass
+        with self.turn:
+            if self.is_dropped:
+                return
             open(self.own, "w", encoding="utf-8").close()
             command = [sys.executable, os.path.join(BENCH, "checks.py"), self.own]
             self.running = subprocess.Popen(command, start_new_session=True)
+        self.status = self.running.wait()
 
     def stands(self, path):
         try:
@@ -73,16 +85,19 @@ class Checks:
 
     def end(self):
         """Their status; what they said goes to the log."""
-        self.begin(is_sure=True)
-        status = self.running.wait()
+        self.gate_ended.set()
+        self.join()
         with open(self.own, encoding="utf-8") as said, open(self.log, "a", encoding="utf-8") as log:
             log.write(said.read())
-        return status
+        return self.status
 
     def drop(self):
-        if self.running:
-            os.killpg(self.running.pid, signal.SIGKILL)
-            self.running.wait()
+        with self.turn:
+            self.is_dropped = True
+            if self.running:
+                os.killpg(self.running.pid, signal.SIGKILL)
+        self.gate_ended.set()
+        self.join()
 
 
 def main():
@@ -101,7 +116,6 @@ def main():
         for line in gate.stdout:
             log.write(line)
             log.flush()
-            checks.begin()
             line = last = line.rstrip("\n")
             seconds = f"({time.monotonic() - begun:.0f} s)"
             refused += bool(REFUSED.match(line))

@@ -1,9 +1,9 @@
 -- Which error an answer is, and whether there are contents.
-use Rattle.std.proofs.Common.{◌≡◌, ◌↔◌, ◌⊎◌, ◌<◌, ◌≤◌, ℕ, Bool, false, List, length, String, Global, string_bytes, Option, Some, None, IfSome, Result, Ok, Err, inl, inr, refl, sym, ap, subst, ◌∙◌, true≢false, arith}
-use Rattle.std.proofs.lemmas.List.{length-map}
+use Rattle.std.proofs.Common.{◌≡◌, ◌↔◌, ◌⊎◌, ◌<◌, ◌≤◌, ◌+◌, ℕ, Bool, true, false, List, [], ◌∷◌, ◌++◌, length, String, Global, string_bytes, Option, Some, None, IfSome, Result, Ok, Err, inr, refl, sym, ap, subst, ◌∙◌, true≢false, arith}
+use Rattle.std.proofs.lemmas.List.{length-append, length-map}
 use Rattle.elasticlunr_history.specs.Fields.{has_name}
 use Rattle.elasticlunr_text.specs.Text.{bytes_of}
-use Rattle.std.specs.Prelude.{IsNone, IsTrue, OnOk, IfOk, IfErr}
+use Rattle.std.specs.Prelude.{IsNone, IsTrue, OnOk, IfOk, IfErr, IsErrAnd}
 use Rattle.elasticlunr_text.specs.IndexError.{IndexError}
 use Rattle.elasticlunr_text.specs.IndexError.TheVariants.{DuplicateField, Failed, Memory, TooManyValues}
 
@@ -54,8 +54,34 @@ name_is field given names found is same told answer = ap (λ xs. has_name field 
 pub memory_duplicate : {T : Type 0} (r : Result T IndexError) (there : Bool) → r ≡ Err Memory → there ≡ false → (r ≡ Err DuplicateField) ↔ IsTrue there
 memory_duplicate r there memory absent = (λ twice. absurd (cc (memory, twice)), λ is. absurd (cc (absent, is)))
 
-pub memory_if_ok : {T : Type 0} (r : Result T IndexError) (Q : T → Type 0) → r ≡ Err Memory → IfOk r Q
-memory_if_ok r Q memory = rw memory tt
-
 pub memory_or_duplicate : {T : Type 0} (r : Result T IndexError) → r ≡ Err Memory → IfErr r (λ e. (e ≡ DuplicateField) ⊎ (e ≡ Memory))
 memory_or_duplicate r memory = rw memory (inr refl)
+
+-- an error, as it is passed on
+pub passed_on : {T : Type 0} (r : Result T IndexError) (e : IndexError) → IsErrAnd r (λ x. x ≡ e) → r ≡ Err e
+passed_on (Ok x) e is = absurd is
+passed_on (Err x) e is = ap Err is
+
+-- what was refused there is refused here
+pub refused_duplicate : {T U : Type 0} (r : Result T IndexError) (from : Result U IndexError) (e : IndexError) (there : Bool) → r ≡ Err e → from ≡ Err e → (from ≡ Err DuplicateField) ↔ IsTrue there → (r ≡ Err DuplicateField) ↔ IsTrue there
+refused_duplicate r from e there is was duplicate = (
+  λ twice. let same : e ≡ DuplicateField = cc (is, twice) in duplicate.0 (was ∙ ap Err same),
+  λ h. let again = duplicate.1 h in let same : e ≡ DuplicateField = cc (was, again) in is ∙ ap Err same,
+)
+
+pub refused_errors : {T : Type 0} (r : Result T IndexError) (e : IndexError) → r ≡ Err e → (e ≡ DuplicateField) ⊎ (e ≡ Memory) → IfErr r (λ x. (x ≡ DuplicateField) ⊎ (x ≡ Memory))
+refused_errors r e is one = rw is one
+
+pub refused_ok : {T : Type 0} (r : Result T IndexError) (e : IndexError) (Q : T → Type 0) → r ≡ Err e → IfOk r Q
+refused_ok r e Q is = rw is tt
+
+-- a name that was taken was not there
+pub was_absent : {T : Type 0} (r : Result T IndexError) (x : T) (there : Bool) → r ≡ Ok x → (r ≡ Err DuplicateField) ↔ IsTrue there → there ≡ false
+was_absent r x true is duplicate = let twice = duplicate.1 refl in absurd (cc (is, twice))
+was_absent r x false is duplicate = refl
+
+-- one more of each
+pub one_each_more : {T : Type 0} (names more : List (String Global)) (name : List ℕ) (tokenizers also : List T) (tokenizer : T) → bytes_of more ≡ bytes_of names ++ name ∷ [] → also ≡ tokenizers ++ tokenizer ∷ []
+    → length tokenizers ≡ length names → length also ≡ length more
+one_each_more names more name tokenizers also tokenizer is are many =
+    ap length are ∙ length-append tokenizers (tokenizer ∷ []) ∙ ap (λ n. n + 1) (many ∙ sym (length-map names string_bytes)) ∙ sym (length-append (bytes_of names) (name ∷ [])) ∙ sym (ap length is) ∙ length-map more string_bytes

@@ -1,7 +1,7 @@
 #!/usr/bin/env python3
 """Proves and builds a program of the repository, from the bottom up, and says how it gets on.
 
-usage: build.py [--check | --proved] NAME
+usage: build.py [--check] NAME
 
 Each crate is proved once those that it stands on are; crates that don't stand on one another are
 proved side by side, and that on which most has still to be built goes first: it gets all processors,
@@ -9,8 +9,7 @@ and the others what it leaves of them. What `rt` says goes to out/build-CRATE.lo
 where a crate isn't proved. A crate has a line, with its seconds, once it is.
 Where nothing has changed since the last build there is nothing to do and nothing is said.
 
---check does nothing, and its status says whether there is nothing to do. --proved notes that the
-program that stands there was built from the sources as they are: the gate has just done so.
+--check does nothing, and its status says whether there is nothing to do.
 """
 import hashlib
 import os
@@ -61,6 +60,7 @@ def is_built(name):
 
 
 def note_built(name):
+    """Notes that the program that stands there was built, and proved, from the sources as they are."""
     with open(os.path.join(folder(name), "out", "sources"), "w", encoding="ascii") as file:
         file.write(sum_of(name))
 
@@ -174,9 +174,6 @@ def failed(crate, log):
 
 def main():
     name = sys.argv[-1]
-    if "--proved" in sys.argv:
-        note_built(name)
-        return 0
     if is_built(name):
         return 0
     if "--check" in sys.argv:

@@ -21,6 +21,8 @@ import sys
 import threading
 import time
 
+import build
+
 BENCH = os.path.dirname(os.path.abspath(__file__))
 CRATES = os.path.join(os.path.dirname(BENCH), "crates")
 WHOLE = 5  # seconds after which a program that is written into its place is there as a whole
@@ -43,12 +45,21 @@ def environment():
     return {**os.environ, "RT_JOBS": str(processors)} if fits and "RT_JOBS" not in os.environ else dict(os.environ)
 
 
+def names_of_programs():
+    return [it for it in sorted(os.listdir(CRATES)) if os.path.isfile(os.path.join(CRATES, it, "src", "main.rt"))]
+
+
 def programs():
     """What `rt ci` builds and a check runs: each program, and the test that makes single calls."""
-    for crate in sorted(os.listdir(CRATES)):
-        if os.path.isfile(os.path.join(CRATES, crate, "src", "main.rt")):
-            yield os.path.join(CRATES, crate, "out", crate)
-    yield os.path.join(CRATES, "elasticlunr_calls", "out", "elasticlunr_calls_tests")
+    built = [(it, it) for it in names_of_programs()] + [("elasticlunr_calls", "elasticlunr_calls_tests")]
+    return [os.path.join(CRATES, crate, "out", program) for crate, program in built]
+
+
+def note_programs():
+    """Notes that the programs that stand are built and proved: a `make run` of a check has nothing to do then."""
+    for name in names_of_programs():
+        if os.path.isfile(os.path.join(CRATES, name, "out", name)):
+            build.note_built(name)
 
 
 class Checks(threading.Thread):
@@ -72,6 +83,7 @@ class Checks(threading.Thread):
         with self.turn:
             if self.is_dropped:
                 return
+            note_programs()
             open(self.own, "w", encoding="utf-8").close()
             command = [sys.executable, os.path.join(BENCH, "checks.py"), self.own]
             self.running = subprocess.Popen(command, start_new_session=True)

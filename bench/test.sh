@@ -11,12 +11,6 @@ echo "From nothing this takes 40 to 90 minutes on four cores, by how fast they a
 echo "of the same files, is not proved again. All that is said goes to $log."
 python3 bench/gate.py "$log"
 status=$?
-if [ "$status" -eq 0 ]; then
-    # the gate leaves the programs that it proved and built
-    for main in crates/*/src/main.rt; do
-        python3 bench/build.py --proved "$(basename "${main%/src/main.rt}")"
-    done
-fi
 awk '/^([a-z]+: )?[0-9]+ passed, [0-9]+ failed(, [0-9]+ skipped)?$/ {
          n = /skipped$/ ? NF - 5 : NF - 3; passed += $n; failed += $(n + 2); if (n == NF - 5) skipped += $(n + 4) }
      END { printf "%d passed, %d failed", passed, failed; if (skipped) printf ", %d skipped", skipped; print "" }' "$log"

@@ -4,8 +4,10 @@
 usage: costs.py FOLDER [COUNT]
 
 FOLDER is what a check with one job kept while it proved the crate from nothing: crates/NAME/out/incremental
-after `rm -rf crates/NAME/out/incremental` and `rt check --jobs 1` in the crate's folder. Each file of it
-took the time since the one before it was written. Of a function, `Lts` are the steps of its body, which grow
+after `rm -rf out/incremental; mkdir out/incremental` and `rt check --jobs 1` in the crate's folder. Where there
+is no such folder, or another copy on the machine proved the same text since, `rt` takes what that one kept:
+a comment at the end of a file makes another text of it. Each file took the time since the one before it was
+written, reading what it stands on included: so what is read for the first time counts for who needs it first. Of a function, `Lts` are the steps of its body, which grow
 faster than the body does, by its exits and by what is alive at each; `Proof` is what was left to the search.
 A small file right after large steps may have the end of them. The COUNT costliest are shown, 20 when absent.
 """

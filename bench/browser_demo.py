@@ -30,7 +30,7 @@ def fetched():
     path = os.path.join(OUT, "elasticlunr.min.js")
     fetch = subprocess.run([os.path.join(TOP, "bench/fetch_elasticlunr.sh"), OUT], stdout=subprocess.DEVNULL)
     if fetch.returncode != 0 or not os.path.exists(path):
-        sys.exit(f"elasticlunr.min.js 0.9.5 could not be fetched: put it at {os.path.relpath(path, TOP)} (http://elasticlunr.com has it)")
+        sys.exit(f"elasticlunr.min.js 0.9.5 could not be fetched: put a copy with the sum of bench/fetch_elasticlunr.sh at {os.path.relpath(path, TOP)}")
     return path
 
 

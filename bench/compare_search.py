@@ -18,6 +18,7 @@ import json
 import os
 import random
 import re
+import shutil
 import subprocess
 import sys
 import tempfile
@@ -116,7 +117,7 @@ def main():
     parser.add_argument("--folder", default=None)
     options = parser.parse_args()
     library = os.path.join(options.folder or browser_tools.FETCHED, "elasticlunr.min.js")
-    if not os.path.exists(library):
+    if not os.path.exists(library) or not shutil.which("node"):
         lacking = browser_tools.prepare() & {"node", "elasticlunr.min.js"}
         if lacking:
             print(f"search: skipped, without {' and '.join(sorted(lacking))}")

@@ -119,7 +119,7 @@ def speed_jobs():
     """
     english = large_job(2000)
     yield "English, 2,000 documents", english, True, []
-    yield "the same in German, which has no stemmer here", dict(english, lang="German"), True, []
+    yield "the same in German, without a stemmer in either", dict(english, lang="German"), True, []
     yield "1,000 documents", large_job(1000), True, []
     large = large_job(16000)
     yield "every sixteenth of the 16,000 documents", dict(large, docs=large["docs"][::16]), False, []

@@ -46,17 +46,6 @@ few_enough fields n values is most more = omega (arith, length-map fields string
 pub too_many_for : (fields : List (String Global)) (n : ℕ) (values : ℕ) → length fields ≡ n → n < values → length (bytes_of fields) < values
 too_many_for fields n values is more = omega (arith, length-map fields string_bytes, is, more)
 
--- whether a name is there, as a test has found
-pub name_is : (field : List ℕ) (given names : List (String Global)) (found is : Bool) → given ≡ names → found ≡ has_name field (bytes_of given) → found ≡ is → has_name field (bytes_of names) ≡ is
-name_is field given names found is same told answer = ap (λ xs. has_name field (bytes_of xs)) (sym same) ∙ sym told ∙ answer
-
--- nor is a name there twice
-pub memory_duplicate : {T : Type 0} (r : Result T IndexError) (there : Bool) → r ≡ Err Memory → there ≡ false → (r ≡ Err DuplicateField) ↔ IsTrue there
-memory_duplicate r there memory absent = (λ twice. absurd (cc (memory, twice)), λ is. absurd (cc (absent, is)))
-
-pub memory_or_duplicate : {T : Type 0} (r : Result T IndexError) → r ≡ Err Memory → IfErr r (λ e. (e ≡ DuplicateField) ⊎ (e ≡ Memory))
-memory_or_duplicate r memory = rw memory (inr refl)
-
 -- an error, as it is passed on
 pub passed_on : {T : Type 0} (r : Result T IndexError) (e : IndexError) → IsErrAnd r (λ x. x ≡ e) → r ≡ Err e
 passed_on (Ok x) e is = absurd is

@@ -1,14 +1,9 @@
 -- Lists of names.
 use Rattle.std.proofs.Common.{◌≡◌, ◌<◌, ℕ, zero, suc, List, [], ◌∷◌, ◌++◌, length, arith, Some, option_map, map, Bool, true, false, not, ◌&&◌, ◌||◌, true≢false, String, Global, string_bytes, bytes_eq, refl, sym, ap, ◌∙◌}
-use Rattle.std.specs.List.{list_any, slice_get}
+use Rattle.std.specs.List.{slice_get}
 use Rattle.std.proofs.lemmas.Slice.Eq.{bytes_eq-Decides}
 use Rattle.elasticlunr_error.specs.Text.{Bytes}
 use Rattle.elasticlunr_history.specs.Fields.{has_name, all_differ}
-
--- the names of strings
-pub has_name-map : (names : List (String Global)) (name : Bytes) → list_any (λ s. bytes_eq (string_bytes s) name) names ≡ has_name name (map string_bytes names)
-has_name-map [] name = refl
-has_name-map (s ∷ names) name = ap (λ b. bytes_eq (string_bytes s) name || b) (has_name-map names name)
 
 -- the test goes both ways
 pub turned : (x y : Bytes) (b : Bool) → bytes_eq x y ≡ b → bytes_eq y x ≡ b
@@ -48,12 +43,6 @@ all_differ-push (first ∷ names) name differ none =
 pub names_push : (strings : List (String Global)) (s : String Global) (name : Bytes) → string_bytes s ≡ name → map string_bytes (strings ++ s ∷ []) ≡ map string_bytes strings ++ name ∷ []
 names_push [] s name e = ap (λ n. n ∷ []) e
 names_push (t ∷ strings) s name e = ap (λ ns. string_bytes t ∷ ns) (names_push strings s name e)
-
--- strings whose names differ, and one of another name after them
-pub distinct_push : (strings more : List (String Global)) (s : String Global) (name : Bytes) → more ≡ strings ++ s ∷ [] → string_bytes s ≡ name
-    → all_differ (map string_bytes strings) ≡ true → has_name name (map string_bytes strings) ≡ false → all_differ (map string_bytes more) ≡ true
-distinct_push strings more s name are is differ none =
-    ap (λ these. all_differ (map string_bytes these)) are ∙ ap all_differ (names_push strings s name is) ∙ all_differ-push (map string_bytes strings) name differ none
 
 -- a name is found within the list
 pub within : (strings : List (String Global)) (k : ℕ) (name : Bytes) → option_map string_bytes (slice_get strings k) ≡ Some name → k < length strings

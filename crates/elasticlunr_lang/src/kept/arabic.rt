@@ -1,12 +1,8 @@
 //! Arabic.
-ghost use Rattle.elasticlunr_lang.specs.Words.{words};
-ghost use Rattle.elasticlunr_lang.specs.Known.{language_name, language_code, language_stages, language_leaves};
-ghost use Rattle.elasticlunr_lang.specs.declared.any.AnyLanguage.TheVariants.{Arabic as arabic};
+ghost use Rattle.elasticlunr_lang.specs.declared.any.AnyLanguage.{AnyLanguage};
 
 use crate::any::AnyLanguage;
-use crate::language::Language;
-use elasticlunr_text::pipeline::Pipeline;
-use std::alloc::{AllocError, Global};
+use crate::kept_language::KeptLanguage;
 
 /// Arabic: a stemmer alone.
 #[derive(Clone, Copy)]
@@ -19,30 +15,8 @@ impl Arabic {
     }
 }
 
-impl Language for Arabic {
-    ghost name_of = { λ _. language_name arabic };
+impl KeptLanguage for Arabic {
+    ghost LANGUAGE = { AnyLanguage.Arabic };
 
-    ghost code_of = { λ _. language_code arabic };
-
-    ghost tokens_of = { λ _. words };
-
-    ghost stages_of = { λ _. language_stages arabic };
-
-    ghost leaves_of = { λ _. language_leaves arabic };
-
-    fn name(&self, alloc: Global) -> Result<String, AllocError> {
-        AnyLanguage::Arabic.name(alloc)
-    }
-
-    fn code(&self, alloc: Global) -> Result<String, AllocError> {
-        AnyLanguage::Arabic.code(alloc)
-    }
-
-    fn tokenize(&self, alloc: Global, text: &str) -> Result<Vec<String>, AllocError> {
-        AnyLanguage::Arabic.tokenize(alloc, text)
-    }
-
-    fn make_pipeline(&self, alloc: Global, empty: Pipeline) -> Result<Pipeline, AllocError> {
-        AnyLanguage::Arabic.make_pipeline(alloc, empty)
-    }
+    const LANGUAGE: AnyLanguage = AnyLanguage::Arabic;
 }

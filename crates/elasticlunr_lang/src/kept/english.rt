@@ -1,12 +1,8 @@
 //! English.
-ghost use Rattle.elasticlunr_lang.specs.Words.{words};
-ghost use Rattle.elasticlunr_lang.specs.Known.{language_name, language_code, language_stages, language_leaves};
-ghost use Rattle.elasticlunr_lang.specs.declared.any.AnyLanguage.TheVariants.{English as english};
+ghost use Rattle.elasticlunr_lang.specs.declared.any.AnyLanguage.{AnyLanguage};
 
 use crate::any::AnyLanguage;
-use crate::language::Language;
-use elasticlunr_text::pipeline::Pipeline;
-use std::alloc::{AllocError, Global};
+use crate::kept_language::KeptLanguage;
 
 /// English: trimmer, stop words, stemmer.
 #[derive(Clone, Copy)]
@@ -19,30 +15,8 @@ impl English {
     }
 }
 
-impl Language for English {
-    ghost name_of = { λ _. language_name english };
+impl KeptLanguage for English {
+    ghost LANGUAGE = { AnyLanguage.English };
 
-    ghost code_of = { λ _. language_code english };
-
-    ghost tokens_of = { λ _. words };
-
-    ghost stages_of = { λ _. language_stages english };
-
-    ghost leaves_of = { λ _. language_leaves english };
-
-    fn name(&self, alloc: Global) -> Result<String, AllocError> {
-        AnyLanguage::English.name(alloc)
-    }
-
-    fn code(&self, alloc: Global) -> Result<String, AllocError> {
-        AnyLanguage::English.code(alloc)
-    }
-
-    fn tokenize(&self, alloc: Global, text: &str) -> Result<Vec<String>, AllocError> {
-        AnyLanguage::English.tokenize(alloc, text)
-    }
-
-    fn make_pipeline(&self, alloc: Global, empty: Pipeline) -> Result<Pipeline, AllocError> {
-        AnyLanguage::English.make_pipeline(alloc, empty)
-    }
+    const LANGUAGE: AnyLanguage = AnyLanguage::English;
 }

@@ -1,12 +1,8 @@
 //! Finnish.
-ghost use Rattle.elasticlunr_lang.specs.Words.{words};
-ghost use Rattle.elasticlunr_lang.specs.Known.{language_name, language_code, language_stages, language_leaves};
-ghost use Rattle.elasticlunr_lang.specs.declared.any.AnyLanguage.TheVariants.{Finnish as finnish};
+ghost use Rattle.elasticlunr_lang.specs.declared.any.AnyLanguage.{AnyLanguage};
 
 use crate::any::AnyLanguage;
-use crate::language::Language;
-use elasticlunr_text::pipeline::Pipeline;
-use std::alloc::{AllocError, Global};
+use crate::kept_language::KeptLanguage;
 
 /// Finnish: a trimmer of the characters of the Latin script, and stop words.
 #[derive(Clone, Copy)]
@@ -19,30 +15,8 @@ impl Finnish {
     }
 }
 
-impl Language for Finnish {
-    ghost name_of = { λ _. language_name finnish };
+impl KeptLanguage for Finnish {
+    ghost LANGUAGE = { AnyLanguage.Finnish };
 
-    ghost code_of = { λ _. language_code finnish };
-
-    ghost tokens_of = { λ _. words };
-
-    ghost stages_of = { λ _. language_stages finnish };
-
-    ghost leaves_of = { λ _. language_leaves finnish };
-
-    fn name(&self, alloc: Global) -> Result<String, AllocError> {
-        AnyLanguage::Finnish.name(alloc)
-    }
-
-    fn code(&self, alloc: Global) -> Result<String, AllocError> {
-        AnyLanguage::Finnish.code(alloc)
-    }
-
-    fn tokenize(&self, alloc: Global, text: &str) -> Result<Vec<String>, AllocError> {
-        AnyLanguage::Finnish.tokenize(alloc, text)
-    }
-
-    fn make_pipeline(&self, alloc: Global, empty: Pipeline) -> Result<Pipeline, AllocError> {
-        AnyLanguage::Finnish.make_pipeline(alloc, empty)
-    }
+    const LANGUAGE: AnyLanguage = AnyLanguage::Finnish;
 }

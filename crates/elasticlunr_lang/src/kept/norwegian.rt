@@ -1,12 +1,8 @@
 //! Norwegian.
-ghost use Rattle.elasticlunr_lang.specs.Words.{words};
-ghost use Rattle.elasticlunr_lang.specs.Known.{language_name, language_code, language_stages, language_leaves};
-ghost use Rattle.elasticlunr_lang.specs.declared.any.AnyLanguage.TheVariants.{Norwegian as norwegian};
+ghost use Rattle.elasticlunr_lang.specs.declared.any.AnyLanguage.{AnyLanguage};
 
 use crate::any::AnyLanguage;
-use crate::language::Language;
-use elasticlunr_text::pipeline::Pipeline;
-use std::alloc::{AllocError, Global};
+use crate::kept_language::KeptLanguage;
 
 /// Norwegian: a trimmer of the characters of the Latin script, and stop words.
 #[derive(Clone, Copy)]
@@ -19,30 +15,8 @@ impl Norwegian {
     }
 }
 
-impl Language for Norwegian {
-    ghost name_of = { λ _. language_name norwegian };
+impl KeptLanguage for Norwegian {
+    ghost LANGUAGE = { AnyLanguage.Norwegian };
 
-    ghost code_of = { λ _. language_code norwegian };
-
-    ghost tokens_of = { λ _. words };
-
-    ghost stages_of = { λ _. language_stages norwegian };
-
-    ghost leaves_of = { λ _. language_leaves norwegian };
-
-    fn name(&self, alloc: Global) -> Result<String, AllocError> {
-        AnyLanguage::Norwegian.name(alloc)
-    }
-
-    fn code(&self, alloc: Global) -> Result<String, AllocError> {
-        AnyLanguage::Norwegian.code(alloc)
-    }
-
-    fn tokenize(&self, alloc: Global, text: &str) -> Result<Vec<String>, AllocError> {
-        AnyLanguage::Norwegian.tokenize(alloc, text)
-    }
-
-    fn make_pipeline(&self, alloc: Global, empty: Pipeline) -> Result<Pipeline, AllocError> {
-        AnyLanguage::Norwegian.make_pipeline(alloc, empty)
-    }
+    const LANGUAGE: AnyLanguage = AnyLanguage::Norwegian;
 }

@@ -1,12 +1,8 @@
 //! Spanish.
-ghost use Rattle.elasticlunr_lang.specs.Words.{words};
-ghost use Rattle.elasticlunr_lang.specs.Known.{language_name, language_code, language_stages, language_leaves};
-ghost use Rattle.elasticlunr_lang.specs.declared.any.AnyLanguage.TheVariants.{Spanish as spanish};
+ghost use Rattle.elasticlunr_lang.specs.declared.any.AnyLanguage.{AnyLanguage};
 
 use crate::any::AnyLanguage;
-use crate::language::Language;
-use elasticlunr_text::pipeline::Pipeline;
-use std::alloc::{AllocError, Global};
+use crate::kept_language::KeptLanguage;
 
 /// Spanish: a trimmer of the characters of the Latin script, and stop words.
 #[derive(Clone, Copy)]
@@ -19,30 +15,8 @@ impl Spanish {
     }
 }
 
-impl Language for Spanish {
-    ghost name_of = { λ _. language_name spanish };
+impl KeptLanguage for Spanish {
+    ghost LANGUAGE = { AnyLanguage.Spanish };
 
-    ghost code_of = { λ _. language_code spanish };
-
-    ghost tokens_of = { λ _. words };
-
-    ghost stages_of = { λ _. language_stages spanish };
-
-    ghost leaves_of = { λ _. language_leaves spanish };
-
-    fn name(&self, alloc: Global) -> Result<String, AllocError> {
-        AnyLanguage::Spanish.name(alloc)
-    }
-
-    fn code(&self, alloc: Global) -> Result<String, AllocError> {
-        AnyLanguage::Spanish.code(alloc)
-    }
-
-    fn tokenize(&self, alloc: Global, text: &str) -> Result<Vec<String>, AllocError> {
-        AnyLanguage::Spanish.tokenize(alloc, text)
-    }
-
-    fn make_pipeline(&self, alloc: Global, empty: Pipeline) -> Result<Pipeline, AllocError> {
-        AnyLanguage::Spanish.make_pipeline(alloc, empty)
-    }
+    const LANGUAGE: AnyLanguage = AnyLanguage::Spanish;
 }

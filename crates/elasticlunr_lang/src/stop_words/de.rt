@@ -1,11 +1,8 @@
 //! The stop words of German, in the order of their source.
-ghost use Rattle.std.specs.Prelude.{◌≡◌};
-ghost use Rattle.elasticlunr_text.specs.Text.{word_texts};
-ghost use Rattle.elasticlunr_lang.specs.StopWords.{german_stop_words};
 
 /// The listed words. An entry that is listed twice counts once.
 #[rattlefmt::skip]
-const STOP_WORDS: [&str; 232] = [
+pub const STOP_WORDS: [&str; 232] = [
     "", "aber", "alle", "allem", "allen", "aller", "alles", "als", "also", "am", "an", "ander",
     "andere", "anderem", "anderen", "anderer", "anderes", "anderm", "andern", "anderr", "anders",
     "auch", "auf", "aus", "bei", "bin", "bis", "bist", "da", "damit", "dann", "das", "dasselbe",
@@ -29,10 +26,3 @@ const STOP_WORDS: [&str; 232] = [
     "werden", "wie", "wieder", "will", "wir", "wird", "wirst", "wo", "wollen", "wollte", "während",
     "würde", "würden", "zu", "zum", "zur", "zwar", "zwischen", "über",
 ];
-
-/// The list.
-pub fn stop_words() -> &'static [&'static str]
-    ensures { word_texts result.now ≡ german_stop_words }
-{
-    &STOP_WORDS
-}

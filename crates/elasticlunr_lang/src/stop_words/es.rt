@@ -1,11 +1,8 @@
 //! The stop words of Spanish, in the order of their source.
-ghost use Rattle.std.specs.Prelude.{◌≡◌};
-ghost use Rattle.elasticlunr_text.specs.Text.{word_texts};
-ghost use Rattle.elasticlunr_lang.specs.StopWords.{spanish_stop_words};
 
 /// The listed words. An entry that is listed twice counts once.
 #[rattlefmt::skip]
-const STOP_WORDS: [&str; 309] = [
+pub const STOP_WORDS: [&str; 309] = [
     "", "a", "al", "algo", "algunas", "algunos", "ante", "antes", "como", "con", "contra", "cual",
     "cuando", "de", "del", "desde", "donde", "durante", "e", "el", "ella", "ellas", "ellos", "en",
     "entre", "era", "erais", "eran", "eras", "eres", "es", "esa", "esas", "ese", "eso", "esos",
@@ -39,10 +36,3 @@ const STOP_WORDS: [&str; 309] = [
     "tuyas", "tuyo", "tuyos", "tú", "un", "una", "uno", "unos", "vosotras", "vosotros", "vuestra",
     "vuestras", "vuestro", "vuestros", "y", "ya", "yo", "él", "éramos",
 ];
-
-/// The list.
-pub fn stop_words() -> &'static [&'static str]
-    ensures { word_texts result.now ≡ spanish_stop_words }
-{
-    &STOP_WORDS
-}

@@ -1,11 +1,8 @@
 //! The stop words of Finnish, in the order of their source.
-ghost use Rattle.std.specs.Prelude.{◌≡◌};
-ghost use Rattle.elasticlunr_text.specs.Text.{word_texts};
-ghost use Rattle.elasticlunr_lang.specs.StopWords.{finnish_stop_words};
 
 /// The listed words. An entry that is listed twice counts once.
 #[rattlefmt::skip]
-const STOP_WORDS: [&str; 236] = [
+pub const STOP_WORDS: [&str; 236] = [
     "", "ei", "eivät", "emme", "en", "et", "ette", "että", "he", "heidän", "heidät", "heihin",
     "heille", "heillä", "heiltä", "heissä", "heistä", "heitä", "hän", "häneen", "hänelle",
     "hänellä", "häneltä", "hänen", "hänessä", "hänestä", "hänet", "häntä", "itse", "ja", "johon",
@@ -31,10 +28,3 @@ const STOP_WORDS: [&str; 236] = [
     "tuota", "tähän", "täksi", "tälle", "tällä", "tältä", "tämä", "tämän", "tänä", "tässä", "tästä",
     "tätä", "vaan", "vai", "vaikka", "yli",
 ];
-
-/// The list.
-pub fn stop_words() -> &'static [&'static str]
-    ensures { word_texts result.now ≡ finnish_stop_words }
-{
-    &STOP_WORDS
-}

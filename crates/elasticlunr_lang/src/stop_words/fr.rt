@@ -1,11 +1,8 @@
 //! The stop words of French, in the order of their source.
-ghost use Rattle.std.specs.Prelude.{◌≡◌};
-ghost use Rattle.elasticlunr_text.specs.Text.{word_texts};
-ghost use Rattle.elasticlunr_lang.specs.StopWords.{french_stop_words};
 
 /// The listed words. An entry that is listed twice counts once.
 #[rattlefmt::skip]
-const STOP_WORDS: [&str; 164] = [
+pub const STOP_WORDS: [&str; 164] = [
     "", "ai", "aie", "aient", "aies", "ait", "as", "au", "aura", "aurai", "auraient", "aurais",
     "aurait", "auras", "aurez", "auriez", "aurions", "aurons", "auront", "aux", "avaient", "avais",
     "avait", "avec", "avez", "aviez", "avions", "avons", "ayant", "ayez", "ayons", "c", "ce",
@@ -22,10 +19,3 @@ const STOP_WORDS: [&str; 164] = [
     "à", "étaient", "étais", "était", "étant", "étiez", "étions", "été", "étée", "étées", "étés",
     "êtes",
 ];
-
-/// The list.
-pub fn stop_words() -> &'static [&'static str]
-    ensures { word_texts result.now ≡ french_stop_words }
-{
-    &STOP_WORDS
-}

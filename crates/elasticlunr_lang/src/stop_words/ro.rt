@@ -1,11 +1,8 @@
 //! The stop words of Romanian, in the order of their source.
-ghost use Rattle.std.specs.Prelude.{◌≡◌};
-ghost use Rattle.elasticlunr_text.specs.Text.{word_texts};
-ghost use Rattle.elasticlunr_lang.specs.StopWords.{romanian_stop_words};
 
 /// The listed words. An entry that is listed twice counts once.
 #[rattlefmt::skip]
-const STOP_WORDS: [&str; 282] = [
+pub const STOP_WORDS: [&str; 282] = [
     "", "acea", "aceasta", "această", "aceea", "acei", "aceia", "acel", "acela", "acele", "acelea",
     "acest", "acesta", "aceste", "acestea", "aceşti", "aceştia", "acolo", "acord", "acum", "ai",
     "aia", "aibă", "aici", "al", "ale", "alea", "altceva", "altcineva", "am", "ar", "are",
@@ -33,10 +30,3 @@ const STOP_WORDS: [&str; 282] = [
     "între", "întrucât", "întrucît", "îţi", "ăla", "ălea", "ăsta", "ăstea", "ăştia", "şapte",
     "şase", "şi", "ştiu", "ţi", "ţie",
 ];
-
-/// The list.
-pub fn stop_words() -> &'static [&'static str]
-    ensures { word_texts result.now ≡ romanian_stop_words }
-{
-    &STOP_WORDS
-}

@@ -1,11 +1,8 @@
 //! The stop words of Russian, in the order of their source.
-ghost use Rattle.std.specs.Prelude.{◌≡◌};
-ghost use Rattle.elasticlunr_text.specs.Text.{word_texts};
-ghost use Rattle.elasticlunr_lang.specs.StopWords.{russian_stop_words};
 
 /// The listed words. An entry that is listed twice counts once.
 #[rattlefmt::skip]
-const STOP_WORDS: [&str; 422] = [
+pub const STOP_WORDS: [&str; 422] = [
     "", "алло", "без", "близко", "более", "больше", "будем", "будет", "будете", "будешь", "будто",
     "буду", "будут", "будь", "бы", "бывает", "бывь", "был", "была", "были", "было", "быть", "в",
     "важная", "важное", "важные", "важный", "вам", "вами", "вас", "ваш", "ваша", "ваше", "ваши",
@@ -48,10 +45,3 @@ const STOP_WORDS: [&str; 422] = [
     "шесть", "эта", "эти", "этим", "этими", "этих", "это", "этого", "этой", "этом", "этому", "этот",
     "эту", "я", "а",
 ];
-
-/// The list.
-pub fn stop_words() -> &'static [&'static str]
-    ensures { word_texts result.now ≡ russian_stop_words }
-{
-    &STOP_WORDS
-}

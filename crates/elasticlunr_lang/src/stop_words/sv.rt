@@ -1,11 +1,8 @@
 //! The stop words of Swedish, in the order of their source.
-ghost use Rattle.std.specs.Prelude.{◌≡◌};
-ghost use Rattle.elasticlunr_text.specs.Text.{word_texts};
-ghost use Rattle.elasticlunr_lang.specs.StopWords.{swedish_stop_words};
 
 /// The listed words. An entry that is listed twice counts once.
 #[rattlefmt::skip]
-const STOP_WORDS: [&str; 115] = [
+pub const STOP_WORDS: [&str; 115] = [
     "", "alla", "allt", "att", "av", "blev", "bli", "blir", "blivit", "de", "dem", "den", "denna",
     "deras", "dess", "dessa", "det", "detta", "dig", "din", "dina", "ditt", "du", "där", "då",
     "efter", "ej", "eller", "en", "er", "era", "ert", "ett", "från", "för", "ha", "hade", "han",
@@ -17,10 +14,3 @@ const STOP_WORDS: [&str; 115] = [
     "varit", "varje", "vars", "vart", "vem", "vi", "vid", "vilka", "vilkas", "vilken", "vilket",
     "vår", "våra", "vårt", "än", "är", "åt", "över",
 ];
-
-/// The list.
-pub fn stop_words() -> &'static [&'static str]
-    ensures { word_texts result.now ≡ swedish_stop_words }
-{
-    &STOP_WORDS
-}

@@ -1,11 +1,8 @@
 //! The stop words of Turkish, in the order of their source.
-ghost use Rattle.std.specs.Prelude.{◌≡◌};
-ghost use Rattle.elasticlunr_text.specs.Text.{word_texts};
-ghost use Rattle.elasticlunr_lang.specs.StopWords.{turkish_stop_words};
 
 /// The listed words. An entry that is listed twice counts once.
 #[rattlefmt::skip]
-const STOP_WORDS: [&str; 210] = [
+pub const STOP_WORDS: [&str; 210] = [
     "", "acaba", "altmış", "altı", "ama", "ancak", "arada", "aslında", "ayrıca", "bana", "bazı",
     "belki", "ben", "benden", "beni", "benim", "beri", "beş", "bile", "bin", "bir", "biri",
     "birkaç", "birkez", "birçok", "birşey", "birşeyi", "biz", "bizden", "bize", "bizi", "bizim",
@@ -28,10 +25,3 @@ const STOP_WORDS: [&str; 210] = [
     "yoksa", "yüz", "zaten", "çok", "çünkü", "öyle", "üzere", "üç", "şey", "şeyden", "şeyi",
     "şeyler", "şu", "şuna", "şunda", "şundan", "şunları", "şunu", "şöyle",
 ];
-
-/// The list.
-pub fn stop_words() -> &'static [&'static str]
-    ensures { word_texts result.now ≡ turkish_stop_words }
-{
-    &STOP_WORDS
-}

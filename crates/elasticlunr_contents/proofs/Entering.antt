@@ -183,11 +183,11 @@ pub length-mapped : {A B : Type 0} (f : A → B) (xs : List A) → length (map f
 length-mapped f [] = refl
 length-mapped f (x ∷ xs) = ap suc (length-mapped f xs)
 
-some_from : {A : Type 0} (o : Option A) → IsSome o → (x : A) × (o ≡ Some x)
+pub some_from : {A : Type 0} (o : Option A) → IsSome o → (x : A) × (o ≡ Some x)
 some_from None there = absurd (true≢false (sym there))
 some_from (Some x) there = (x, refl)
 
-is_some_from : {A : Type 0} (o : Option A) (x : A) → o ≡ Some x → IsSome o
+pub is_some_from : {A : Type 0} (o : Option A) (x : A) → o ≡ Some x → IsSome o
 is_some_from None x e = cc (e)
 is_some_from (Some y) x e = refl
 

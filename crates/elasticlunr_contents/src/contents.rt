@@ -6,6 +6,7 @@ ghost use Rattle.elasticlunr_trie.specs.Table.{Table, new_table, posting};
 ghost use Rattle.elasticlunr_store.specs.Contents.{new_contents, without};
 ghost use Rattle.elasticlunr_history.specs.Fields.{borrowed};
 ghost use Rattle.elasticlunr_history.specs.Entered.{HoldsOneMore, TakesOut, IsCompacted, ReplacesPostings, HasOnlyStored, MakesRoom, AddsTokens};
+ghost use Rattle.elasticlunr_contents.specs.Others.{OthersStay};
 ghost use Rattle.elasticlunr_contents.specs.Texts.{texts_left, token_texts, with_tokens, with_all_tokens};
 
 use crate::counts::{add_postings, count_tokens};
@@ -40,8 +41,8 @@ impl IndexContents {
     }
 
     /// Puts a document in the place of what its reference had. The tokens are those of the values,
-    /// in their order, none for the field that holds the reference. After an error the contents may
-    /// be anything between the old and the new.
+    /// in their order, none for the field that holds the reference. What other references have
+    /// stays; after an error, what this one has may be anything between the old and the new.
     pub fn enter(
         &mut self,
         alloc: Global,
@@ -54,11 +55,13 @@ impl IndexContents {
         requires one_each { vec_len self.old.tries ≡ length fields.now }
         requires as_many { vec_len tokens ≡ length values.now }
         requires few { length values.now ≤ length fields.now }
-        ensures as_many { OnOk result (vec_len self.new.tries ≡ vec_len self.old.tries) }
+        ensures as_many { vec_len self.new.tries ≡ vec_len self.old.tries }
         ensures memory { IsOkUnless result Memory }
         ensures entered { OnOk result (HoldsOneMore (bytes_of fields.now) ref_field.now doc_ref.now
             (borrowed values.now) (token_texts tokens.items)
             self.old.tries.items self.old.store self.new.tries.items self.new.store) }
+        ensures others_stay { OthersStay doc_ref.now self.old.tries.items self.new.tries.items
+            self.old.store self.new.store }
     {
         self.make_room(doc_ref);
         self.enter_tokens(alloc, fields, doc_ref, tokens)?;
@@ -76,6 +79,8 @@ impl IndexContents {
         ensures as_many { vec_len self.new.tries ≡ vec_len self.old.tries }
         ensures room { HasOnlyStored self.old.tries.items self.old.store doc_ref.now
             → MakesRoom doc_ref.now self.old.tries.items self.new.tries.items self.old.store self.new.store }
+        ensures others_stay { OthersStay doc_ref.now self.old.tries.items self.new.tries.items
+            self.old.store self.new.store }
     {
         if self.store.has_doc(doc_ref) {
             self.take_out(doc_ref);
@@ -92,11 +97,14 @@ impl IndexContents {
     ) -> Result<(), IndexError>
         requires one_each { vec_len self.old.tries ≡ length fields.now }
         requires few { vec_len tokens ≤ length fields.now }
+        ensures as_many { vec_len self.new.tries ≡ vec_len self.old.tries }
         ensures memory { IsOkUnless result Memory }
         ensures tables { OnOk result (AddsTokens doc_ref.now (token_texts tokens.items)
             self.old.tries.items self.new.tries.items) }
         ensures store { OnOk result (self.new.store
             ≡ with_all_tokens self.old.store doc_ref.now (bytes_of fields.now) (token_texts tokens.items)) }
+        ensures others_stay { OthersStay doc_ref.now self.old.tries.items self.new.tries.items
+            self.old.store self.new.store }
     {
         for (i, tokens) in tokens.into_iter().enumerate() {
             self.enter_field(alloc, i, fields[i].as_str(), doc_ref, tokens)?;
@@ -114,7 +122,7 @@ impl IndexContents {
         tokens: Option<Vec<String>>,
     ) -> Result<(), IndexError>
         requires { i < vec_len self.old.tries }
-        ensures as_many { OnOk result (vec_len self.new.tries ≡ vec_len self.old.tries) }
+        ensures as_many { vec_len self.new.tries ≡ vec_len self.old.tries }
         ensures memory { IsOkUnless result Memory }
         ensures table { OnOk result ((before after : Table)
             → slice_get self.old.tries.items i ≡ Some before → slice_get self.new.tries.items i ≡ Some after
@@ -124,6 +132,8 @@ impl IndexContents {
             → slice_get self.new.tries.items j ≡ slice_get self.old.tries.items j) }
         ensures store { OnOk result (self.new.store
             ≡ with_tokens self.old.store doc_ref.now field.now (texts_left tokens)) }
+        ensures others_stay { OthersStay doc_ref.now self.old.tries.items self.new.tries.items
+            self.old.store self.new.store }
     {
         let Some(tokens) = tokens else {
             return Ok(());

@@ -4,6 +4,7 @@ ghost use Rattle.std.specs.HashMap.{IsUnique};
 ghost use Rattle.elasticlunr_error.specs.declared.error.IndexError.TheVariants.{Memory};
 ghost use Rattle.elasticlunr_trie.specs.Table.{told_tokens};
 ghost use Rattle.elasticlunr_contents.specs.Counted.{AreCounts, AreRooted, counted_texts, Posts};
+ghost use Rattle.elasticlunr_contents.specs.Others.{OthersStayIn};
 
 use elasticlunr_error::IndexError;
 use elasticlunr_history::root;
@@ -49,6 +50,7 @@ pub fn add_postings(
     ensures memory { IsOkUnless result Memory }
     ensures unique { IsUnique string_eq counts.now }
     ensures posted { OnOk result (Posts trie.old trie.new doc_ref.now (counted_texts counts.now.entries)) }
+    ensures others_stay { OthersStayIn doc_ref.now trie.old trie.new }
 {
     let rooted = rooted_counts(alloc, counts)?;
     trie.add_tokens(doc_ref, &rooted)

@@ -8,33 +8,37 @@ use Rattle.elasticlunr_store.specs.Contents.{Contents, IsConsistent}
 use Rattle.elasticlunr_trie.specs.Table.{Table}
 use Rattle.elasticlunr.specs.History.{Commands}
 use Rattle.elasticlunr.specs.Printed.{IsPrintOf}
-use Rattle.elasticlunr.specs.Shape.{HasLanguage, HasParts}
+use Rattle.elasticlunr.specs.Shape.{HasFields, HasLanguage, HasParts, HasTries}
 use Rattle.elasticlunr.specs.Standing.{Plan}
 use Rattle.elasticlunr_search.specs.Refusal.{Lacks, RefusesValue, Refuses}
 use Rattle.elasticlunr_search.specs.declared.error.SearchError.{SearchError}
 use Rattle.elasticlunr_search.specs.declared.error.SearchError.TheVariants.{NotRead, OtherLanguage, BadFields, BadTries, BadStore, NoSuchField, Memory}
 
+-- what the library says of the fields of a value
+abbrev pub FieldsOnce : Type 0
+FieldsOnce = (v : Data) (names others : List Bytes) → HasFields v names → HasFields v others → names ≡ others
+
 -- a value that has its parts lacks none
-lacks_none : (v : Data) (fields : List Bytes) (tables : List Table) (contents : Contents) → HasParts v fields tables contents
+lacks_none : FieldsOnce → (v : Data) (fields : List Bytes) (tables : List Table) (contents : Contents) → HasParts v fields tables contents
     → IsConsistent contents → (e : SearchError) → Lacks v e → e ≡ Memory
-lacks_none v fields tables contents has are NotRead lacks = absurd lacks
-lacks_none v fields tables contents has are OtherLanguage lacks = absurd lacks
-lacks_none v fields tables contents has are BadFields lacks = absurd (lacks fields has.fields)
-lacks_none v fields tables contents has are BadTries lacks = absurd (lacks fields has.fields tables has.tries)
-lacks_none v fields tables contents has are BadStore lacks = absurd (lacks contents are has.store)
-lacks_none v fields tables contents has are NoSuchField lacks = absurd lacks
-lacks_none v fields tables contents has are Memory lacks = refl
+lacks_none once v fields tables contents has are NotRead lacks = absurd lacks
+lacks_none once v fields tables contents has are OtherLanguage lacks = absurd lacks
+lacks_none once v fields tables contents has are BadFields lacks = absurd (lacks fields has.fields)
+lacks_none once v fields tables contents has are BadTries lacks = absurd (lacks.2 tables (subst (λ ns. HasTries v ns tables) (once v fields lacks.0 has.fields lacks.1) has.tries))
+lacks_none once v fields tables contents has are BadStore lacks = absurd (lacks contents are has.store)
+lacks_none once v fields tables contents has are NoSuchField lacks = absurd lacks
+lacks_none once v fields tables contents has are Memory lacks = refl
 
 -- a printed text is refused for want of memory, for its depth, or for its language
 pub accepted : ((v : Data) (name other : Bytes) → HasLanguage v name → HasLanguage v other → name ≡ other)
-    → (language : Bytes) (text : List ℕ) (e : SearchError) → Refuses language text e → (plan : Plan) (commands : Commands) (p : IsPrintOf plan commands text)
+    → FieldsOnce → (language : Bytes) (text : List ℕ) (e : SearchError) → Refuses language text e → (plan : Plan) (commands : Commands) (p : IsPrintOf plan commands text)
     → HasParts p.value plan.fields p.tables p.contents → HasLanguage p.value plan.language → (e ≡ Memory) ⊎ ((max_depth < depth p.value) ⊎ ((e ≡ OtherLanguage) × (plan.language ≢ language)))
-accepted one language text e refuses plan commands p has names = elim (cases_lt max_depth (depth p.value)) [ inl deep ↦ inr (inl deep) | inr shallow ↦ by_reading (p.read_as.reads shallow) refuses ] where
+accepted one once language text e refuses plan commands p has names = elim (cases_lt max_depth (depth p.value)) [ inl deep ↦ inr (inl deep) | inr shallow ↦ by_reading (p.read_as.reads shallow) refuses ] where
   by_value : RefusesValue language p.value e
       → (e ≡ Memory) ⊎ ((max_depth < depth p.value) ⊎ ((e ≡ OtherLanguage) × (plan.language ≢ language)))
   by_value r = elim r [
     | inl other ↦ inr (inr (other.0, λ same. other.1.2 (one p.value other.1.0 plan.language other.1.1 names ∙ same)))
-    | inr lacks ↦ inl (lacks_none p.value plan.fields p.tables p.contents has p.holds.store.are_contents e lacks)
+    | inr lacks ↦ inl (lacks_none once p.value plan.fields p.tables p.contents has p.holds.store.are_contents e lacks)
   ]
 
   by_reading : read text ≡ Some p.value → Refuses language text e

@@ -1,5 +1,5 @@
 -- How many values a request has, and why one finds nothing.
-use Rattle.std.proofs.Common.{◌≡◌, ◌⊎◌, inl, inr, List, [], ◌∷◌, length, Result, refl, ◌∙◌, ap, sym, None}
+use Rattle.std.proofs.Common.{◌≡◌, ◌⊎◌, inl, inr, List, [], ◌∷◌, length, Result, refl, ◌∙◌, ap, sym, None, Bool, true, false, Ok, Err}
 use Rattle.std.specs.List.{after_first}
 use Rattle.std.specs.Result.{IfErr, IsErrAnd}
 use Rattle.std.proofs.lemmas.Result.{err_from_is_err_and}
@@ -9,7 +9,8 @@ use Rattle.serde_json.specs.View.{items_view}
 use Rattle.serde_json.specs.declared.value.Value.{Value}
 use Rattle.elasticlunr_text.specs.Text.{Bytes}
 use Rattle.elasticlunr_search.specs.Answers.{Asks, HasBelow, is_line_feed}
-use Rattle.elasticlunr_search.specs.Unanswered.{HasNoField, IsNotSearched, IsRefusedBelow, refusal_of}
+use Rattle.elasticlunr_search.specs.Fields.{HasNoField}
+use Rattle.elasticlunr_search.specs.Unanswered.{IsNotSearched, IsRefusedBelow, refusal_of}
 use Rattle.elasticlunr_search.specs.declared.answer.Refusal.{Refusal}
 use Rattle.elasticlunr_search.specs.declared.answer.Refusal.TheVariants as refusal
 use Rattle.elasticlunr_search.specs.declared.error.SearchError.{SearchError}
@@ -30,6 +31,11 @@ pub not_found : {T : Type 0} (r : Result T Refusal) (v : Data) (request : Reques
 not_found r v request e is only none =
     let p = err_from_is_err_and r is in
     rw (p.1, p.2) (elim only [ inl n ↦ rw n (none n) | inr m ↦ rw m tt ])
+
+-- a field that was searched is there
+pub searched : {T : Type 0} {found : T} (there : Bool) → (there ≡ false → Ok found ≡ Err NoSuchField) → there ≡ true
+searched true none = refl
+searched false none = absurd (let wrong = none refl in cc (wrong))
 
 -- what is not searched of an input refuses it
 why_below : (input : Bytes) (request : Request) (v : Data) (e : Refusal) → Asks input request → HasBelow input v → IsNotSearched v request e → IsRefusedBelow input e

@@ -8,6 +8,7 @@ use Rattle.elasticlunr.specs.History.{Commands}
 use Rattle.elasticlunr.specs.Kept.{KeptReads}
 use Rattle.elasticlunr.specs.Printed.{IsPrintOf}
 use Rattle.elasticlunr.specs.Standing.{Plan}
+use Rattle.elasticlunr_search.specs.Fields.{HasField}
 use Rattle.elasticlunr_search.specs.Lines.{lines}
 use Rattle.elasticlunr_search.specs.Requests.{IsRequest}
 use Rattle.elasticlunr_search.specs.Words.{FindsInField}
@@ -21,9 +22,9 @@ abbrev pub AreFoundBy : AnyLanguage → Data → Request → List Bytes → Type
 AreFoundBy language v request found = (plan : Plan) (commands : Commands) (text : List ℕ) → read text ≡ Some v → IsPrintOf plan commands text
     → FindsInField (KeptReads language) request.join plan commands request.field.now request.query.now found
 
--- they are found by the language that the value names
+-- the value has the field, and they are found by the language that it names
 abbrev pub AreFoundOf : Data → Request → List Bytes → Type 0
-AreFoundOf v request found = (language : AnyLanguage) × (get (codes "lang") v ≡ Some (string (language_name language))) × AreFoundBy language v request found
+AreFoundOf v request found = HasField v request.field.now × ((language : AnyLanguage) × (get (codes "lang") v ≡ Some (string (language_name language))) × AreFoundBy language v request found)
 
 abbrev pub is_line_feed : ℕ → Bool
 is_line_feed byte = byte == 10

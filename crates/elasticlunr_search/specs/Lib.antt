@@ -1,4 +1,5 @@
 pub mod Refusal
+pub mod Fields
 pub mod Tries
 pub mod Query
 pub mod Words

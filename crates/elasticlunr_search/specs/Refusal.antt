@@ -25,7 +25,7 @@ abbrev pub Lacks : Data → SearchError → Type 0
 Lacks v NotRead = ⊥
 Lacks v OtherLanguage = ⊥
 Lacks v BadFields = (names : List Bytes) → ¬ HasFields v names
-Lacks v BadTries = (names : List Bytes) → HasFields v names → (tables : List Table) → ¬ HasTries v names tables
+Lacks v BadTries = (names : List Bytes) × HasFields v names × ((tables : List Table) → ¬ HasTries v names tables)
 Lacks v BadStore = (contents : Contents) → IsConsistent contents → ¬ HasStore v contents
 Lacks v NoSuchField = ⊥
 Lacks v Memory = Unit {0}

@@ -6,11 +6,13 @@ use Rattle.elasticlunr.specs.History.{Commands}
 use Rattle.elasticlunr.specs.Reading.{LanguageReads}
 use Rattle.elasticlunr.specs.Shape.{ArePartsOf}
 use Rattle.elasticlunr.specs.Standing.{Plan}
+use Rattle.elasticlunr_search.specs.Fields.{IsIndexOf}
 use Rattle.elasticlunr_search.specs.Query.{IsFound}
 use Rattle.elasticlunr_search.specs.Words.{FindsInField}
 use Rattle.elasticlunr_search.specs.declared.printed.Printed.{Printed}
 use Rattle.elasticlunr_search.specs.declared.searcher.Searcher.{Searcher}
 use Rattle.elasticlunr_search.specs.declared.words.Join.{Join}
+use Rattle.serde_json.specs.Data.{Data}
 
 -- what was read holds what these commands leave in an index of this plan
 abbrev pub IsReadOf : Printed → Plan → Commands → Type 0
@@ -20,6 +22,10 @@ module _ {L P X : Type 0} {O : X → Type 0} {p : _} where
   -- the names of the fields, in order
   abbrev pub fields_of : Searcher L P X O p → List Bytes
   fields_of s = bytes_of s.printed.fields.items
+
+  -- the value is that of the index that it searches
+  abbrev pub HasPartsOf : Data → Searcher L P X O p → Type 0
+  HasPartsOf v s = IsIndexOf v (fields_of s) s.printed.tries.items s.printed.store
 
   -- it searches what these commands leave in an index of this plan, by this language; `leaves_of` is what a language leaves of a token, `leaves` what a boxed stage does
   pub record StandsFor (leaves_of : L → Text → Option Text → Type 0) (leaves : (v : X) × O v → Text → Option Text) (s : Searcher L P X O p) (language : L) (plan : Plan) (commands : Commands) : Type 0 where

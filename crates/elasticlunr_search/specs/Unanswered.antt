@@ -1,13 +1,10 @@
 -- Why nothing is searched for a text that should have a request and an index.
-use Rattle.std.specs.Prelude.{◌≡◌, ◌≢◌, ◌⊎◌, ℕ, List, false, Some, None, All, codes}
+use Rattle.std.specs.Prelude.{◌≡◌, ◌≢◌, ◌⊎◌, Some, None, All, codes}
 use Rattle.std.specs.List.{before_first, after_first}
 use Rattle.elasticlunr_text.specs.Text.{Bytes}
 use Rattle.elasticlunr_lang.specs.Known.{all_languages, language_name}
-use Rattle.elasticlunr.specs.Fields.{has_name}
-use Rattle.elasticlunr.specs.History.{Commands}
-use Rattle.elasticlunr.specs.Printed.{IsPrintOf}
-use Rattle.elasticlunr.specs.Standing.{Plan}
 use Rattle.elasticlunr_search.specs.Answers.{is_line_feed, Asks, HasBelow}
+use Rattle.elasticlunr_search.specs.Fields.{HasNoField}
 use Rattle.elasticlunr_search.specs.Refusal.{Lacks}
 use Rattle.elasticlunr_search.specs.Requests.{IsNoRequest}
 use Rattle.elasticlunr_search.specs.declared.answer.Refusal.{Refusal}
@@ -51,10 +48,6 @@ AsksNothing input = (asked : Data) → read (before_first is_line_feed input) �
 -- the value names no language
 abbrev pub NamesNone : Data → Type 0
 NamesNone v = All (λ language. get (codes "lang") v ≢ Some (string (language_name language))) all_languages
-
--- whatever printed text the value is of, its index has no field of this name
-abbrev pub HasNoField : Data → Bytes → Type 0
-HasNoField v field = (plan : Plan) (commands : Commands) (text : List ℕ) → read text ≡ Some v → IsPrintOf plan commands text → has_name field plan.fields ≡ false
 
 -- why the value is not searched for a request, want of memory aside
 abbrev pub IsNotSearched : Data → Request → Refusal → Type 0

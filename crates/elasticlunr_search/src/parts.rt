@@ -110,6 +110,7 @@ fn trie_of(alloc: Global, name: &str, index: &Value) -> Result<InvertedIndex, Se
 /// The document store.
 pub(crate) fn store_of(alloc: Global, value: &Value) -> Result<DocumentStore, SearchError>
     ensures ok { IfOk result (HasStore (view value.now)) }
+    ensures consistent { IfOk result IsConsistent }
     ensures err { IfErr result (StopsBy BadStore ((contents : Contents)
         → IsConsistent contents → ¬ HasStore (view value.now) contents)) }
 {

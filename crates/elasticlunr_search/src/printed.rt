@@ -2,12 +2,11 @@
 ghost use Rattle.std.specs.Prelude.{◌≡◌, IfOk, IfErr, vec_len};
 ghost use Rattle.elasticlunr_text.specs.Text.{bytes_of};
 ghost use Rattle.elasticlunr_search.specs.Refusal.{Lacks};
-ghost use Rattle.elasticlunr.specs.Shape.{HasParts};
+ghost use Rattle.elasticlunr_search.specs.Fields.{IsIndexOf};
 ghost use Rattle.serde_json.specs.View.{view};
 
 use crate::error::SearchError;
 use crate::parts::{fields_of, store_of, tries_of};
-use elasticlunr::laws::values::a_value_has_its_parts_once;
 use elasticlunr_store::DocumentStore;
 use elasticlunr_trie::InvertedIndex;
 use serde_json::Value;
@@ -25,10 +24,9 @@ pub(crate) struct Printed {
 impl Printed {
     /// The parts of the value of an index.
     pub(crate) fn of_value(alloc: Global, value: &Value) -> Result<Printed, SearchError>
-        ensures parts { IfOk result (λ s. HasParts (view value.now) (bytes_of s.fields.items) s.tries.items s.store) }
+        ensures parts { IfOk result (λ s. IsIndexOf (view value.now) (bytes_of s.fields.items) s.tries.items s.store) }
         ensures lacks { IfErr result (Lacks (view value.now)) }
     {
-        a_value_has_its_parts_once();
         let fields = fields_of(alloc, value)?;
         let tries = tries_of(alloc, &fields, value)?;
         let store = store_of(alloc, value)?;

@@ -44,7 +44,7 @@ pub struct Searcher<L> {
 }
 
 impl<L: Language> Searcher<L> {
-    ghost use Rattle.elasticlunr_search.specs.Standing.{fields_of, AreFound, AreFoundInTexts, StandsFor};
+    ghost use Rattle.elasticlunr_search.specs.Standing.{fields_of, AreFound, AreFoundInTexts, HasPartsOf, StandsFor};
 
     /// Reads the printed text of an index, in any layout, once. The index must have been built with
     /// this language: a text that names another one is refused, and one that names none is read.
@@ -52,6 +52,7 @@ impl<L: Language> Searcher<L> {
         ensures stands { IfOk result (λ s. (plan : Plan) (commands : Commands)
             → IsPrintOf plan commands text.now
             → StandsFor L.leaves_of leaves s language plan commands) }
+        ensures parts { IfOk result (λ s. (v : Data) × (read text.now ≡ Some v) × HasPartsOf v s) }
         ensures refused { IfErr result (Refuses (L.name_of language) text.now) }
         ensures accepted { IfErr result (RefusesPrint (L.name_of language) text.now) }
         ensures other { (v : Data) → read text.now ≡ Some v → NamesOther (L.name_of language) v
@@ -68,6 +69,7 @@ impl<L: Language> Searcher<L> {
         ensures stands { IfOk result (λ s. (plan : Plan) (commands : Commands) (text : List ℕ)
             → read text ≡ Some (view value.now) → IsPrintOf plan commands text
             → StandsFor L.leaves_of leaves s language plan commands) }
+        ensures parts { IfOk result (HasPartsOf (view value.now)) }
         ensures refused { IfErr result (RefusesValue (L.name_of language) (view value.now)) }
         ensures other { NamesOther (L.name_of language) (view value.now)
             → (result ≡ Err OtherLanguage) ⊎ (result ≡ Err Memory) }

@@ -1,26 +1,38 @@
 -- Tokens of which a beginning has been walked.
-use Rattle.std.proofs.Common.{◌≡◌, ℕ, suc, ◌+◌, ◌<◌, Bor, List, [], ◌∷◌, ◌++◌, map, length, take, drop, All, sym, ap, subst, ◌∙◌, arith}
+use Rattle.std.proofs.Common.{◌≡◌, ℕ, suc, ◌+◌, ◌<◌, Bor, List, [], ◌∷◌, ◌++◌, map, length, take, drop, All, refl, sym, ap, subst, ◌∙◌, arith}
 use Rattle.std.specs.Prelude.{slice_index_or}
 use Rattle.std.specs.Str.{chars}
 use Rattle.std.proofs.Math.Seq.{drop-cons, take-append_seam}
-use Rattle.std.proofs.lemmas.List.{length-map, map-append, append_assoc}
+use Rattle.std.proofs.lemmas.List.{length-map, map-append, map_more, take-map, append_assoc}
 use Rattle.std.proofs.lemmas.List.Elements.{All-nil, All-push}
 use Rattle.elasticlunr_error.specs.Text.{Text, Bytes}
-use Rattle.elasticlunr_nodes.specs.Table.{Table, add, IsChanged, AreChanged, additions, told_tokens}
+use Rattle.elasticlunr_nodes.specs.Table.{Table, Change, add, IsChanged, AreChanged, additions, told_tokens}
 use Rattle.elasticlunr_nodes.specs.Trie.{Step}
 use Rattle.elasticlunr_nodes.specs.Starts.{IsStart, KeepsPaths, told}
 use Rattle.elasticlunr_nodes.specs.declared.start.Start.{Start}
+use Rattle.elasticlunr_trie.specs.Begun.{AreBegun}
 
 -- where paths stay, so do starts
 pub start_kept : (old new : Step) → KeepsPaths old new → (s : Start) → IsStart old s → IsStart new s
 start_kept old new keeps s is = record { known = is.known; split = is.split; leads = keeps is.known s.place is.leads; token = is.token; rest = is.rest }
 
--- one start is added, and those behind it
-pub changed_on : (r : Bytes) (starts : List Start) (i : ℕ) (d : Start) (T U V : Table) → i < length starts → IsChanged (add (chars (slice_index_or starts i d).token.now) r (slice_index_or starts i d).frequency) T U
-    → AreChanged (additions r (map told (drop (i + 1) starts))) U V → AreChanged (additions r (map told (drop i starts))) T V
-changed_on r starts i d T U V lt changed more =
-    let next : suc i ≡ i + 1 = omega arith in
-    subst (λ ss. AreChanged (additions r (map told ss)) T V) (sym (drop-cons starts i d lt ∙ ap (λ n. slice_index_or starts i d ∷ drop n starts) next)) (U, changed, more)
+-- one change more
+changed_more : (changes : List Change) (change : Change) (T U V : Table) → AreChanged changes T U → IsChanged change U V → AreChanged (changes ++ change ∷ []) T V
+changed_more [] change T U V same last = (V, subst (λ W. IsChanged change W V) same last, refl)
+changed_more (c ∷ changes) change T U V are last = (are.0, are.1, changed_more changes change are.0 U V are.2 last)
+
+-- one start is added behind those before it
+pub changed_on : (r : Bytes) (starts : List Start) (i : ℕ) (d : Start) (T U V : Table) → i < length starts → AreChanged (additions r (map told (take i starts))) T U
+    → IsChanged (add (chars (slice_index_or starts i d).token.now) r (slice_index_or starts i d).frequency) U V → AreChanged (additions r (map told (take (i + 1) starts))) T V
+changed_on r starts i d T U V lt are last =
+    let one_more : additions r (map told (take (i + 1) starts)) ≡ additions r (map told (take i starts)) ++ add (chars (slice_index_or starts i d).token.now) r (slice_index_or starts i d).frequency ∷ [] =
+    ap (additions r) (map_more told starts i d lt) ∙ map-append _ (map told (take i starts)) _ in
+    subst (λ cs. AreChanged cs T V) (sym one_more) (changed_more _ _ T U V are last)
+
+-- the starts before one are the first of them all
+pub begun : (r : Bytes) (starts : List Start) (i : ℕ) (T U : Table) → AreChanged (additions r (map told (take i starts))) T U → AreBegun (additions r (map told starts)) T U
+begun r starts i T U are =
+    (i, subst (λ cs. AreChanged cs T U) (sym (take-map _ i (map told starts) ∙ ap (additions r) (take-map told i starts))) are)
 
 -- starts that were walked on where they stand in a vector of n, which tells what it told
 pub walked_on : (step : Step) (n : ℕ) (old new rest : List Start) (tokens : List (Text × ℕ)) → length old ≡ n → map told new ≡ map told old → All (IsStart step) new → map told old ≡ tokens

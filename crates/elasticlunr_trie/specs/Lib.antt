@@ -1,4 +1,5 @@
 pub use Rattle.elasticlunr_nodes.specs.Table
+pub mod Begun
 pub mod Compacted
 pub mod Tree
 pub mod EqualTables

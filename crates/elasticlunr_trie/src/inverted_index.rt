@@ -9,6 +9,7 @@ ghost use Rattle.serde_json.specs.View.{view};
 ghost use Rattle.elasticlunr_json.specs.Refused.{IsRefused};
 ghost use Rattle.elasticlunr_error.specs.declared.error.IndexError.TheVariants.{Memory};
 ghost use Rattle.serde_json.specs.Written.{has_float};
+ghost use Rattle.elasticlunr_trie.specs.Begun.{AreBegun};
 ghost use Rattle.elasticlunr_trie.specs.Tree.{IsTrieValue};
 
 mod add;
@@ -131,10 +132,12 @@ impl InvertedIndex {
     ///
     /// The tokens are walked side by side: while one walk waits for memory, the others go on, so
     /// that in a large trie this takes less time than a call for each; and the reference gets room
-    /// for all of them at once. Where memory is wanting, some of the postings may be set.
+    /// for all of them at once. Where memory is wanting, the postings of some tokens may be set,
+    /// from the first on, and nothing else has changed.
     pub fn add_tokens(&mut self, doc_ref: &str, tokens: &[(&str, u64)]) -> Result<(), IndexError>
         ensures ok { OnOk result (AreChanged (additions doc_ref.now (told_tokens tokens.now)) self.old self.new) }
         ensures memory { IsOkUnless result Memory }
+        ensures err { OnErr result (AreBegun (additions doc_ref.now (told_tokens tokens.now)) self.old self.new) }
     {
         let alloc = *self.nodes.allocator();
         let starts = starts_of(alloc, &self.root, &self.nodes, tokens)?;

@@ -1,12 +1,13 @@
 //! Tokens that are walked side by side. A walk of one token waits for memory at each of its
 //! characters; the walks of several don't wait for one another.
-ghost use Rattle.std.specs.Prelude.{◌≡◌, map, All, IfOk, OnOk};
+ghost use Rattle.std.specs.Prelude.{◌≡◌, map, All, IfOk, OnOk, OnErr};
 ghost use Rattle.std.specs.Str.{chars};
 ghost use Rattle.elasticlunr_nodes.specs.Table.{AreChanged, IsChanged, additions, told_tokens};
 ghost use Rattle.elasticlunr_nodes.specs.Table.Change.{add};
 ghost use Rattle.elasticlunr_nodes.specs.Trie.{Step, step_of, IsTrie, IsIndex};
 ghost use Rattle.elasticlunr_nodes.specs.NodeTables.{node_table};
 ghost use Rattle.elasticlunr_nodes.specs.Starts.{IsStart, KeepsPaths, told};
+ghost use Rattle.elasticlunr_trie.specs.Begun.{AreBegun};
 
 use super::add::add_posting;
 use elasticlunr_nodes::branch::locate;
@@ -121,6 +122,7 @@ fn add_start(
         (node_table root.old nodes.old names.old) (node_table root.new nodes.new names.new)) }
     ensures paths { OnOk result (KeepsPaths (step_of root.old.items nodes.old.items)
         (step_of root.new.items nodes.new.items)) }
+    ensures err { OnErr result (node_table root.new nodes.new names.new ≡ node_table root.old nodes.old names.old) }
 {
     if start.token.is_empty() {
         return Ok(());
@@ -142,6 +144,8 @@ pub(super) fn add_starts(
     requires starts { All (IsStart (step_of root.old.items nodes.old.items)) starts.now }
     ensures index { IsIndex root.new.items nodes.new.items names.new references.new.items }
     ensures ok { OnOk result (AreChanged (additions doc_ref.now (map told starts.now))
+        (node_table root.old nodes.old names.old) (node_table root.new nodes.new names.new)) }
+    ensures err { OnErr result (AreBegun (additions doc_ref.now (map told starts.now))
         (node_table root.old nodes.old names.old) (node_table root.new nodes.new names.new)) }
 {
     make_room(alloc, nodes, names, references, doc_ref, starts)?;

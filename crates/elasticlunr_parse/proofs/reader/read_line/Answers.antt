@@ -1,8 +1,20 @@
-use Rattle.std.proofs.Common.{◌≡◌, ◌<◌, ◌-◌, length, take, sym, ap, subst, ◌∙◌, arith}
+use Rattle.std.proofs.Common.{◌≡◌, ◌<◌, ◌-◌, Result, Ok, Err, OnErr, length, take, sym, ap, subst, ◌∙◌, arith}
 use Rattle.std.specs.Io.KnownBytes.{Consumes}
 use Rattle.elasticlunr_parse.specs.LineRead.{HasNoFeed, fed}
 use Rattle.elasticlunr_parse.proofs.LineParts.{before_last, consumes_more, fed_is, joined, last_read, still_none}
 use Rattle.elasticlunr_parse.proofs.reader.read_line.Goals as goal
+
+on_err : {T E : Type 0} (r : Result T E) (P : Type 0) → P → OnErr r P
+on_err (Ok x) P p = tt
+on_err (Err e) P p = p
+
+pub returns-in_err-count-clause-none_lost : goal.returns-in_err-count-clause-none_lost
+returns-in_err-count-clause-none_lost g c =
+    let buf = c.read_until.new.buf in
+    let old = c.parts.line in
+    let left = g.R.Read.remaining in
+    on_err c.from_residual.result _ (subst (Consumes (left c.args.reader.now) (left c.read_until.new.self)) (joined old.items buf.items c.in_err-count.ensures.appends)
+    (consumes_more (left c.args.reader.now) (left c.parts.reader) (left c.read_until.new.self) old.items _ c.parts.invariant.taken c.in_err-count.ensures.none_lost))
 
 pub returns-then-index-eq10-clause-line : goal.returns-then-index-eq10-clause-line
 returns-then-index-eq10-clause-line g c =

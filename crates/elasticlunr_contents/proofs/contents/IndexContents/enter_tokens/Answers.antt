@@ -11,6 +11,7 @@ use Rattle.elasticlunr_history.specs.Entered.{AddsTokens}
 use Rattle.elasticlunr_contents.specs.Texts.{texts_left, token_texts, with_tokens, with_all_tokens}
 use Rattle.elasticlunr_contents.proofs.Counting.{mapped_there}
 use Rattle.elasticlunr_contents.proofs.Entering.{adds_none, adds_more, one_more_field, length-mapped}
+use Rattle.elasticlunr_contents.proofs.Others.{stay, stay_on}
 use Rattle.elasticlunr_contents.proofs.Pairing.{enumerated}
 use Rattle.elasticlunr_contents.proofs.contents.IndexContents.enter_tokens.Goals as goal
 
@@ -23,7 +24,7 @@ enter_field-requires c =
     omega (arith, at, inside, c.requires.one_each, c.requires.few, c.args.tokens.ok.0, c.loop-i.invariant.adds.as_many, c.args.self.now.tries.ok.0, c.loop-i.self.tries.ok.0)
 
 pub loop-i-init : goal.loop-i-init
-loop-i-init c = record { adds = adds_none c.args.doc_ref.now c.args.self.now.tries.items; store = refl }
+loop-i-init c = record { adds = adds_none c.args.doc_ref.now c.args.self.now.tries.items; store = refl; others_stay = stay c.args.doc_ref.now c.args.self.now.tries.items c.args.self.now.store }
 
 pub loop-i-preserved : goal.loop-i-preserved
 loop-i-preserved c =
@@ -46,6 +47,8 @@ loop-i-preserved c =
           ∙ ap (λ s. with_tokens s c.args.doc_ref.now c.as_str.result.now (texts_left c.in-Some.tokens)) c.loop-i.invariant.store
           ∙ one_more_field c.args.self.now.store c.args.doc_ref.now (bytes_of c.args.fields.now) done c.as_str.result.now (texts_left c.in-Some.tokens) field_at
           ∙ ap (with_all_tokens c.args.self.now.store c.args.doc_ref.now (bytes_of c.args.fields.now)) (sym more);
+      others_stay = stay_on c.args.doc_ref.now c.args.self.now.tries.items c.loop-i.self.tries.items c.enter_field.new.self.tries.items c.args.self.now.store c.loop-i.self.store c.enter_field.new.self.store
+          c.loop-i.invariant.others_stay c.enter_field.ensures.others_stay;
     }
 
 pub returns-clause-tables : goal.returns-clause-tables
@@ -61,3 +64,9 @@ returns-clause-store c =
     let t = YieldsList-end (YieldsList-from_enumerate (YieldsList-from_vec c.args.tokens.items (ap (λ s. s.iter.rest.items) e ∙ ap (λ s. s.rest.items) c.enumerate-i-items.ensures.source ∙ c.into_iter.ensures.rest) (ap (λ s. s.iter.rest.len) e ∙ ap (λ s. s.rest.len) c.enumerate-i-items.ensures.source ∙ c.into_iter.ensures.len ∙ c.args.tokens.ok.0)) (ap (λ s. s.count) e ∙ c.enumerate-i-items.ensures.count)) c.loop-i.yielded c.loop-i.i-iterator c.loop-i.yielded_by c.next.result c.next.new.self c.in-None.is c.next.ensures.steps in
     let all : map (λ e. texts_left e.1) c.loop-i.yielded ≡ token_texts c.args.tokens.items = sym (map-map (λ e. texts_left e.1) _ c.loop-i.yielded) ∙ ap (map (λ e. texts_left e.1)) t.0 ∙ enumerated texts_left c.args.tokens.items 0 in
     c.loop-i.invariant.store ∙ ap (with_all_tokens c.args.self.now.store c.args.doc_ref.now (bytes_of c.args.fields.now)) all
+
+-- what came before the error left what others have, and the error too
+pub returns-in_err-enter_field-clause-others_stay : goal.returns-in_err-enter_field-clause-others_stay
+returns-in_err-enter_field-clause-others_stay c =
+    stay_on c.args.doc_ref.now c.args.self.now.tries.items c.loop-i.self.tries.items c.enter_field.new.self.tries.items c.args.self.now.store c.loop-i.self.store c.enter_field.new.self.store
+    c.loop-i.invariant.others_stay c.enter_field.ensures.others_stay

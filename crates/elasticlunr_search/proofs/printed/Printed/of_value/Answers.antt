@@ -1,4 +1,4 @@
-use Rattle.std.proofs.Common.{sym, subst, ap, ◌∙◌}
+use Rattle.std.proofs.Common.{sym, subst, ◌∙◌}
 use Rattle.serde_json.specs.View.{view}
 use Rattle.elasticlunr_text.specs.Text.{bytes_of}
 use Rattle.elasticlunr_search.specs.Refusal.{Lacks}
@@ -10,7 +10,7 @@ use Rattle.elasticlunr_search.proofs.printed.Printed.of_value.Goals as goal
 
 pub returns-in_err-tries-clause-lacks : goal.returns-in_err-tries-clause-lacks
 returns-in_err-tries-clause-lacks c = by_exit c.from_residual-in_err-tries.result (Lacks (view c.args.value.now)) BadTries _ c.in_err-tries.field-0.0 c.from_residual-in_err-tries.ensures.1 tt
-    (λ none names has tables tries. none tables (subst (λ ns. HasTries (view c.args.value.now) ns tables) (c.a_value_has_its_parts_once.ensures.fields (view c.args.value.now) names (bytes_of c.in_ok-fields.fields.items) has c.in_ok-fields.ensures.ok ∙ ap bytes_of (sym c.deref.ensures.value)) tries)) c.in_err-tries.ensures.err
+    (λ none. (bytes_of c.in_ok-fields.fields.items, c.in_ok-fields.ensures.ok, λ tables tries. none tables (subst (λ ns. HasTries (view c.args.value.now) (bytes_of ns) tables) (sym c.deref.ensures.value) tries))) c.in_err-tries.ensures.err
 
 pub invariant_of-result : goal.invariant_of-result
 invariant_of-result c =

@@ -10,5 +10,5 @@ returns-clause-stands g c plan commands text reads print =
     record {
       its_language = refl;
       stages = c.in_ok-pipeline.ensures.leaves;
-      read = law plan commands text (view c.args.value.now) (bytes_of printed.fields.items) printed.tries.items printed.store print reads c.in_ok-printed.ensures.parts;
+      read = law plan commands text (view c.args.value.now) (bytes_of printed.fields.items) printed.tries.items printed.store print reads c.in_ok-printed.ensures.parts.0;
     }

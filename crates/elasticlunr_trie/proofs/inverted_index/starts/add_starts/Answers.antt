@@ -1,16 +1,20 @@
-use Rattle.std.proofs.Common.{◌≡◌, map, refl, sym, subst, arith}
-use Rattle.std.proofs.lemmas.List.{drop_all}
+use Rattle.std.proofs.Common.{◌≡◌, Result, Ok, Err, OnErr, map, take, sym, subst, arith}
+use Rattle.std.proofs.lemmas.List.{take_all}
 use Rattle.elasticlunr_nodes.specs.Table.{AreChanged, additions}
 use Rattle.elasticlunr_nodes.specs.Trie.{table_of, IsIndex}
 use Rattle.elasticlunr_nodes.specs.Starts.{told}
-use Rattle.elasticlunr_trie.proofs.Starts.{start_kept, changed_on}
+use Rattle.elasticlunr_trie.proofs.Starts.{start_kept, changed_on, begun}
 use Rattle.elasticlunr_trie.proofs.inverted_index.starts.add_starts.Goals as goal
+
+on_err : {T E : Type 0} (r : Result T E) (P : Type 0) → P → OnErr r P
+on_err (Ok x) P p = tt
+on_err (Err e) P p = p
 
 pub loop-start-preserved : goal.loop-start-preserved
 loop-start-preserved c = (
   c.in_ok-add_start.ensures.index,
   (λ k d lt. start_kept _ _ c.in_ok-add_start.ensures.paths _ (c.loop-start.invariant.1 k d lt)),
-  (λ T more. c.loop-start.invariant.2 T (changed_on c.args.doc_ref.now c.args.starts.now c.loop-start.start-index _ _ _ T (omega arith) c.in_ok-add_start.ensures.ok more)),
+  changed_on c.args.doc_ref.now c.args.starts.now c.loop-start.start-index _ _ _ _ (omega arith) c.loop-start.invariant.2 c.in_ok-add_start.ensures.ok,
 )
 
 pub loop-start-init : goal.loop-start-init
@@ -21,7 +25,7 @@ loop-start-init c =
     let same = subst (λ ns. table_of root ns c.make_room.new.names ≡ table_of root ns c.args.names.now) are (c.make_room.ensures.table root there) in (
       subst (λ ns. IsIndex root ns c.make_room.new.names c.make_room.new.references.items) are (c.make_room.ensures.index root there),
       c.requires.starts,
-      (λ T more. subst (λ U. AreChanged (additions c.args.doc_ref.now (map told c.args.starts.now)) U T) same more),
+      same,
     )
 
 pub returns-clause-index : goal.returns-clause-index
@@ -29,5 +33,15 @@ returns-clause-index c = c.loop-start.invariant.0
 
 pub returns-clause-ok : goal.returns-clause-ok
 returns-clause-ok c =
-    let T = table_of c.loop-start.root.items c.loop-start.nodes.items c.loop-start.names in
-    c.loop-start.invariant.2 T (subst (λ ss. AreChanged (additions c.args.doc_ref.now (map told ss)) T T) (sym (drop_all c.loop-start.start-index c.args.starts.now c.loop-start-test.false)) refl)
+    let old = table_of c.args.root.now.items c.args.nodes.now.items c.args.names.now in
+    let new = table_of c.loop-start.root.items c.loop-start.nodes.items c.loop-start.names in
+    subst (λ ss. AreChanged (additions c.args.doc_ref.now (map told ss)) old new) (take_all c.loop-start.start-index c.args.starts.now c.loop-start-test.false) c.loop-start.invariant.2
+
+-- what kept this start out left the table as it was
+pub returns-in_err-add_start-clause-err : goal.returns-in_err-add_start-clause-err
+returns-in_err-add_start-clause-err c =
+    let first = additions c.args.doc_ref.now (map told (take c.loop-start.start-index c.args.starts.now)) in
+    let old = table_of c.args.root.now.items c.args.nodes.now.items c.args.names.now in
+    let new = table_of c.add_start.new.root.items c.add_start.new.nodes.items c.add_start.new.names in
+    on_err c.from_residual-in_err-add_start.result _ (begun c.args.doc_ref.now c.args.starts.now c.loop-start.start-index old new
+    (subst (AreChanged first old) (sym c.in_err-add_start.ensures.err) c.loop-start.invariant.2))

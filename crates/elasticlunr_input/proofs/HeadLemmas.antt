@@ -262,12 +262,7 @@ module _ (left mid now : Option Bytes) (before line head : Bytes) (last : LastLi
 pub blank_next : (before line : Bytes) → AreWhole before → filled_lines before ≡ [] → HasNoFeed line → is_blank line ≡ true → filled_lines (before ++ fed line) ≡ []
 blank_next before line whole blank no_feed is = filled_append before (fed line) whole ∙ (ap (λ ls. ls ++ filled_lines (fed line)) blank ∙ (one_fed line no_feed ∙ blank_first line (lines_of []) is))
 
--- the first value is no document
-pub first_refused : (options : objects.Options) (items : List Data) (last : LastLine) (d : Data) (rest : List Data) (problem : Problem) (trouble : Trouble) → items ≡ d ∷ rest → HasProblem options d problem → IfPlaced (IsBelow last.before (IsPlaceInLine options last.text.items problem)) trouble → IsRefusedFirst options items last trouble
-first_refused options items last d rest problem (Refused message) are has placed = (d, rest, problem, are, has, placed)
-first_refused options items last d rest problem Memory are has placed = tt
-first_refused options items last d rest problem (Device failed) are has placed = tt
-
+-- the first of the values
 pub first_item : {X : Type 0} (xs : List X) (x : X) → Some x ≡ slice_get xs 0 → (rest : List X) × (xs ≡ x ∷ rest)
 first_item [] x is = absurd (cc)
 first_item (y ∷ xs) x is = let same : y ≡ x = cc in (xs, ap (λ z. z ∷ xs) same)
@@ -357,13 +352,6 @@ chained_lines head (Some rest) settings last options first are told each (Refuse
   | inl f ↦ chained_settings head (Some rest) settings last (Refused message) options first are told f.0 message f.2 each f.1
   | inr s ↦ chained_document head (Some rest) settings last (Refused message) options first are told s.1 s.2 s.0 s.3 s.4
 ]
-
--- a line that is no document is refused
-pub document_refused : (options : objects.Options) (left : Option Bytes) (last : LastLine) (number : ℕ) (problem : Problem) → StopsAtLine options left last number problem → (trouble : Trouble)
-    → IfPlaced (IsBelow last.before (IsPlaceInLine options last.text.items problem)) trouble → AreRefusedLines options left trouble
-document_refused options left last number problem stops Memory placed = tt
-document_refused options left last number problem stops (Device failed) placed = tt
-document_refused options left last number problem stops (Refused message) placed = inr (last, number, problem, stops, placed)
 
 -- the exit of a call
 pub exit_at : {T : Type 0} (r : Result T Trouble) (P : Trouble → Type 0) (e : Trouble) → IsErrAnd r (λ y. y ≡ e) → P e → IfErr r P

@@ -3,11 +3,10 @@ use Rattle.std.proofs.Common.{◌≡◌, ◌++◌, Option, None, Some, IfSome, R
 use Rattle.elasticlunr_text.specs.Text.{Bytes}
 use Rattle.elasticlunr_objects.specs.declared.lines.LastLine.{LastLine}
 use Rattle.elasticlunr_message.specs.Forms.{asked_or_told}
-use Rattle.elasticlunr_input.specs.Indexes.{IsIndexAs, IsIndexOf, IsRefusedInput}
+use Rattle.elasticlunr_input.specs.Indexes.{IsIndexAs, IsIndexOf, IsPlacedIfNotJson, IsRefusedInput}
 use Rattle.elasticlunr_input.specs.Inputs.{HasHead, IsHeadOf}
 use Rattle.elasticlunr_input.specs.Lines.{IsLinesLineWith}
-use Rattle.elasticlunr_message.specs.Messages.{IsMemoryOr}
-use Rattle.elasticlunr_message.specs.Messages.{IfPlaced}
+use Rattle.elasticlunr_message.specs.Messages.{IfPlaced, IsMemoryOrDevice}
 use Rattle.elasticlunr_input.specs.RefusedPlaces.{IsInputPlace, IsLinesPlace}
 use Rattle.elasticlunr_input.specs.RefusedRead.{AreRefusedFrom, IsReadOf, IsRefusedFrom}
 use Rattle.elasticlunr_input.specs.Settled.{Settings}
@@ -18,13 +17,18 @@ use Rattle.elasticlunr_message.specs.declared.message.Trouble.TheVariants.{Refus
 use Rattle.elasticlunr_input.proofs.HeadLemmas.{told_head}
 use Rattle.elasticlunr_input.proofs.LinePlaces.{some_for}
 
-pub err_both : {T : Type 0} (r : Result T Trouble) (P Q R : Trouble → Type 0) → ((e : Trouble) → P e → Q e → R e) → IfErr r P → IfErr r Q → IfErr r R
-err_both (Ok x) P Q R more p q = tt
-err_both (Err e) P Q R more p q = more e p q
+pub err_three : {T : Type 0} (r : Result T Trouble) (P Q R S : Trouble → Type 0) → ((e : Trouble) → P e → Q e → R e → S e) → IfErr r P → IfErr r Q → IfErr r R → IfErr r S
+err_three (Ok x) P Q R S more p q s = tt
+err_three (Err e) P Q R S more p q s = more e p q s
+
+-- what is said only where something is so that is not
+pub err_unless : {T : Type 0} (r : Result T Trouble) (C : Type 0) (P : Trouble → Type 0) → ¬ C → IfErr r (λ e. C → P e)
+err_unless (Ok x) C P never = tt
+err_unless (Err e) C P never = λ is. absurd (never is)
 
 module _ (asked : Option Form) (settings : Settings) where
   -- nothing was read that could be refused
-  pub not_read : (left : Option Bytes) (e : Trouble) → IsMemoryOr ⊥ e → IfSome left (λ text. IsRefusedFrom (asked_or_told asked text) settings text e)
+  pub not_read : (left : Option Bytes) (e : Trouble) → IsMemoryOrDevice e → IfSome left (λ text. IsRefusedFrom (asked_or_told asked text) settings text e)
   not_read None e other = tt
   not_read (Some text) Memory other = tt
   not_read (Some text) (Device failed) other = tt
@@ -41,7 +45,7 @@ module _ (asked : Option Form) (settings : Settings) where
   as_input : (text : Bytes) (e : Trouble) → AreRefusedFrom settings text e → IsRefusedFrom Lines settings text e
   as_input text Memory is = tt
   as_input text (Device failed) is = tt
-  as_input text (Refused message) is = (is.0, is.1, inr is.2, some_for (IsLinesPlace settings is.0) (IsInputPlace Lines settings is.0) message.place (λ place at. inr at) is.3)
+  as_input text (Refused message) is = (is.0, is.1, inr is.2, some_for (IsLinesPlace settings is.0) (IsInputPlace Lines settings is.0) message.place (λ place at. inr at) is.3, (λ not. absurd not))
 
   pub lines_err : (left now : Option Bytes) (head : Bytes) (last : LastLine) (e : Trouble) → HasHead left now head last → asked_or_told asked head ≡ Lines
       → IfSome now (λ rest. IsHeadOf head rest last.text.items last.before → AreRefusedFrom settings (head ++ rest) e) → IfSome left (λ text. IsRefusedFrom (asked_or_told asked text) settings text e)
@@ -60,15 +64,15 @@ module _ (asked : Option Form) (settings : Settings) where
       subst (λ t. IsIndexOf asked settings t line) (sym has.0)
       (subst (λ f. IsIndexAs f settings (head ++ rest) line) (sym (told_head head rest last.text.items last.before has.1 asked ∙ told)) (subst (λ t. IsIndexAs form settings t line) whole is))
 
-  refused_whole : (form : Form) (text : Bytes) (e : Trouble) → IsReadOf form text text → IsRefusedInput form settings text e → IfPlaced (IsInputPlace form settings text) e → IsRefusedFrom form settings text e
-  refused_whole form text Memory reads is placed = tt
-  refused_whole form text (Device failed) reads is placed = tt
-  refused_whole form text (Refused message) reads is placed = (text, reads, is, placed)
+  refused_whole : (form : Form) (text : Bytes) (e : Trouble) → IsReadOf form text text → IsRefusedInput form settings text e → IfPlaced (IsInputPlace form settings text) e → IsPlacedIfNotJson form text e → IsRefusedFrom form settings text e
+  refused_whole form text Memory reads is there placed = tt
+  refused_whole form text (Device failed) reads is there placed = tt
+  refused_whole form text (Refused message) reads is there placed = (text, reads, is, there, placed)
 
   pub whole_err : (form : Form) (left now : Option Bytes) (head all : Bytes) (last : LastLine) (e : Trouble) → HasHead left now head last → asked_or_told asked head ≡ form → IfSome now (λ rest. all ≡ head ++ rest) → IsReadOf form all all
-      → IsRefusedInput form settings all e → IfPlaced (IsInputPlace form settings all) e → IfSome left (λ text. IsRefusedFrom (asked_or_told asked text) settings text e)
-  whole_err form None now head all last e has told whole reads is placed = tt
-  whole_err form (Some text) None head all last e has told whole reads is placed = absurd has
-  whole_err form (Some text) (Some rest) head all last e has told whole reads is placed =
+      → IsRefusedInput form settings all e → IfPlaced (IsInputPlace form settings all) e → IsPlacedIfNotJson form all e → IfSome left (λ text. IsRefusedFrom (asked_or_told asked text) settings text e)
+  whole_err form None now head all last e has told whole reads is there placed = tt
+  whole_err form (Some text) None head all last e has told whole reads is there placed = absurd has
+  whole_err form (Some text) (Some rest) head all last e has told whole reads is there placed =
       subst (λ t. IsRefusedFrom (asked_or_told asked t) settings t e) (sym has.0)
-      (subst (λ f. IsRefusedFrom f settings (head ++ rest) e) (sym (told_head head rest last.text.items last.before has.1 asked ∙ told)) (subst (λ t. IsRefusedFrom form settings t e) whole (refused_whole form all e reads is placed)))
+      (subst (λ f. IsRefusedFrom f settings (head ++ rest) e) (sym (told_head head rest last.text.items last.before has.1 asked ∙ told)) (subst (λ t. IsRefusedFrom form settings t e) whole (refused_whole form all e reads is there placed)))

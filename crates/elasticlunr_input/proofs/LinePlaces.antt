@@ -1,11 +1,12 @@
 -- On the places of lines that are no documents.
-use Rattle.std.proofs.Common.{◌≡◌, List, take, map, Option, Some, None, Result, Ok, Err, IfErr, IfOk, IfSome, IsErrAnd, inl, inr, sym, subst}
+use Rattle.std.proofs.Common.{◌≡◌, ℕ, List, take, map, Option, Some, None, Result, Ok, Err, IfErr, IfSome, IsErrAnd, inl, inr, sym, subst}
 use Rattle.serde_json.specs.Data.{Data}
 use Rattle.elasticlunr_text.specs.Text.{Bytes}
 use Rattle.elasticlunr_parse.specs.Lines.{readings}
 use Rattle.elasticlunr_parse.specs.Objects.{Options}
 use Rattle.elasticlunr_input.specs.Asked.{options_of}
 use Rattle.elasticlunr_input.specs.FaultPlaces.{IsPlaceInObjectLines}
+use Rattle.elasticlunr_input.specs.Inputs.{IsBelow, IsPlacedBelow}
 use Rattle.elasticlunr_message.specs.Messages.{IfPlaced}
 use Rattle.elasticlunr_input.specs.RefusedPlaces.{IsLinesPlace, IsPlaceInLines}
 use Rattle.elasticlunr_input.specs.Settled.{Settings}
@@ -28,6 +29,11 @@ pub placed_again : (P Q : Place → Type 0) {T : Type 0} (e : Trouble) (r : Resu
 placed_again P Q e (Ok x) more same is = tt
 placed_again P Q e (Err x) more same is = placed_for P Q x more (subst (IfPlaced P) (sym same) is)
 
+-- the place of a message about a line, where it has one
+pub some_below : (lines : ℕ) (P Q : Place → Type 0) (place : Option Place) → ((at : Place) → P at → Q at) → IsPlacedBelow lines P place → IfSome place (IsBelow lines Q)
+some_below lines P Q None more is = tt
+some_below lines P Q (Some place) more is = (is.0, is.2.1, more is.0 is.1)
+
 -- with the options that the settings give for the first value
 pub place_with : (settings : Settings) (text : Bytes) (options : Options) (first : List Data) → map Some first ≡ take 1 (readings text) → options ≡ options_of settings first
     → (place : Place) → IsPlaceInLines text options place → IsLinesPlace settings text place
@@ -35,10 +41,6 @@ place_with settings text options first begins told place is = elim is [
   | inl unread ↦ inl (unread_with settings text options first begins told unread.0, unread.1)
   | inr f ↦ inr (f.0, f.1, subst (λ o. IsPlaceInObjectLines text o f.0 place) (first_options settings text options first begins told f.0 f.1) f.2)
 ]
-
-pub placed_ok : (P Q : Place → Type 0) {E : Type 0} (r : Result Trouble E) → ((place : Place) → P place → Q place) → IfOk r (IfPlaced P) → IfOk r (IfPlaced Q)
-placed_ok P Q (Ok e) more is = placed_for P Q e more is
-placed_ok P Q (Err e) more is = tt
 
 pub placed_as : (P Q : Place → Type 0) {T : Type 0} (r : Result T Trouble) → ((place : Place) → P place → Q place) → IfErr r (IfPlaced P) → IfErr r (IfPlaced Q)
 placed_as P Q (Ok x) more is = tt

@@ -6,7 +6,7 @@ use Rattle.elasticlunr_message.specs.declared.message.Trouble.TheVariants.{Refus
 
 pub for_reason : (A B : Type 0) (e : Trouble) → (A → B) → IsMemoryOr A e → IsMemoryOr B e
 for_reason A B Memory more is = tt
-for_reason A B (Device failed) more is = tt
+for_reason A B (Device failed) more is = is
 for_reason A B (Refused message) more is = more is
 
 -- a reason that follows from another one
@@ -18,9 +18,3 @@ refused_for A B (Err e) more is = for_reason A B e more is
 pub refused_again : (A B : Type 0) {T : Type 0} (e : Trouble) (r : Result T Trouble) → (A → B) → IsErrAnd r (λ x. x ≡ e) → IsMemoryOr A e → IfErr r (IsMemoryOr B)
 refused_again A B e (Ok x) more same is = tt
 refused_again A B e (Err x) more same is = for_reason A B x more (subst (IsMemoryOr A) (sym same) is)
-
--- for this reason
-pub for_this : (A : Type 0) (e : Trouble) → A → IsMemoryOr A e
-for_this A Memory reason = tt
-for_this A (Device failed) reason = tt
-for_this A (Refused message) reason = reason

@@ -4,7 +4,7 @@ use Rattle.serde_json.specs.Data.{Data}
 use Rattle.elasticlunr_text.specs.Text.{Bytes}
 use Rattle.elasticlunr_parse.specs.Reading.{reading}
 use Rattle.elasticlunr_message.specs.Forms.{asked_or_told}
-use Rattle.elasticlunr_message.specs.Messages.{IsMemoryOr}
+use Rattle.elasticlunr_message.specs.Messages.{IsMemoryOr, IsMemoryOrPlaced}
 use Rattle.elasticlunr_message.specs.declared.form.Form.{Form}
 use Rattle.elasticlunr_message.specs.declared.form.Form.TheVariants.{Job, Objects, Lines}
 use Rattle.elasticlunr_message.specs.declared.message.Trouble.{Trouble}
@@ -40,3 +40,7 @@ FailsInput form settings text = IsNotJson form text ⊎ FailsAs form settings te
 
 abbrev pub IsRefusedInput : Form → Settings → Bytes → Trouble → Type 0
 IsRefusedInput form settings text = IsMemoryOr (FailsInput form settings text)
+
+-- where a text of this form has to be JSON, and is not, it is refused with a place, or memory is wanting
+abbrev pub IsPlacedIfNotJson : Form → Bytes → Trouble → Type 0
+IsPlacedIfNotJson form text trouble = IsNotJson form text → IsMemoryOrPlaced trouble

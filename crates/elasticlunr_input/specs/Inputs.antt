@@ -12,11 +12,14 @@ use Rattle.elasticlunr_job.specs.Answer.{FailsAt}
 use Rattle.elasticlunr_objects.specs.Lines.{StopsAtLine}
 use Rattle.elasticlunr_objects.specs.Objects.{job_of}
 use Rattle.elasticlunr_objects.specs.declared.lines.LastLine.{LastLine}
+use Rattle.elasticlunr_objects.specs.declared.lines.LinesError.{LinesError}
+use Rattle.elasticlunr_objects.specs.declared.lines.LinesError.TheVariants as lines_error
 use Rattle.elasticlunr_place.specs.Members.{IsPlaceOf}
 use Rattle.elasticlunr_place.specs.Places.{IsPlaceIn}
 use Rattle.elasticlunr_place.specs.Whole.{below}
 use Rattle.elasticlunr_place.specs.declared.place.Place.{Place}
 use Rattle.elasticlunr_input.specs.FaultPlaces.{problem_path}
+use Rattle.elasticlunr_message.specs.Messages.{IsLowered}
 use Rattle.elasticlunr_message.specs.declared.message.Trouble.{Trouble}
 use Rattle.elasticlunr_message.specs.declared.message.Trouble.TheVariants as trouble
 
@@ -44,11 +47,34 @@ IsPlaceInLine options line problem place = ((reading line ≡ None) × IsPlaceIn
 abbrev pub IsBelow : ℕ → (Place → Type 0) → Place → Type 0
 IsBelow lines Is place = (at : Place) × (place ≡ below lines at) × Is at
 
--- the first of the values is no document, and the place is that of its problem, which stands in the line that was read last
+-- a place is known that is so, and the other one is so many lines below it, where its line has a number then
+abbrev pub IsPlacedBelow : ℕ → (Place → Type 0) → Option Place → Type 0
+IsPlacedBelow lines Is place = (at : Place) × Is at × IsLowered (Some at) lines place
+
+-- memory is wanting; or the line that was read last is refused, and a place in it is known
+abbrev pub IsUnreadLine : LastLine → Trouble → Type 0
+IsUnreadLine last (trouble.Refused message) = IsPlacedBelow last.before (IsPlaceIn last.text.items) message.place
+IsUnreadLine last trouble.Memory = ⊤
+IsUnreadLine last (trouble.Device _) = ⊥
+
+-- memory is wanting; or the first of the values is no document, and the place is that of its problem, which stands in the line that was read last
 abbrev pub IsRefusedFirst : Options → List Data → LastLine → Trouble → Type 0
 IsRefusedFirst options items last (trouble.Refused message) = (d : Data) × (rest : List Data) × (problem : Problem) × (items ≡ d ∷ rest) × HasProblem options d problem
     × IfSome message.place (IsBelow last.before (IsPlaceInLine options last.text.items problem))
-IsRefusedFirst options items last _ = ⊤
+IsRefusedFirst options items last trouble.Memory = ⊤
+IsRefusedFirst options items last (trouble.Device _) = ⊥
+
+-- it is refused
+abbrev pub IsRefusal : Trouble → Type 0
+IsRefusal (trouble.Refused _) = ⊤
+IsRefusal _ = ⊥
+
+-- the trouble that an error of lines makes: memory is wanting, or the reader failed, where it says so, and else they are refused
+abbrev pub IsTroubleOf : LinesError → Trouble → Type 0
+IsTroubleOf lines_error.Memory e = e ≡ trouble.Memory
+IsTroubleOf (lines_error.Device failed) e = e ≡ trouble.Device failed
+IsTroubleOf (lines_error.Refused _) e = IsRefusal e
+IsTroubleOf (lines_error.Document _ _) e = IsRefusal e
 
 -- lines that were left are refused: the options fail a check, and no place is named; or the line that was read last is the first that is no document, and the place is that of its problem
 abbrev pub AreRefusedLines : Options → Option Bytes → Trouble → Type 0

@@ -1,8 +1,8 @@
 -- An input that is refused, as far as it was read.
-use Rattle.std.specs.Prelude.{◌≡◌, ◌⊎◌, ◌++◌, ⊤, IfSome}
+use Rattle.std.specs.Prelude.{◌≡◌, ◌⊎◌, ◌++◌, ⊤, IfSome, IsSome}
 use Rattle.elasticlunr_text.specs.Text.{Bytes}
 use Rattle.elasticlunr_parse.specs.LineRead.{AreWhole, EndsLine}
-use Rattle.elasticlunr_input.specs.Indexes.{FailsInput}
+use Rattle.elasticlunr_input.specs.Indexes.{FailsInput, IsNotJson}
 use Rattle.elasticlunr_input.specs.Refused.{FailLines}
 use Rattle.elasticlunr_input.specs.RefusedPlaces.{IsInputPlace, IsLinesPlace}
 use Rattle.elasticlunr_input.specs.Settled.{Settings}
@@ -20,9 +20,10 @@ abbrev pub IsReadOf : Form → (text read : Bytes) → Type 0
 IsReadOf Lines text read = BeginsWith text read
 IsReadOf _ text read = read ≡ text
 
--- what was read of an input of this form is refused, and the place is that of what it is refused for; or memory is wanting, or the reader failed
+-- what was read of an input of this form is refused, and the place is that of what it is refused for, and is known where it has to be JSON and is not; or memory is wanting, or the reader failed
 abbrev pub IsRefusedFrom : Form → Settings → Bytes → Trouble → Type 0
-IsRefusedFrom form settings text (Refused message) = (read : Bytes) × IsReadOf form text read × FailsInput form settings read × IfSome message.place (IsInputPlace form settings read)
+IsRefusedFrom form settings text (Refused message) = (read : Bytes) × IsReadOf form text read × FailsInput form settings read
+    × IfSome message.place (IsInputPlace form settings read) × (IsNotJson form read → IsSome message.place)
 IsRefusedFrom form settings text _ = ⊤
 
 -- the same of lines

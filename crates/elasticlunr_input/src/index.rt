@@ -5,7 +5,7 @@ ghost use Rattle.elasticlunr_input.specs.Asked.{IsObjectsLineWith, options_of};
 ghost use Rattle.elasticlunr_input.specs.FaultPlaces.{IsPlaceInObjects};
 ghost use Rattle.elasticlunr_input.specs.Fields.{fields_of_first};
 ghost use Rattle.elasticlunr_message.specs.Forms.{asked_or_told};
-ghost use Rattle.elasticlunr_input.specs.Indexes.{IsIndexAs, IsIndexOf, IsRefusedInput};
+ghost use Rattle.elasticlunr_input.specs.Indexes.{IsIndexAs, IsIndexOf, IsPlacedIfNotJson, IsRefusedInput};
 ghost use Rattle.elasticlunr_input.specs.Inputs.{IsHeadOf};
 ghost use Rattle.elasticlunr_input.specs.Lines.{IsLinesLineWith};
 ghost use Rattle.elasticlunr_input.specs.Refused.{IsRefusedObjects};
@@ -73,6 +73,7 @@ fn text_of_job(
         IsIndexAs form.Job (settings_told settings.now) text.now (string_bytes line)) }
     ensures err { IfErr result (IsRefusedInput form.Job (settings_told settings.now) text.now) }
     ensures place { IfErr result (IfPlaced (IsInputPlace form.Job (settings_told settings.now) text.now)) }
+    ensures placed { IfErr result (IsPlacedIfNotJson form.Job text.now) }
 {
     let value = read_value(alloc, text)?;
     match job_text(alloc, &value, settings) {
@@ -98,6 +99,7 @@ fn text_of_array(
         IsIndexAs form.Objects (settings_told settings.now) text.now (string_bytes line)) }
     ensures err { IfErr result (IsRefusedInput form.Objects (settings_told settings.now) text.now) }
     ensures place { IfErr result (IfPlaced (IsInputPlace form.Objects (settings_told settings.now) text.now)) }
+    ensures placed { IfErr result (IsPlacedIfNotJson form.Objects text.now) }
 {
     let value = read_value(alloc, text)?;
     let Some(items) = value.as_array() else {

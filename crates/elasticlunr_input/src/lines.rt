@@ -12,9 +12,8 @@ ghost use Rattle.elasticlunr_objects.specs.Lines.{FailsLines, IsLineOfLines};
 ghost use Rattle.elasticlunr_place.specs.Members.{IsPlaceOf};
 ghost use Rattle.elasticlunr_place.specs.Places.{IsPlaceIn};
 ghost use Rattle.elasticlunr_input.specs.FaultPlaces.{problem_path};
-ghost use Rattle.elasticlunr_input.specs.Inputs.{AreRefusedLines, HasHead, IsBelow, IsPlaceInLine, IsRefusedFirst};
-ghost use Rattle.elasticlunr_message.specs.Messages.{IsMemoryOr};
-ghost use Rattle.elasticlunr_message.specs.Messages.{IfPlaced};
+ghost use Rattle.elasticlunr_input.specs.Inputs.{AreRefusedLines, HasHead, IsBelow, IsPlacedBelow, IsPlaceInLine, IsRefusedFirst, IsTroubleOf, IsUnreadLine};
+ghost use Rattle.elasticlunr_message.specs.Messages.{IfPlaced, IsMemoryOr, IsMemoryOrDevice};
 ghost use Rattle.serde_json.specs.Data.{Data};
 ghost use Rattle.serde_json.specs.View.{view};
 
@@ -38,7 +37,7 @@ pub(crate) fn read_head<R: BufRead>(
 ) -> Result<Vec<u8>, Trouble>
     ensures ok { IfOk result (λ head.
         HasHead (R.remaining reader.old) (R.remaining reader.new) head.items last.new) }
-    ensures err { IfErr result (IsMemoryOr ⊥) }
+    ensures err { IfErr result IsMemoryOrDevice }
 {
     let mut head = Vec::new(alloc);
     'lines: for before in 0..usize::MAX {
@@ -77,6 +76,7 @@ pub(crate) fn first_value(alloc: Global, last: &LastLine) -> Result<Vec<Value>, 
     ensures err { IfErr result
         (IsMemoryOr ((is_filled last.now.text.items ≡ true) × (reading last.now.text.items ≡ None))) }
     ensures place { IfErr result (IfPlaced (IsBelow last.now.before (IsPlaceIn last.now.text.items))) }
+    ensures placed { IfErr result (IsUnreadLine last.now) }
 {
     let mut values = Vec::new(alloc);
     if is_blank(&last.text) {
@@ -88,7 +88,7 @@ pub(crate) fn first_value(alloc: Global, last: &LastLine) -> Result<Vec<Value>, 
             Ok(values)
         }
         Err(e) if e.is_memory() => Err(Trouble::Memory),
-        Err(e) => Err(line_unread(alloc, last, &e)?),
+        Err(e) => Err(Trouble::Refused(line_unread(alloc, last, &e)?)),
     }
 }
 
@@ -129,16 +129,20 @@ pub(crate) fn check_first(
     };
     match problem_of(alloc, options, value)? {
         None => Ok(()),
-        Some(problem) => Err(line_refused(alloc, options, last, 1, problem)?),
+        Some(problem) => {
+            let message = line_refused(alloc, options, last, 1, problem)?;
+            Err(Trouble::Refused(message))
+        }
     }
 }
 
 /// What is wrong with the line that was read last, which is not JSON.
-fn line_unread(alloc: Global, last: &LastLine, error: &Error) -> Result<Trouble, AllocError>
-    ensures { IfOk result (IfPlaced (IsBelow last.now.before (IsPlaceIn last.now.text.items))) }
+fn line_unread(alloc: Global, last: &LastLine, error: &Error) -> Result<Message, AllocError>
+    ensures { IfOk result (λ message.
+        IsPlacedBelow last.now.before (IsPlaceIn last.now.text.items) message.place) }
 {
     let message = not_json(alloc, &last.text, error)?;
-    Ok(Trouble::Refused(lowered(message, last.before)))
+    Ok(lowered(message, last.before))
 }
 
 /// What is wrong with the value of the line that was read last, which has this number and is no
@@ -150,14 +154,14 @@ fn value_refused(
     value: &Value,
     number: usize,
     problem: Problem,
-) -> Result<Trouble, AllocError>
-    ensures { IfOk result (IfPlaced (IsBelow last.now.before
+) -> Result<Message, AllocError>
+    ensures { IfOk result (λ message. IfSome message.place (IsBelow last.now.before
         (IsPlaceOf None (problem_path (options_told options.now) problem) last.now.text.items))) }
 {
     let text = problem_text(alloc, options, number, Some(value), problem)?;
     let key = Step::Key(problem_key(options, problem));
     let place = place_of(alloc, &last.text, None, path_of(&[key], problem))?;
-    Ok(Trouble::Refused(lowered(Message { place, text }, last.before)))
+    Ok(lowered(Message { place, text }, last.before))
 }
 
 /// What is wrong with the line that was read last, which has this number and is no document.
@@ -167,13 +171,13 @@ pub(crate) fn line_refused(
     last: &LastLine,
     number: usize,
     problem: Problem,
-) -> Result<Trouble, AllocError>
-    ensures { IfOk result (IfPlaced (IsBelow last.now.before
+) -> Result<Message, AllocError>
+    ensures { IfOk result (λ message. IfSome message.place (IsBelow last.now.before
         (IsPlaceInLine (options_told options.now) last.now.text.items problem))) }
 {
     match Value::from_slice(alloc, &last.text) {
         Ok(value) => value_refused(alloc, options, last, &value, number, problem),
-        Err(e) if e.is_memory() => Ok(Trouble::Memory),
+        Err(e) if e.is_memory() => Err(AllocError),
         Err(e) => line_unread(alloc, last, &e),
     }
 }
@@ -185,7 +189,9 @@ fn trouble_of(
     last: &LastLine,
     error: LinesError,
 ) -> Result<Trouble, AllocError>
-    ensures { IfOk result (λ e. (left : Option Bytes) → FailsLines (options_told options.now) left last.now error
+    ensures cause { IfOk result (IsTroubleOf error) }
+    ensures refused { IfOk result (λ e. (left : Option Bytes)
+        → FailsLines (options_told options.now) left last.now error
         → AreRefusedLines (options_told options.now) left e) }
 {
     match error {
@@ -195,9 +201,10 @@ fn trouble_of(
             let said = settings_fault(alloc, options, refusal)?;
             Ok(Trouble::Refused(unplaced(said)))
         }
-        LinesError::Document(number, problem) => line_refused(
-            alloc, options, last, number, problem,
-        ),
+        LinesError::Document(number, problem) => {
+            let message = line_refused(alloc, options, last, number, problem)?;
+            Ok(Trouble::Refused(message))
+        }
     }
 }
 

@@ -54,9 +54,6 @@ module _ {L P X Y : Type 0} {O : X → Type 0} {F : Y → Type 0} {p : _} {g : _
   pub works_then : (old new last : Index L P X Y O F p g) → last ≡ new → IsFailed new ↔ IsFailed old → ¬ IsFailed old → ¬ IsFailed last
   works_then old new last is fails works failed = works (fails.0 (subst IsFailed is failed))
 
-  pub works_still : (old last : Index L P X Y O F p g) → last ≡ old → ¬ IsFailed old → ¬ IsFailed last
-  works_still old last is works failed = works (subst IsFailed is failed)
-
   -- the compaction that the job asks for
   pub compacted_then : (name_of : L → Bytes) (name_text : (v : X) × O v → Bytes) (old new last : Index L P X Y O F p g) (wanted : Bool) → last ≡ new → wanted ≡ true
       → ((commands : Commands) → StandsFor name_of name_text old commands → StandsFor name_of name_text new (commands ▸ compact))

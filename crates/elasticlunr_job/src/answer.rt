@@ -1,6 +1,6 @@
 //! What is written for an input.
 
-ghost use Rattle.std.specs.Prelude.{◌≡◌, Any, Some, string_bytes, IfOk, IfErr, OnOk};
+ghost use Rattle.std.specs.Prelude.{◌≡◌, ◌↔◌, ◌⊎◌, Any, Err, Some, string_bytes, IfOk, IfErr, IsErr, OnOk};
 ghost use Rattle.elasticlunr.specs.History.{Commands};
 ghost use Rattle.elasticlunr.specs.Index.{fields_of, plan_of, IsDocument, IsFailed, StandsFor};
 ghost use Rattle.elasticlunr.specs.Printed.{IsTextAfter};
@@ -28,7 +28,8 @@ fn text_of(index: &Index<AnyLanguage>, pretty: bool) -> Result<String, IndexErro
         → StandsFor language_name name_text index.now commands
         → IsTextAfter (printed_text pretty) (plan_of language_name name_text index.now)
         commands (string_bytes text)) }
-    ensures err { IfErr result (λ e. ¬ IsFailed index.now → e ≡ IndexError.Memory) }
+    ensures failed { (result ≡ Err IndexError.Failed) ↔ IsFailed index.now }
+    ensures errors { IfErr result (λ e. (e ≡ IndexError.Failed) ⊎ (e ≡ IndexError.Memory)) }
 {
     if pretty {
         index.to_json_pretty()
@@ -44,7 +45,8 @@ pub fn line_of(index: &Index<AnyLanguage>, pretty: bool) -> Result<String, Stop>
         → (text : Bytes)
         × IsTextAfter (printed_text pretty) (plan_of language_name name_text index.now) commands text
         × (string_bytes line_text ≡ line text)) }
-    ensures err { IfErr result (λ stop. ¬ IsFailed index.now → stop ≡ Stop.Memory) }
+    ensures failed { IsFailed index.now → IsErr result }
+    ensures err { IfErr result (λ stop. stop ≡ Stop.Memory) }
 {
     let mut text = text_of(index, pretty)?;
     text.push('\n')?;

@@ -4,8 +4,7 @@ ghost use Rattle.elasticlunr_parse.specs.Lines.{is_filled, is_space, lines_of};
 ghost use Rattle.elasticlunr_message.specs.Forms.{asked_or_told, begins_an_array, form_word, has, is_object_line, line_form, told_form, value_form};
 ghost use Rattle.elasticlunr_parse.specs.Reading.{reading};
 ghost use Rattle.elasticlunr_place.specs.Places.{IsPlaceIn};
-ghost use Rattle.elasticlunr_message.specs.Messages.{IsMemoryOr};
-ghost use Rattle.elasticlunr_message.specs.Messages.{IfPlaced};
+ghost use Rattle.elasticlunr_message.specs.Messages.{IfPlaced, IsMemoryOr, IsMemoryOrPlaced};
 ghost use Rattle.elasticlunr_message.specs.declared.form.Form.{Form};
 ghost use Rattle.serde_json.specs.View.{view};
 
@@ -130,6 +129,7 @@ pub fn read_value(alloc: Global, text: &[u8]) -> Result<Value, Trouble>
     ensures ok { IfOk result (λ value. reading text.now ≡ Some (view value)) }
     ensures err { IfErr result (IsMemoryOr (reading text.now ≡ None)) }
     ensures place { IfErr result (IfPlaced (IsPlaceIn text.now)) }
+    ensures placed { IfErr result IsMemoryOrPlaced }
 {
     match Value::from_slice(alloc, text) {
         Ok(value) => Ok(value),

@@ -1,5 +1,6 @@
 //! The line and the column of a byte of a text.
-ghost use Rattle.std.specs.Prelude.{◌≡◌, IfSome};
+ghost use Rattle.std.specs.Option.{SomeIff};
+ghost use Rattle.std.specs.Prelude.{◌≡◌, ◌+◌, ◌<◌, ◌^◌};
 ghost use Rattle.elasticlunr_place.specs.Places.{is_first, place_at, IsLineStart};
 ghost use Rattle.elasticlunr_place.specs.Whole.{below};
 
@@ -32,7 +33,7 @@ pub fn place_at(text: &[u8], offset: usize) -> Place
 
 /// The place so many lines below another one, where its line has a number.
 pub fn below(lines: usize, place: Place) -> Option<Place>
-    ensures { IfSome result (λ found. found ≡ below lines place) }
+    ensures { SomeIff result (lines + place.line < 2 ^ 64) (below lines place) }
 {
     let line = lines.checked_add(place.line)?;
     Some(Place {

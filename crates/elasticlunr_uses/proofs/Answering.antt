@@ -10,7 +10,7 @@ use Rattle.elasticlunr.specs.ReadDocuments.{AreRead, HasReadToken}
 use Rattle.elasticlunr_search.specs.Words.{Asks, Finds}
 use Rattle.elasticlunr_search.specs.declared.words.Join.TheVariants.{Any}
 
-zero_place : (i : ℕ) → slice_get (codes "body" ∷ []) i ≡ Some (codes "body") → i ≡ 0
+pub zero_place : (i : ℕ) → slice_get (codes "body" ∷ []) i ≡ Some (codes "body") → i ≡ 0
 zero_place zero at = refl
 zero_place (suc i) at = absurd (cc)
 
@@ -19,7 +19,7 @@ module _ (reads : ℕ → Bytes → List Text → Type 0) where
   read_token body token has value same None is = absurd is
   read_token body token has value same (Some ts) is = (is, has ts (subst (λ v. reads 0 v ts) same is))
 
-  first_has : (body : Bytes) (token : Text) → ((ts : List Text) → reads 0 body ts → Contains ts token) → (given : List Given) → map (λ g. g.value) given ≡ body ∷ [] → ((i : ℕ) → IfSome (slice_get given i) (IsGiven (codes "body" ∷ []) (codes "id") reads i))
+  pub first_has : (body : Bytes) (token : Text) → ((ts : List Text) → reads 0 body ts → Contains ts token) → (given : List Given) → map (λ g. g.value) given ≡ body ∷ [] → ((i : ℕ) → IfSome (slice_get given i) (IsGiven (codes "body" ∷ []) (codes "id") reads i))
       → IsSomeAnd (slice_get given 0) (λ g. IsSomeAnd g.tokens (λ ts. reads 0 g.value ts × Contains ts token))
   first_has body token has [] values each = absurd (cc (values))
   first_has body token has (g ∷ given) values each =

@@ -17,7 +17,8 @@ read_given : (fields : List Bytes) (reference_field : Bytes) (reads other : ℕ 
 read_given fields reference_field reads other only i None is = tt
 read_given fields reference_field reads other only i (Some g) is = record { of_reference = is.of_reference; of_value = λ no. read_tokens (reads i g.value) (other i g.value) (only i g.value) g.tokens (is.of_value no) }
 
-read_as : (fields : List Bytes) (reference_field : Bytes) (reads other : ℕ → Bytes → List Text → Type 0) → ReadsOnly reads other → (r : Bytes) (values : List Bytes) (d : Document) → IsDocument fields reference_field reads r values d → IsDocument fields reference_field other r values d
+-- where the one reads only what the other does
+pub read_as : (fields : List Bytes) (reference_field : Bytes) (reads other : ℕ → Bytes → List Text → Type 0) → ReadsOnly reads other → (r : Bytes) (values : List Bytes) (d : Document) → IsDocument fields reference_field reads r values d → IsDocument fields reference_field other r values d
 read_as fields reference_field reads other only r values d is = record { its_reference = is.its_reference; its_values = is.its_values; each = λ i. read_given fields reference_field reads other only i (slice_get d.given i) (is.each i) }
 
 -- a document of an index with the settings of another one, as a language reads it that the other one reads by

@@ -1,3 +1,6 @@
 pub mod Documents
 pub mod Answering
 pub mod Orders
+pub mod Plans
+pub mod Sharing
+pub mod Stages

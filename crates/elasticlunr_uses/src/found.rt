@@ -1,17 +1,21 @@
 //! Built, printed, found.
 //!
-//! Two documents go into an English index, it is printed, and the text is searched. Proved: each
-//! token that the query and the text of the second document have leads to its reference. A caller
-//! has to know that a token is what the language leaves of a word: trimmed, no stop word, stemmed.
-ghost use Rattle.std.specs.Prelude.{List, IfOk, Contains};
+//! Two documents go into an English index, it is printed, and the text is searched. Proved: found
+//! are exactly the references whose text has a token of the query. A caller has to know that a
+//! token is what the language leaves of a word (trimmed, no stop word, stemmed), and that of two
+//! documents with one reference the later one stays.
+ghost use Rattle.std.specs.Prelude.{◌≡◌, ◌≢◌, ◌⊎◌, List, IfOk, Contains};
 ghost use Rattle.elasticlunr_text.specs.Text.{Text, bytes_of};
 ghost use Rattle.elasticlunr_lang.specs.declared.any.AnyLanguage.TheVariants.{English as english};
+ghost use Rattle.elasticlunr.specs.Found.{AreThose};
 ghost use Rattle.elasticlunr.specs.Kept.{KeptReads};
 ghost use Rattle.elasticlunr_search.specs.Words.{Asks};
+ghost use Rattle.elasticlunr_uses.specs.Sharing.{SharesToken};
 
 use crate::error::UseError;
 use elasticlunr::Index;
 use elasticlunr::lang::English;
+use elasticlunr::laws::calls::a_kept_language_makes_one_document;
 use elasticlunr_search::{Join, Searcher};
 use std::alloc::Global;
 
@@ -24,10 +28,14 @@ pub fn built_printed_found(
     text: &str,
     query: &str,
 ) -> Result<Vec<String>, UseError>
-    ensures { IfOk result (λ found. (token : Text) → Asks (KeptReads english) 0 query.now token
+    ensures found { IfOk result (λ found. AreThose (λ r.
+        ((r ≡ reference.now) × SharesToken query.now text.now)
+        ⊎ ((r ≡ other.now) × (r ≢ reference.now) × SharesToken query.now other_text.now)) (bytes_of found.items)) }
+    ensures shared { IfOk result (λ found. (token : Text) → Asks (KeptReads english) 0 query.now token
         → ((tokens : List Text) → KeptReads english 0 text.now tokens → Contains tokens token)
         → Contains (bytes_of found.items) reference.now) }
 {
+    a_kept_language_makes_one_document();
     let mut index = Index::new(alloc, &["body"])?;
     index.add_doc(other, &[other_text])?;
     index.add_doc(reference, &[text])?;

@@ -19,7 +19,13 @@ pub fn in_either_order(
     one: Page<'_>,
     other: Page<'_>,
 ) -> Result<(String, String), IndexError>
-    ensures { IfOk result (λ texts. one.entry.reference.now ≢ other.entry.reference.now
+    ensures forwards { IfOk result (λ texts. IsTextOfCalls english (codes "body" ∷ [])
+        (adding one.entry.reference.now (one.entry.text.now ∷ [])
+        ∷ adding other.entry.reference.now (other.entry.text.now ∷ []) ∷ []) (string_bytes texts.0)) }
+    ensures backwards { IfOk result (λ texts. IsTextOfCalls english (codes "body" ∷ [])
+        (adding other.entry.reference.now (other.entry.text.now ∷ [])
+        ∷ adding one.entry.reference.now (one.entry.text.now ∷ []) ∷ []) (string_bytes texts.1)) }
+    ensures equal { IfOk result (λ texts. one.entry.reference.now ≢ other.entry.reference.now
         → string_bytes texts.0 ≡ string_bytes texts.1) }
 {
     current_documents_decide_the_text();

@@ -1,4 +1,5 @@
 //! A page of a site.
+ghost use Rattle.std.specs.Prelude.{◌≡◌};
 
 /// A page: its reference, and its text for the field `body`.
 #[derive(Clone, Copy)]
@@ -8,7 +9,10 @@ pub struct Page<'a> {
 }
 
 impl<'a> Page<'a> {
-    pub fn new(reference: &'a str, text: &'a str) -> Page<'a> {
+    pub fn new(reference: &'a str, text: &'a str) -> Page<'a>
+        ensures reference { result.reference.now ≡ reference.now }
+        ensures text { result.text.now ≡ text.now }
+    {
         Page { reference, text }
     }
 }

@@ -22,7 +22,16 @@ pub fn updated_and_new(
     goes: Page<'_>,
     new_text: &str,
 ) -> Result<(String, String), IndexError>
-    ensures { IfOk result (λ texts. stays.entry.reference.now ≢ changes.entry.reference.now
+    ensures updated { IfOk result (λ texts. IsTextOfCalls english (codes "body" ∷ [])
+        (adding stays.entry.reference.now (stays.entry.text.now ∷ [])
+        ∷ adding changes.entry.reference.now (changes.entry.text.now ∷ [])
+        ∷ adding goes.entry.reference.now (goes.entry.text.now ∷ [])
+        ∷ adding changes.entry.reference.now (new_text.now ∷ [])
+        ∷ removing goes.entry.reference.now ∷ compacting ∷ []) (string_bytes texts.0)) }
+    ensures new { IfOk result (λ texts. IsTextOfCalls english (codes "body" ∷ [])
+        (adding stays.entry.reference.now (stays.entry.text.now ∷ [])
+        ∷ adding changes.entry.reference.now (new_text.now ∷ []) ∷ []) (string_bytes texts.1)) }
+    ensures equal { IfOk result (λ texts. stays.entry.reference.now ≢ changes.entry.reference.now
         → stays.entry.reference.now ≢ goes.entry.reference.now
         → changes.entry.reference.now ≢ goes.entry.reference.now → string_bytes texts.0 ≡ string_bytes texts.1) }
 {

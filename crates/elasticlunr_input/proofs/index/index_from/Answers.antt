@@ -1,14 +1,14 @@
 use Rattle.std.proofs.Common.{◌≡◌, ◌++◌, ap, subst, sym, ◌∙◌, refl, IfSome, string_bytes}
 use Rattle.elasticlunr_job.proofs.Stops.{err_more, ok_more}
 use Rattle.elasticlunr_message.specs.Forms.{asked_or_told}
-use Rattle.elasticlunr_input.specs.Indexes.{IsRefusedInput}
+use Rattle.elasticlunr_input.specs.Indexes.{IsPlacedIfNotJson, IsRefusedInput}
 use Rattle.elasticlunr_input.specs.Inputs.{HasHead}
 use Rattle.elasticlunr_message.specs.Messages.{IfPlaced}
 use Rattle.elasticlunr_input.specs.RefusedPlaces.{IsInputPlace}
 use Rattle.elasticlunr_input.specs.Settled.{settings_told}
 use Rattle.elasticlunr_message.specs.declared.form.Form.TheVariants.{Job, Objects}
 use Rattle.elasticlunr_input.proofs.HeadLemmas.{exit_at}
-use Rattle.elasticlunr_input.proofs.InputLemmas.{err_both, lines_err, lines_ok, not_read, whole_err, whole_ok}
+use Rattle.elasticlunr_input.proofs.InputLemmas.{err_three, lines_err, lines_ok, not_read, whole_err, whole_ok}
 use Rattle.elasticlunr_input.proofs.index.index_from.Goals as goal
 
 pub returns-in_err-text-clause-err : goal.returns-in_err-text-clause-err
@@ -54,9 +54,9 @@ returns-in_ok-read_to_end-in-Job-clause-err g c =
     let settings = settings_told c.args.settings.now in
     let told = ap (asked_or_told c.args.asked) (sym c.deref.ensures.value) ∙ (sym c.in_ok-asked_or_told.ensures ∙ c.in-Job.is) in
     let whole = subst (λ bytes. IfSome (left c.read_head.new.reader) (λ rest. bytes ≡ head ++ rest)) (sym c.deref-in-Job.ensures.value) c.in_ok-read_to_end-in-Job.ensures.bytes in
-    err_both c.text_of_job.result (IsRefusedInput Job settings all) (IfPlaced (IsInputPlace Job settings all)) _
-    (λ e is placed. whole_err c.args.asked settings Job (left c.args.reader.now) (left c.read_head.new.reader) head all c.read_head.new.last e c.in_ok-text.ensures.ok told whole refl is placed)
-    c.text_of_job.ensures.err c.text_of_job.ensures.place
+    err_three c.text_of_job.result (IsRefusedInput Job settings all) (IfPlaced (IsInputPlace Job settings all)) (IsPlacedIfNotJson Job all) _
+    (λ e is there placed. whole_err c.args.asked settings Job (left c.args.reader.now) (left c.read_head.new.reader) head all c.read_head.new.last e c.in_ok-text.ensures.ok told whole refl is there placed)
+    c.text_of_job.ensures.err c.text_of_job.ensures.place c.text_of_job.ensures.placed
 
 pub returns-in_ok-read_to_end-in-Objects-clause-ok : goal.returns-in_ok-read_to_end-in-Objects-clause-ok
 returns-in_ok-read_to_end-in-Objects-clause-ok g c =
@@ -77,6 +77,6 @@ returns-in_ok-read_to_end-in-Objects-clause-err g c =
     let settings = settings_told c.args.settings.now in
     let told = ap (asked_or_told c.args.asked) (sym c.deref.ensures.value) ∙ (sym c.in_ok-asked_or_told.ensures ∙ c.in-Objects.is) in
     let whole = subst (λ bytes. IfSome (left c.read_head.new.reader) (λ rest. bytes ≡ head ++ rest)) (sym c.deref-in-Objects.ensures.value) c.in_ok-read_to_end-in-Objects.ensures.bytes in
-    err_both c.text_of_array.result (IsRefusedInput Objects settings all) (IfPlaced (IsInputPlace Objects settings all)) _
-    (λ e is placed. whole_err c.args.asked settings Objects (left c.args.reader.now) (left c.read_head.new.reader) head all c.read_head.new.last e c.in_ok-text.ensures.ok told whole refl is placed)
-    c.text_of_array.ensures.err c.text_of_array.ensures.place
+    err_three c.text_of_array.result (IsRefusedInput Objects settings all) (IfPlaced (IsInputPlace Objects settings all)) (IsPlacedIfNotJson Objects all) _
+    (λ e is there placed. whole_err c.args.asked settings Objects (left c.args.reader.now) (left c.read_head.new.reader) head all c.read_head.new.last e c.in_ok-text.ensures.ok told whole refl is there placed)
+    c.text_of_array.ensures.err c.text_of_array.ensures.place c.text_of_array.ensures.placed

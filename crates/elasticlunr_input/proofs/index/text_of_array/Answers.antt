@@ -7,9 +7,11 @@ use Rattle.elasticlunr_input.specs.Refused.{FailObjects}
 use Rattle.elasticlunr_input.specs.RefusedPlaces.{IsInputPlace}
 use Rattle.elasticlunr_input.specs.Settled.{settings_told}
 use Rattle.elasticlunr_place.specs.Members.{IsPlaceOf}
+use Rattle.elasticlunr_message.specs.Messages.{IsMemoryOrPlaced}
 use Rattle.elasticlunr_message.specs.declared.form.Form.TheVariants as form
 use Rattle.elasticlunr_input.proofs.LinePlaces.{placed_as, some_for}
 use Rattle.elasticlunr_input.proofs.Refusals.{refused_for}
+use Rattle.elasticlunr_input.proofs.InputLemmas.{err_unless}
 use Rattle.elasticlunr_input.proofs.index.text_of_array.Goals as goal
 
 pub returns-clause-err : goal.returns-clause-err
@@ -37,3 +39,9 @@ returns-in_default-clause-place c =
     let text = c.args.text.now in
     some_for (IsPlaceOf None [] text) (IsInputPlace form.Objects settings text) c.in_ok-message.message.place
     (λ place is. inr (view c.in_ok-value.value, c.in_ok-value.ensures.ok, inl (sym c.in_default.ensures, is))) c.in_ok-message.ensures
+
+pub returns-clause-placed : goal.returns-clause-placed
+returns-clause-placed c = err_unless c.text_of_objects.result _ IsMemoryOrPlaced (λ none. (cc (c.in_ok-value.ensures.ok)))
+
+pub returns-in_default-clause-placed : goal.returns-in_default-clause-placed
+returns-in_default-clause-placed c = λ none. (cc (c.in_ok-value.ensures.ok))

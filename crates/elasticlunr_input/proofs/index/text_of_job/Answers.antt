@@ -26,3 +26,6 @@ returns-clause-place c =
     let fails = subst (StopsWithReason (IsRefusedWith settings d)) c.in-Err-Refused.field-0-is c.in-Err-Refused.ensures.err in
     some_for (IsPlaceInJob text d c.in-Err-Refused.refusal) (IsInputPlace Job settings text) c.in_ok-job_refused-in-Err-Refused.field-0.place
     (λ place is. inr (d, c.in_ok-value.ensures.ok, (c.in-Err-Refused.refusal, fails, is))) c.in_ok-job_refused-in-Err-Refused.ensures
+
+pub returns-clause-placed : goal.returns-clause-placed
+returns-clause-placed c = λ none. (cc (c.in_ok-value.ensures.ok))

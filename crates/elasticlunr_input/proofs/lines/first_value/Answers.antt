@@ -3,7 +3,6 @@ use Rattle.serde_json.specs.View.{view}
 use Rattle.elasticlunr_parse.specs.Lines.{is_blank, is_filled}
 use Rattle.elasticlunr_parse.specs.Reading.{reading}
 use Rattle.elasticlunr_parse.proofs.Readings.{reading_some, reading_none}
-use Rattle.elasticlunr_input.proofs.Refusals.{for_this}
 use Rattle.elasticlunr_input.proofs.lines.first_value.Goals as goal
 
 pub returns-in-Ok-clause-ok : goal.returns-in-Ok-clause-ok
@@ -20,4 +19,4 @@ returns-clause-err c =
     let line = c.args.last.now.text.items in
     let blank : is_blank line ≡ false = ap is_blank (sym c.deref.ensures.value) ∙ (sym c.is_blank.ensures ∙ c.if-is_blank.false) in
     let none = ap reading (sym c.deref-2.ensures.value) ∙ reading_none _ (c.in-Err.ensures.err (λ m. true≢false (sym (c.is_memory.ensures.1 m) ∙ c.if-is_memory.false))) in
-    for_this _ c.in_ok-line_unread-in-Err-2.field-0 (ap (λ b. if b then false else true) blank, none)
+    (ap (λ b. if b then false else true) blank, none)

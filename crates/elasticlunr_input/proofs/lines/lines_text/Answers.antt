@@ -5,4 +5,4 @@ use Rattle.elasticlunr_input.proofs.lines.lines_text.Goals as goal
 
 pub returns-clause-err : goal.returns-clause-err
 returns-clause-err g c =
-    c.in_ok-trouble_of-in-Err.ensures _ (subst (λ known. FailsLines (options_told c.args.options.now) known c.lines_line.new.last c.in-Err.e) c.chain-all.ensures.bytes c.in-Err.ensures.err)
+    c.in_ok-trouble_of-in-Err.ensures.refused _ (subst (λ known. FailsLines (options_told c.args.options.now) known c.lines_line.new.last c.in-Err.e) c.chain-all.ensures.bytes c.in-Err.ensures.err)

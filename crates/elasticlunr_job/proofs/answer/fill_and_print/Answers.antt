@@ -4,7 +4,7 @@ use Rattle.elasticlunr_lang.specs.Known.{language_name}
 use Rattle.elasticlunr_job.specs.Answer.{HasTooMany}
 use Rattle.elasticlunr_job.specs.Filled.{Fits}
 use Rattle.elasticlunr_parse.specs.JobTold.{document_told, job_told}
-use Rattle.elasticlunr_job.proofs.Alike.{compacted_not, compacted_then, document_alike, fits_told, not_refused, plan_alike, same_settings, still_works, too_many_told, works_still, works_then}
+use Rattle.elasticlunr_job.proofs.Alike.{compacted_not, compacted_then, document_alike, fits_told, not_refused, plan_alike, same_settings, still_works, too_many_told, works_then}
 use Rattle.elasticlunr_job.proofs.Filling.{Any_at, All_more, All_whole, done, next_removed, next_taken}
 use Rattle.elasticlunr_job.proofs.Printing.{carried_line}
 use Rattle.elasticlunr_job.proofs.Stops.{err_more, later_too_many, ok_always, ok_more}
@@ -54,12 +54,7 @@ loop-reference-preserved g c = record {
 }
 
 pub returns-clause-err : goal.returns-clause-err
-returns-clause-err g c = err_more c.line_of.result _ _
-    (λ stop memory works. inl (memory (elim c.if-job.branch [
-      | then-job+in_ok-compact w ↦ works_then c.loop-reference.index w.compact.new.self c.if-job.index w.index-is w.compact.ensures.fails (c.loop-reference.invariant.works works)
-      | else-job w ↦ works_still c.loop-reference.index c.if-job.index w.index-is (c.loop-reference.invariant.works works)
-    ])))
-    c.line_of.ensures.err
+returns-clause-err g c = err_more c.line_of.result _ _ (λ stop memory works. inl memory) c.line_of.ensures.err
 
 pub returns-clause-fits : goal.returns-clause-fits
 returns-clause-fits g c = ok_always c.line_of.result (subst (λ ds. Fits (fields_of c.args.index) (map document_told ds)) c.deref-doc-items.ensures.value

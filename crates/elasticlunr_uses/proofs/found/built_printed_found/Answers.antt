@@ -10,10 +10,11 @@ use Rattle.elasticlunr.specs.Printed.{IsPrintOf}
 use Rattle.elasticlunr.specs.Reading.{LanguageReads}
 use Rattle.elasticlunr_uses.proofs.Documents.{document_read}
 use Rattle.elasticlunr_uses.proofs.Answering.{finds_the_last, at_fields}
+use Rattle.elasticlunr_uses.proofs.Sharing.{finds_of_two}
 use Rattle.elasticlunr_uses.proofs.found.built_printed_found.Goals as goal
 
 pub returns : goal.returns
-returns c token asks has =
+returns c =
     let language : English = record {} in
     let reading = LanguageReads words (language_leaves english) in
     let index = c.in_ok-index.index in
@@ -29,6 +30,10 @@ returns c token asks has =
     let stands = second.2 (none ▸ add first.0) (first.2 none c.in_ok-index.ensures.empty) in
     let print = c.in_ok-printed.ensures.print commands stands in
     let searches = c.in_ok-searcher.ensures.stands _ commands (subst (IsPrintOf _ commands) (sym c.as_str.ensures.value) print) in
-    finds_the_last reading first.0 second.0 c.args.reference.now c.args.text.now d.each e c.args.query.now (bytes_of c.in_ok-found.found.items)
-    (at_fields reading _ _ (ap (λ ch. ch.fields) twice ∙ given.fields) (ap (λ ch. ch.reference_field) twice ∙ given.reference_field) commands c.args.query.now (bytes_of c.in_ok-found.found.items)
-    (c.in_ok-found.ensures.found language _ commands searches)) token asks has
+    let found = bytes_of c.in_ok-found.found.items in
+    let finds = at_fields reading _ _ (ap (λ ch. ch.fields) twice ∙ given.fields) (ap (λ ch. ch.reference_field) twice ∙ given.reference_field) commands c.args.query.now found
+    (c.in_ok-found.ensures.found language _ commands searches) in
+    record {
+      found = finds_of_two reading first.0 second.0 c.args.other.now c.args.other_text.now c.args.reference.now c.args.text.now d e (c.a_kept_language_makes_one_document.ensures.reading english) c.args.query.now found finds;
+      shared = finds_the_last reading first.0 second.0 c.args.reference.now c.args.text.now d.each e c.args.query.now found finds;
+    }

@@ -4,8 +4,14 @@ use Rattle.serde_json.specs.Written.{compact_text}
 use Rattle.elasticlunr_uses.proofs.Orders.{either_order, not_both, two_differ}
 use Rattle.elasticlunr_uses.proofs.order.in_either_order.Goals as goal
 
-pub returns : goal.returns
-returns c apart =
+pub returns-clause-forwards : goal.returns-clause-forwards
+returns-clause-forwards c = c.in_ok-forwards.ensures
+
+pub returns-clause-backwards : goal.returns-clause-backwards
+returns-clause-backwards c = c.in_ok-backwards.ensures
+
+pub returns-clause-equal : goal.returns-clause-equal
+returns-clause-equal c apart =
     let one = c.args.one.reference.now in
     let other = c.args.other.reference.now in
     let text = c.args.one.text.now ∷ [] in

@@ -5,8 +5,14 @@ use Rattle.elasticlunr.specs.Calls.{adding, removing}
 use Rattle.elasticlunr_uses.proofs.Orders.{after_update, not_both, two_differ}
 use Rattle.elasticlunr_uses.proofs.update.updated_and_new.Goals as goal
 
-pub returns : goal.returns
-returns c stays_changes stays_goes changes_goes =
+pub returns-clause-updated : goal.returns-clause-updated
+returns-clause-updated c = c.in_ok-updated.ensures
+
+pub returns-clause-new : goal.returns-clause-new
+returns-clause-new c = c.in_ok-new.ensures
+
+pub returns-clause-equal : goal.returns-clause-equal
+returns-clause-equal c stays_changes stays_goes changes_goes =
     let stays = c.args.stays.reference.now in
     let changes = c.args.changes.reference.now in
     let goes = c.args.goes.reference.now in

@@ -9,11 +9,12 @@ use Rattle.serde_json.specs.Data.{Data}
 use Rattle.serde_json.specs.Find.{get}
 use Rattle.elasticlunr.specs.Shape.{HasTrie, HasTries}
 
-push : (R : Bytes → Table → Type 0) (names : List Bytes) (tables : List Table) (name : Bytes) (table : Table) → AllZip R names tables → R name table → AllZip R (names ++ name ∷ []) (tables ++ table ∷ [])
-push R [] [] name table all r = (r, tt)
-push R [] (T ∷ tables) name table all r = absurd all
-push R (n ∷ names) [] name table all r = absurd all
-push R (n ∷ names) (T ∷ tables) name table all r = (all.0, push R names tables name table all.1 r)
+-- one more on each side
+pub push : {A B : Type 0} (R : A → B → Type 0) (xs : List A) (ys : List B) (x : A) (y : B) → AllZip R xs ys → R x y → AllZip R (xs ++ x ∷ []) (ys ++ y ∷ [])
+push R [] [] x y all r = (r, tt)
+push R [] (w ∷ ys) x y all r = absurd all
+push R (v ∷ xs) [] x y all r = absurd all
+push R (v ∷ xs) (w ∷ ys) x y all r = (all.0, push R xs ys x y all.1 r)
 
 -- one field more
 pub next_trie : (index : Data) (names : List (String Global)) (i : ℕ) (name : String Global) (key : Bytes) (tables after : List Table) (table : Table) → i < length names → name ≡ get_or names i name → key ≡ string_bytes name

@@ -9,5 +9,6 @@ pub mod Steps
 pub mod Asking
 pub mod Searching
 pub mod Wording
+pub mod Several
 pub mod Joined
 pub mod Requested

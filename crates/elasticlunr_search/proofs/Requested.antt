@@ -1,16 +1,21 @@
 -- How many values a request has, and why one finds nothing.
-use Rattle.std.proofs.Common.{◌≡◌, ◌⊎◌, inl, inr, List, [], ◌∷◌, length, Result, refl, ◌∙◌, ap, sym, None, Bool, true, false, Ok, Err}
+use Rattle.std.proofs.Common.{◌≡◌, ◌⊎◌, ◌<◌, inl, inr, ℕ, zero, suc, List, [], ◌∷◌, length, get_or, Option, Result, refl, ◌∙◌, ap, sym, subst, arith, None, Some, Bool, true, false, true≢false, bytes_eq, Ok, Err}
+use Rattle.std.specs.Prelude.{Contains, IsSomeAnd}
 use Rattle.std.specs.List.{after_first}
 use Rattle.std.specs.Result.{IfErr, IsErrAnd}
+use Rattle.std.proofs.lemmas.List.Folds.{list_any_at}
 use Rattle.std.proofs.lemmas.Result.{err_from_is_err_and}
+use Rattle.std.proofs.lemmas.Slice.Eq.{bytes_eq-Decides}
 use Rattle.serde_json.specs.Data.{Data, item, no_items}
 use Rattle.serde_json.specs.Read.{read}
 use Rattle.serde_json.specs.View.{items_view}
 use Rattle.serde_json.specs.declared.value.Value.{Value}
 use Rattle.elasticlunr_text.specs.Text.{Bytes}
+use Rattle.elasticlunr.specs.Fields.{has_name}
 use Rattle.elasticlunr_search.specs.Answers.{Asks, HasBelow, is_line_feed}
-use Rattle.elasticlunr_search.specs.Fields.{HasNoField}
+use Rattle.elasticlunr_search.specs.Fields.{HasNoField, IsIndexWith}
 use Rattle.elasticlunr_search.specs.Unanswered.{IsNotSearched, IsRefusedBelow, refusal_of}
+use Rattle.elasticlunr_search.specs.Words.{asked_fields}
 use Rattle.elasticlunr_search.specs.declared.answer.Refusal.{Refusal}
 use Rattle.elasticlunr_search.specs.declared.answer.Refusal.TheVariants as refusal
 use Rattle.elasticlunr_search.specs.declared.error.SearchError.{SearchError}
@@ -25,12 +30,22 @@ three (x ∷ y ∷ []) a b d is = absurd (cc)
 three (x ∷ y ∷ z ∷ []) a b d is = refl
 three (x ∷ y ∷ z ∷ w ∷ values) a b d is = absurd (cc)
 
--- a request that a searcher refuses is refused for its field, or memory is wanting
-pub not_found : {T : Type 0} (r : Result T Refusal) (v : Data) (request : Request) (e : SearchError) → IsErrAnd r (λ y. y ≡ refusal_of e)
-    → (e ≡ NoSuchField) ⊎ (e ≡ Memory) → (e ≡ NoSuchField → HasNoField v request.field.now) → IfErr r (IsNotSearched v request)
-not_found r v request e is only none =
+-- a query that a searcher refuses is refused for its field, or memory is wanting
+pub not_found : {T : Type 0} (r : Result T Refusal) (v : Data) (field : Option Bytes) (e : SearchError) → IsErrAnd r (λ y. y ≡ refusal_of e)
+    → (e ≡ NoSuchField) ⊎ (e ≡ Memory) → (e ≡ NoSuchField → IsSomeAnd field (HasNoField v)) → IfErr r (IsNotSearched v field)
+not_found r v field e is only none =
     let p = err_from_is_err_and r is in
     rw (p.1, p.2) (elim only [ inl n ↦ rw n (none n) | inr m ↦ rw m tt ])
+
+-- one of the fields in which is searched is none of all fields only where one was asked for
+pub not_asked : (v : Data) (all : List Bytes) → IsIndexWith v all → (field : Option Bytes) → (name : Bytes) × Contains (asked_fields field all) name × (has_name name all ≡ false) → IsSomeAnd field (HasNoField v)
+not_asked v all is None lacks =
+    let there : has_name lacks.0 all ≡ true = list_any_at (λ other. bytes_eq other lacks.0) all lacks.1.0 lacks.0 lacks.1.1 ((bytes_eq-Decides _ lacks.0).1 lacks.1.2) in
+    absurd (true≢false (sym there ∙ lacks.2))
+not_asked v all is (Some field) lacks = (all, is, subst (λ name. has_name name all ≡ false) (sym (only lacks.1.0 lacks.1.1 lacks.1.2)) lacks.2) where
+  only : (k : ℕ) → k < 1 → get_or (field ∷ []) k lacks.0 ≡ lacks.0 → field ≡ lacks.0
+  only zero lt at = at
+  only (suc k) lt at = absurd (omega arith)
 
 -- a field that was searched is there
 pub searched : {T : Type 0} {found : T} (there : Bool) → (there ≡ false → Ok found ≡ Err NoSuchField) → there ≡ true
@@ -38,7 +53,7 @@ searched true none = refl
 searched false none = absurd (let wrong = none refl in cc (wrong))
 
 -- what is not searched of an input refuses it
-why_below : (input : Bytes) (request : Request) (v : Data) (e : Refusal) → Asks input request → HasBelow input v → IsNotSearched v request e → IsRefusedBelow input e
+why_below : (input : Bytes) (request : Request) (v : Data) (e : Refusal) → Asks input request → HasBelow input v → IsNotSearched v (Some request.field.now) e → IsRefusedBelow input e
 why_below input request v refusal.NotARequest asks below why = absurd why
 why_below input request v refusal.NotRead asks below why = absurd why
 why_below input request v refusal.UnknownLanguage asks below why = (request, asks, v, below, why)
@@ -50,7 +65,7 @@ why_below input request v refusal.Memory asks below why = tt
 
 -- and so does the error that tells it
 pub refused_below : {T : Type 0} (r : Result T Refusal) (input : Bytes) (request : Request) (v : Data) (e : Refusal) → IsErrAnd r (λ y. y ≡ e)
-    → Asks input request → HasBelow input v → IsNotSearched v request e → IfErr r (IsRefusedBelow input)
+    → Asks input request → HasBelow input v → IsNotSearched v (Some request.field.now) e → IfErr r (IsRefusedBelow input)
 refused_below r input request v e is asks below why =
     let p = err_from_is_err_and r is in
     rw (p.1, p.2) (why_below input request v e asks below why)

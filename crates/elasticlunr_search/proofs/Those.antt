@@ -24,7 +24,7 @@ pub alike : (P Q : Bytes → Type 0) (rs : List Bytes) → AreThose P rs → ((r
 alike P Q rs those same = record { sorted = those.sorted; exact = λ r. (λ c. (same r).0 ((those.exact r).0 c), λ q. (those.exact r).1 ((same r).1 q)) }
 
 -- a sorted list that has what passes the test
-are_those : (P : Bytes → Type 0) (p : Bytes → Bool) → ((r : Bytes) → (p r ≡ true) ↔ P r) → (rs : List Bytes)
+pub are_those : (P : Bytes → Type 0) (p : Bytes → Bool) → ((r : Bytes) → (p r ≡ true) ↔ P r) → (rs : List Bytes)
     → IsStrictlySortedBy text_cmp rs → ((r : Bytes) → is_listed r rs ≡ p r) → AreThose P rs
 are_those P p tells rs order has = record { sorted = order; exact = λ r. (λ c. (tells r).0 (sym (has r) ∙ (listed r rs).0 c), λ h. (listed r rs).1 (has r ∙ (tells r).1 h)) }
 

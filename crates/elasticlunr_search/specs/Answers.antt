@@ -1,18 +1,20 @@
 -- What is found in the value of a printed index, and in a text that has a request and an index.
-use Rattle.std.specs.Prelude.{◌≡◌, ◌==◌, ℕ, Bool, List, Some, codes}
+use Rattle.std.specs.Prelude.{◌≡◌, ◌==◌, ℕ, Bool, List, Option, Some, All, IsTrue, codes}
 use Rattle.std.specs.List.{before_first, after_first}
 use Rattle.elasticlunr_text.specs.Text.{Bytes}
 use Rattle.elasticlunr_lang.specs.Known.{language_name}
 use Rattle.elasticlunr_lang.specs.declared.any.AnyLanguage.{AnyLanguage}
+use Rattle.elasticlunr.specs.Fields.{has_name}
 use Rattle.elasticlunr.specs.History.{Commands}
 use Rattle.elasticlunr.specs.Kept.{KeptReads}
 use Rattle.elasticlunr.specs.Printed.{IsPrintOf}
 use Rattle.elasticlunr.specs.Standing.{Plan}
-use Rattle.elasticlunr_search.specs.Fields.{HasField}
+use Rattle.elasticlunr_search.specs.Fields.{HasField, IsIndexWith}
 use Rattle.elasticlunr_search.specs.Lines.{lines}
 use Rattle.elasticlunr_search.specs.Requests.{IsRequest}
-use Rattle.elasticlunr_search.specs.Words.{FindsInField}
+use Rattle.elasticlunr_search.specs.Words.{asked_fields, FindsInField, FindsInFields}
 use Rattle.elasticlunr_search.specs.declared.request.Request.{Request}
+use Rattle.elasticlunr_search.specs.declared.words.Join.{Join}
 use Rattle.serde_json.specs.Data.{Data, string}
 use Rattle.serde_json.specs.Find.{get}
 use Rattle.serde_json.specs.Read.{read}
@@ -25,6 +27,22 @@ AreFoundBy language v request found = (plan : Plan) (commands : Commands) (text 
 -- the value has the field, and they are found by the language that it names
 abbrev pub AreFoundOf : Data → Request → List Bytes → Type 0
 AreFoundOf v request found = HasField v request.field.now × ((language : AnyLanguage) × (get (codes "lang") v ≡ Some (string (language_name language))) × AreFoundBy language v request found)
+
+-- whatever printed text the value is of, these references are found of the query in one or more of the fields, where this language read the documents
+abbrev pub AreFoundInFieldsBy : AnyLanguage → Data → Join → (fields : List Bytes) → (query : Bytes) → (found : List Bytes) → Type 0
+AreFoundInFieldsBy language v join fields query found = (plan : Plan) (commands : Commands) (text : List ℕ) → read text ≡ Some v → IsPrintOf plan commands text
+    → FindsInFields (KeptReads language) join plan commands fields query found
+
+-- the value is that of an index, of which the text has the lines of what is found in the field of this name, or else in one or more of all, by the language that it names
+pub record AreLinesFound (v : Data) (join : Join) (field : Option Bytes) (query text : Bytes) : Type 0 where
+  pub fields : List Bytes
+  pub of_index : IsIndexWith v fields
+  pub are_there : All (λ name. IsTrue (has_name name fields)) (asked_fields field fields)
+  pub language : AnyLanguage
+  pub named : get (codes "lang") v ≡ Some (string (language_name language))
+  pub found : List Bytes
+  pub are_found : AreFoundInFieldsBy language v join (asked_fields field fields) query found
+  pub are_lines : text ≡ lines found
 
 abbrev pub is_line_feed : ℕ → Bool
 is_line_feed byte = byte == 10

@@ -1,14 +1,15 @@
 -- What a searcher stands for.
-use Rattle.std.specs.Prelude.{◌≡◌, ℕ, List, Option}
+use Rattle.std.specs.Prelude.{◌≡◌, ℕ, List, Option, false, All, Contains, IsTrue}
 use Rattle.elasticlunr_text.specs.Text.{Text, Bytes, bytes_of}
 use Rattle.elasticlunr_text.specs.Stages.{LeavesBy}
+use Rattle.elasticlunr.specs.Fields.{has_name}
 use Rattle.elasticlunr.specs.History.{Commands}
 use Rattle.elasticlunr.specs.Reading.{LanguageReads}
 use Rattle.elasticlunr.specs.Shape.{ArePartsOf}
 use Rattle.elasticlunr.specs.Standing.{Plan}
 use Rattle.elasticlunr_search.specs.Fields.{IsIndexOf}
 use Rattle.elasticlunr_search.specs.Query.{IsFound}
-use Rattle.elasticlunr_search.specs.Words.{FindsInField}
+use Rattle.elasticlunr_search.specs.Words.{FindsInField, FindsInFields}
 use Rattle.elasticlunr_search.specs.declared.printed.Printed.{Printed}
 use Rattle.elasticlunr_search.specs.declared.searcher.Searcher.{Searcher}
 use Rattle.elasticlunr_search.specs.declared.words.Join.{Join}
@@ -22,6 +23,14 @@ module _ {L P X : Type 0} {O : X → Type 0} {p : _} where
   -- the names of the fields, in order
   abbrev pub fields_of : Searcher L P X O p → List Bytes
   fields_of s = bytes_of s.printed.fields.items
+
+  -- it has a field of each of these names
+  abbrev pub HasFieldsOf : Searcher L P X O p → List Bytes → Type 0
+  HasFieldsOf s names = All (λ name. IsTrue (has_name name (fields_of s))) names
+
+  -- it has no field of one of these names
+  abbrev pub LacksFieldOf : Searcher L P X O p → List Bytes → Type 0
+  LacksFieldOf s names = (name : Bytes) × Contains names name × (has_name name (fields_of s) ≡ false)
 
   -- the value is that of the index that it searches
   abbrev pub HasPartsOf : Data → Searcher L P X O p → Type 0
@@ -46,3 +55,10 @@ module _ {L P X : Type 0} {O : X → Type 0} {p : _} where
   AreFoundInTexts tokens_of leaves_of leaves s join field query found = (language : L) (plan : Plan) (commands : Commands)
       → StandsFor leaves_of leaves s language plan commands
       → FindsInField (LanguageReads (tokens_of language) (leaves_of language)) join plan commands field query found
+
+  -- whatever it searches, where its language read the documents, these references are found of it in one or more of the fields of these names
+  abbrev pub AreFoundInFields : (tokens_of : L → Text → List Text) (leaves_of : L → Text → Option Text → Type 0) (leaves : (v : X) × O v → Text → Option Text) → Searcher L P X O p
+      → Join → (names : List Bytes) → (query : Bytes) → (found : List Bytes) → Type 0
+  AreFoundInFields tokens_of leaves_of leaves s join names query found = (language : L) (plan : Plan) (commands : Commands)
+      → StandsFor leaves_of leaves s language plan commands
+      → FindsInFields (LanguageReads (tokens_of language) (leaves_of language)) join plan commands names query found

@@ -1,5 +1,5 @@
 -- Why nothing is searched for a text that should have a request and an index.
-use Rattle.std.specs.Prelude.{◌≡◌, ◌≢◌, ◌⊎◌, Some, None, All, codes}
+use Rattle.std.specs.Prelude.{◌≡◌, ◌≢◌, ◌⊎◌, Option, Some, None, IsSomeAnd, All, codes}
 use Rattle.std.specs.List.{before_first, after_first}
 use Rattle.elasticlunr_text.specs.Text.{Bytes}
 use Rattle.elasticlunr_lang.specs.Known.{all_languages, language_name}
@@ -49,20 +49,20 @@ AsksNothing input = (asked : Data) → read (before_first is_line_feed input) �
 abbrev pub NamesNone : Data → Type 0
 NamesNone v = All (λ language. get (codes "lang") v ≢ Some (string (language_name language))) all_languages
 
--- why the value is not searched for a request, want of memory aside
-abbrev pub IsNotSearched : Data → Request → Refusal → Type 0
-IsNotSearched v request NotARequest = ⊥
-IsNotSearched v request NotRead = ⊥
-IsNotSearched v request UnknownLanguage = NamesNone v
-IsNotSearched v request NoFields = Lacks v error.BadFields
-IsNotSearched v request NoTries = Lacks v error.BadTries
-IsNotSearched v request NoStore = Lacks v error.BadStore
-IsNotSearched v request NoSuchField = HasNoField v request.field.now
-IsNotSearched v request Memory = Unit {0}
+-- why the value is not searched in the field of this name, or else in all, want of memory aside
+abbrev pub IsNotSearched : Data → Option Bytes → Refusal → Type 0
+IsNotSearched v field NotARequest = ⊥
+IsNotSearched v field NotRead = ⊥
+IsNotSearched v field UnknownLanguage = NamesNone v
+IsNotSearched v field NoFields = Lacks v error.BadFields
+IsNotSearched v field NoTries = Lacks v error.BadTries
+IsNotSearched v field NoStore = Lacks v error.BadStore
+IsNotSearched v field NoSuchField = IsSomeAnd field (HasNoField v)
+IsNotSearched v field Memory = Unit {0}
 
 -- why nothing is searched for the text: there is no request above a line feed; what stands below it is not JSON; or its value is not searched
 abbrev pub IsRefusedBelow : Bytes → Refusal → Type 0
 IsRefusedBelow input NotARequest = IsOneLine input ⊎ AsksNothing input
 IsRefusedBelow input NotRead = (request : Request) × Asks input request × (read (after_first is_line_feed input) ≡ None)
 IsRefusedBelow input Memory = Unit {0}
-IsRefusedBelow input refusal = (request : Request) × Asks input request × (v : Data) × HasBelow input v × IsNotSearched v request refusal
+IsRefusedBelow input refusal = (request : Request) × Asks input request × (v : Data) × HasBelow input v × IsNotSearched v (Some request.field.now) refusal

@@ -1,8 +1,8 @@
-//! What is found for a text that has a request and an index.
-ghost use Rattle.std.specs.Prelude.{◌≡◌, ◌⊎◌, Some, None, IfOk, IfErr, codes, string_bytes};
+//! What is found for a text that has a request and an index, and in the value of an index.
+ghost use Rattle.std.specs.Prelude.{◌≡◌, ◌⊎◌, Some, None, IfOk, IfErr, codes, option_map, string_bytes};
 ghost use Rattle.elasticlunr_text.specs.Text.{bytes_of};
 ghost use Rattle.elasticlunr_lang.specs.Known.{language_name};
-ghost use Rattle.elasticlunr_search.specs.Answers.{AreFoundOf, IsFoundBelow};
+ghost use Rattle.elasticlunr_search.specs.Answers.{AreFoundOf, AreLinesFound, IsFoundBelow};
 ghost use Rattle.elasticlunr_search.specs.Lines.{lines};
 ghost use Rattle.elasticlunr_search.specs.Unanswered.{IsNotSearched, IsRefusedBelow, NamesNone, refusal_text};
 ghost use Rattle.elasticlunr_search.specs.declared.answer.Refusal.TheVariants.{UnknownLanguage, Memory};
@@ -14,6 +14,7 @@ ghost use Rattle.serde_json.specs.View.{view};
 use crate::error::SearchError;
 use crate::request::{Request, request_of};
 use crate::searcher::Searcher;
+use crate::words::Join;
 use elasticlunr_lang::{AnyLanguage, Language, from_name};
 use serde_json::Value;
 use std::alloc::{AllocError, AllocFailed, Global};
@@ -121,12 +122,31 @@ fn json(alloc: Global, text: &str, unread: Refusal) -> Result<Value, Refusal>
 /// The references that are found in the value of a printed index, by the language that it names.
 fn find_in(alloc: Global, request: &Request<'_>, index: &Value) -> Result<Vec<String>, Refusal>
     ensures found { IfOk result (λ found. AreFoundOf (view index.now) request.now (bytes_of found.items)) }
-    ensures refused { IfErr result (IsNotSearched (view index.now) request.now) }
+    ensures refused { IfErr result (IsNotSearched (view index.now) (Some request.now.field.now)) }
 {
     let language = language_of(index)?;
     let searcher = Searcher::from_value(alloc, language, index)?;
     let found = searcher.find(request.join, request.field, request.query)?;
     Ok(found)
+}
+
+/// The lines of the references that are found in the value of a printed index, by the language that
+/// it names: in the field of this name, or else in one or more of all.
+pub fn lines_found(
+    alloc: Global,
+    index: &Value,
+    join: Join,
+    field: Option<&str>,
+    query: &str,
+) -> Result<String, Refusal>
+    ensures found { IfOk result (λ text. AreLinesFound (view index.now) join
+        (option_map (λ f. f.now) field.entry) query.now (string_bytes text)) }
+    ensures refused { IfErr result (IsNotSearched (view index.now) (option_map (λ f. f.now) field.entry)) }
+{
+    let language = language_of(index)?;
+    let searcher = Searcher::from_value(alloc, language, index)?;
+    let found = searcher.find_within(join, field, query)?;
+    Ok(lines_of(alloc, &found)?)
 }
 
 /// The language that the value of a printed index names.

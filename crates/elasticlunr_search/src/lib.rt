@@ -2,7 +2,8 @@
 //!
 //! A [`Searcher`] reads the text once, with the language that the index was built with, and then
 //! answers queries: the references whose current document has, in a field, a token that the query
-//! has, or each of them. [`answer::answer`] reads a request and an index from one text.
+//! has, or each of them; [`Searcher::find_in`] joins what several fields have. [`answer::answer`]
+//! reads a request and an index from one text, [`answer::lines_found`] finds in an index's value.
 #![tactic(auto)]
 
 pub mod answer;

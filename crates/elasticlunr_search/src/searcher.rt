@@ -1,15 +1,16 @@
 //! Searches of a printed index, by a query in its language.
-ghost use Rattle.std.specs.Prelude.{◌≡◌, ◌<◌, ◌⊎◌, ◌↔◌, ℕ, List, false, Some, Err, IfOk, IfErr, IfSome, IsSome, IsTrue, length, option_map, slice_get};
+ghost use Rattle.std.specs.Prelude.{◌≡◌, ◌<◌, ◌⊎◌, ◌↔◌, ℕ, List, false, Some, Err, IfOk, IfErr, OnOk, IfSome, IsSome, IsTrue, length, option_map, slice_get};
 ghost use Rattle.elasticlunr_text.specs.Stages.{LeavesBy};
 ghost use Rattle.elasticlunr_text.specs.Text.{bytes_of, texts_of};
 ghost use Rattle.elasticlunr_store.specs.Contents.{text_map};
-ghost use Rattle.elasticlunr.specs.Fields.{has_name};
+ghost use Rattle.elasticlunr.specs.Fields.{has_name, borrowed};
 ghost use Rattle.elasticlunr.specs.Found.{FindsAny, FindsAll};
 ghost use Rattle.elasticlunr.specs.History.{Commands, now};
 ghost use Rattle.elasticlunr.specs.Printed.{IsPrintOf};
 ghost use Rattle.elasticlunr.specs.Reading.{LanguageReads};
 ghost use Rattle.elasticlunr.specs.Standing.{Plan, stored};
 ghost use Rattle.elasticlunr_search.specs.Query.{AreTokensOf};
+ghost use Rattle.elasticlunr_search.specs.Words.{asked_fields};
 ghost use Rattle.elasticlunr_search.specs.Refusal.{NamesOther, Refuses, RefusesPrint, RefusesValue};
 ghost use Rattle.elasticlunr_search.specs.declared.error.SearchError.TheVariants.{OtherLanguage, NoSuchField, Memory};
 ghost use Rattle.serde_json.specs.Data.{Data};
@@ -29,7 +30,7 @@ use elasticlunr_text::pipeline::Pipeline;
 use elasticlunr_trie::InvertedIndex;
 use serde_json::Value;
 use std::alloc::{AllocError, Global};
-use std::collections::BTreeMap;
+use std::collections::{BTreeMap, BTreeSet};
 
 /// A printed index, the language that it was built with, and the pipeline of that language.
 ///
@@ -44,7 +45,7 @@ pub struct Searcher<L> {
 }
 
 impl<L: Language> Searcher<L> {
-    ghost use Rattle.elasticlunr_search.specs.Standing.{fields_of, AreFound, AreFoundInTexts, HasPartsOf, StandsFor};
+    ghost use Rattle.elasticlunr_search.specs.Standing.{fields_of, AreFound, AreFoundInFields, AreFoundInTexts, HasFieldsOf, HasPartsOf, LacksFieldOf, StandsFor};
 
     /// Reads the printed text of an index, in any layout, once. The index must have been built with
     /// this language: a text that names another one is refused, and one that names none is read.
@@ -92,6 +93,13 @@ impl<L: Language> Searcher<L> {
         })
     }
 
+    /// The names of the fields, in order.
+    pub fn fields(&self) -> &[String]
+        ensures { bytes_of result.now ≡ fields_of self.now }
+    {
+        &self.printed.fields
+    }
+
     /// `find_any` or `find_all`, as the join says: the references whose current document has in the
     /// field a token, or each token, that the query has.
     pub fn find(&self, join: Join, field: &str, query: &str) -> Result<Vec<String>, SearchError>
@@ -104,6 +112,54 @@ impl<L: Language> Searcher<L> {
         match join {
             Join::Any => self.find_any(field, query),
             Join::All => self.find_all(field, query),
+        }
+    }
+
+    /// What `find` finds in one or more of these fields: each reference once, in the order of their
+    /// bytes. It costs what `find` costs in each of them.
+    pub fn find_in(
+        &self,
+        join: Join,
+        fields: &[&str],
+        query: &str,
+    ) -> Result<Vec<String>, SearchError>
+        ensures no_field { result ≡ Err NoSuchField → LacksFieldOf self.now (borrowed fields.now) }
+        ensures has_fields { OnOk result (HasFieldsOf self.now (borrowed fields.now)) }
+        ensures errors { IfErr result (λ e. (e ≡ NoSuchField) ⊎ (e ≡ Memory)) }
+        ensures found { IfOk result (λ found. AreFoundInFields L.tokens_of L.leaves_of leaves self.now
+            join (borrowed fields.now) query.now (bytes_of found.items)) }
+    {
+        let mut found = BTreeSet::new(self.alloc);
+        for field in fields {
+            let references = self.find(join, field, query)?;
+            found.extend(references)?;
+        }
+        let found = found.into_iter().collect(self.alloc)?;
+        Ok(found)
+    }
+
+    /// `find_in` of the field of this name, or else of all fields.
+    pub(crate) fn find_within(
+        &self,
+        join: Join,
+        field: Option<&str>,
+        query: &str,
+    ) -> Result<Vec<String>, SearchError>
+        ensures no_field { result ≡ Err NoSuchField
+            → LacksFieldOf self.now (asked_fields (option_map (λ f. f.now) field.entry) (fields_of self.now)) }
+        ensures has_fields { OnOk result
+            (HasFieldsOf self.now (asked_fields (option_map (λ f. f.now) field.entry) (fields_of self.now))) }
+        ensures errors { IfErr result (λ e. (e ≡ NoSuchField) ⊎ (e ≡ Memory)) }
+        ensures found { IfOk result (λ found. AreFoundInFields L.tokens_of L.leaves_of leaves self.now
+            join (asked_fields (option_map (λ f. f.now) field.entry) (fields_of self.now)) query.now
+            (bytes_of found.items)) }
+    {
+        match field {
+            Some(field) => self.find_in(join, &[field], query),
+            None => {
+                let names = texts_of(self.alloc, self.fields())?;
+                self.find_in(join, &names, query)
+            }
         }
     }
 
@@ -181,6 +237,17 @@ impl<L: Language> Searcher<L> {
         tokens.retain(|token| !token.is_empty());
         Ok(tokens)
     }
+}
+
+/// The texts of strings.
+fn texts_of<'a>(alloc: Global, names: &'a [String]) -> Result<Vec<&'a str>, AllocError>
+    ensures { IfOk result (λ texts. borrowed texts.items ≡ bytes_of names.now) }
+{
+    let mut texts = Vec::new(alloc);
+    for name in names {
+        texts.push(name.as_str())?;
+    }
+    Ok(texts)
 }
 
 /// Where the name stands.

@@ -7,6 +7,7 @@ ghost use Rattle.elasticlunr_text.specs.Classes.{in_scripts};
 ghost use Rattle.elasticlunr_text.specs.Trimmers.{trimmer_name, keeps};
 ghost use Rattle.elasticlunr_text.specs.Stages.{names_by, LeavesBy, HasKnownStages};
 ghost use Rattle.elasticlunr_lang.specs.Classes.{class_stages, class_leaves};
+ghost use Rattle.elasticlunr_lang.specs.StopWords.{listed_words};
 ghost use Rattle.elasticlunr_lang.specs.Languages.{english_stages, stem_leaves, arabic_stages, arabic_leaves, keep_stages};
 
 use elasticlunr_text::lang::common::{RegexTrimmer, StopWordFilter};
@@ -14,16 +15,24 @@ use elasticlunr_text::pipeline::{Pipeline, Stage};
 use std::alloc::{AllocError, Global};
 use unicode::properties::Script;
 
-/// The filter of the stop words.
+/// The words of a list, with commas between them.
+fn words_listed<'a>(alloc: Global, list: &'a str) -> Result<Vec<&'a str>, AllocError>
+    ensures { IfOk result (λ words. word_texts words.items ≡ listed_words list.now) }
+{
+    list.split(',').collect(alloc)
+}
+
+/// The filter of the stop words of a list.
 fn stop_word_filter(
     alloc: Global,
     name: &str,
-    stop_words: &[&str],
+    stop_words: &str,
 ) -> Result<StopWordFilter, AllocError>
     ensures name { IfOk result (λ filter. filter_name filter ≡ name.now) }
-    ensures words { IfOk result (λ filter. HasWords filter (word_texts stop_words.now)) }
+    ensures words { IfOk result (λ filter. HasWords filter (listed_words stop_words.now)) }
 {
-    match StopWordFilter::new(alloc, name, stop_words) {
+    let words = words_listed(alloc, stop_words)?;
+    match StopWordFilter::new(alloc, name, &words) {
         Ok(filter) => Ok(filter),
         Err(_) => Err(AllocError),
     }
@@ -42,10 +51,10 @@ fn stage_name(alloc: Global, prefix: &str, code: &str) -> Result<String, AllocEr
 fn filter_of_language(
     alloc: Global,
     code: &str,
-    stop_words: &[&str],
+    stop_words: &str,
 ) -> Result<StopWordFilter, AllocError>
     ensures name { IfOk result (λ filter. filter_name filter ≡ codes "stopWordFilter-" ++ code.now) }
-    ensures words { IfOk result (λ filter. HasWords filter (word_texts stop_words.now)) }
+    ensures words { IfOk result (λ filter. HasWords filter (listed_words stop_words.now)) }
 {
     let name = stage_name(alloc, "stopWordFilter-", code)?;
     stop_word_filter(alloc, name.as_str(), stop_words)
@@ -72,12 +81,12 @@ pub fn class_pipeline(
     alloc: Global,
     code: &str,
     scripts: &[Script],
-    stop_words: &[&str],
+    stop_words: &str,
     empty: Pipeline,
 ) -> Result<Pipeline, AllocError>
     ensures names { IfOk result (λ pipeline. names_by name_text pipeline ≡ class_stages code.now) }
     ensures leaves { IfOk result (λ pipeline. LeavesBy leaves pipeline
-        (class_leaves (in_scripts scripts.now) (word_texts stop_words.now))) }
+        (class_leaves (in_scripts scripts.now) (listed_words stop_words.now))) }
     ensures known { IfOk result (λ pipeline. HasKnownStages pipeline) }
 {
     let mut pipeline = empty;
@@ -92,13 +101,13 @@ pub fn class_and_keep_pipeline(
     alloc: Global,
     code: &str,
     scripts: &[Script],
-    stop_words: &[&str],
+    stop_words: &str,
     empty: Pipeline,
 ) -> Result<Pipeline, AllocError>
     ensures names { IfOk result (λ pipeline. names_by name_text pipeline
         ≡ class_stages code.now ++ keep_stages code.now) }
     ensures leaves { IfOk result (λ pipeline. LeavesBy leaves pipeline
-        (class_leaves (in_scripts scripts.now) (word_texts stop_words.now))) }
+        (class_leaves (in_scripts scripts.now) (listed_words stop_words.now))) }
     ensures known { IfOk result (λ pipeline. HasKnownStages pipeline) }
 {
     let name = stage_name(alloc, "stemmer-", code)?;
@@ -110,11 +119,11 @@ pub fn class_and_keep_pipeline(
 /// The pipeline of the English trimmer, of stop words and of the English stemmer.
 pub fn english_pipeline(
     alloc: Global,
-    stop_words: &[&str],
+    stop_words: &str,
     empty: Pipeline,
 ) -> Result<Pipeline, AllocError>
     ensures names { IfOk result (λ pipeline. names_by name_text pipeline ≡ english_stages) }
-    ensures leaves { IfOk result (λ pipeline. LeavesBy leaves pipeline (stem_leaves (word_texts stop_words.now))) }
+    ensures leaves { IfOk result (λ pipeline. LeavesBy leaves pipeline (stem_leaves (listed_words stop_words.now))) }
     ensures known { IfOk result (λ pipeline. HasKnownStages pipeline) }
 {
     let mut pipeline = empty;

@@ -55,6 +55,11 @@ pub not_given : {X : Type 0} (form : X → Data) (o : Option Data) (absent : Dat
 not_given form None absent xs other e = absurd other
 not_given form (Some d) absent xs other e = not_listed form d xs other e
 
+-- what is there, and of another form, is not what was given
+pub other_given : {X : Type 0} (form : X → Data) (o : Option Data) (absent : Data) (x : X) → IsSomeAnd o (λ d. (y : X) → d ≢ form y) → unwrap_or o absent ≢ form x
+other_given form None absent x other e = absurd other
+other_given form (Some d) absent x other e = other x e
+
 pub map-map : {X Y Z : Type 0} (f : X → Y) (g : Y → Z) (xs : List X) → map g (map f xs) ≡ map (λ x. g (f x)) xs
 map-map f g [] = refl
 map-map f g (x ∷ xs) = ap (λ ys. g (f x) ∷ ys) (map-map f g xs)

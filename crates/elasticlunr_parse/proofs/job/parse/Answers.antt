@@ -1,9 +1,9 @@
 use Rattle.std.proofs.Common.{inr, codes, map, refl, sym, ap, Some, ◌∙◌}
-use Rattle.serde_json.specs.Data.{array, string}
+use Rattle.serde_json.specs.Data.{array, boolean, string}
 use Rattle.serde_json.specs.View.{items_of, view}
 use Rattle.elasticlunr_parse.specs.Job.{document, get_or}
 use Rattle.elasticlunr_parse.specs.JobTold.{document_told}
-use Rattle.elasticlunr_parse.proofs.JobValues.{map-map, not_given, not_required}
+use Rattle.elasticlunr_parse.proofs.JobValues.{map-map, not_given, not_required, other_given}
 use Rattle.elasticlunr_parse.proofs.KeyTests.{has_only, has_others}
 use Rattle.elasticlunr_parse.proofs.Exits.{at_exit}
 use Rattle.elasticlunr_parse.proofs.job.parse.Goals as goal
@@ -21,9 +21,29 @@ pub returns-in_err-required-2-clause-err : goal.returns-in_err-required-2-clause
 returns-in_err-required-2-clause-err c = at_exit c.from_residual-in_err-required-2.result _ _ _ c.in_err-required-2.field-0.0 c.from_residual-in_err-required-2.ensures.1
     (λ other job is. not_required document _ job.docs other is.docs) c.in_err-required-2.ensures.err
 
+pub returns-in_err-member_or-clause-err : goal.returns-in_err-member_or-clause-err
+returns-in_err-member_or-clause-err c = at_exit c.from_residual-in_err-member_or.result _ _ _ c.in_err-member_or.field-0.0 c.from_residual-in_err-member_or.ensures.1
+    (λ other job is. other_given string _ _ job.reference_field other is.reference_field) c.in_err-member_or.ensures.err
+
+pub returns-in_err-member_or-2-clause-err : goal.returns-in_err-member_or-2-clause-err
+returns-in_err-member_or-2-clause-err c = at_exit c.from_residual-in_err-member_or-2.result _ _ _ c.in_err-member_or-2.field-0.0 c.from_residual-in_err-member_or-2.ensures.1
+    (λ other job is. other_given boolean _ _ job.save other is.save) c.in_err-member_or-2.ensures.err
+
+pub returns-in_err-member_or-3-clause-err : goal.returns-in_err-member_or-3-clause-err
+returns-in_err-member_or-3-clause-err c = at_exit c.from_residual-in_err-member_or-3.result _ _ _ c.in_err-member_or-3.field-0.0 c.from_residual-in_err-member_or-3.ensures.1
+    (λ other job is. other_given string _ _ job.language other is.language) c.in_err-member_or-3.ensures.err
+
+pub returns-in_err-member_or-4-clause-err : goal.returns-in_err-member_or-4-clause-err
+returns-in_err-member_or-4-clause-err c = at_exit c.from_residual-in_err-member_or-4.result _ _ _ c.in_err-member_or-4.field-0.0 c.from_residual-in_err-member_or-4.ensures.1
+    (λ other job is. other_given boolean _ _ job.pretty other is.pretty) c.in_err-member_or-4.ensures.err
+
 pub returns-in_err-member_or-5-clause-err : goal.returns-in_err-member_or-5-clause-err
 returns-in_err-member_or-5-clause-err c = at_exit c.from_residual-in_err-member_or-5.result _ _ _ c.in_err-member_or-5.field-0.0 c.from_residual-in_err-member_or-5.ensures.1
     (λ other job is. not_given string _ _ job.remove other is.remove) c.in_err-member_or-5.ensures.err
+
+pub returns-in_err-member_or-6-clause-err : goal.returns-in_err-member_or-6-clause-err
+returns-in_err-member_or-6-clause-err c = at_exit c.from_residual-in_err-member_or-6.result _ _ _ c.in_err-member_or-6.field-0.0 c.from_residual-in_err-member_or-6.ensures.1
+    (λ other job is. other_given boolean _ _ job.compact other is.compact) c.in_err-member_or-6.ensures.err
 
 pub returns-clause-ok : goal.returns-clause-ok
 returns-clause-ok c = record {

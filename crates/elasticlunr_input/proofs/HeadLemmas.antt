@@ -35,10 +35,10 @@ use Rattle.elasticlunr_input.specs.FaultPlaces.{problem_path}
 use Rattle.elasticlunr_message.specs.Forms.{asked_or_told, line_form, told_form}
 use Rattle.elasticlunr_input.specs.Lines.{IsLinesLineWith}
 use Rattle.elasticlunr_input.specs.Inputs.{AreRefusedLines, HasHead, IsBelow, IsHeadOf, IsPlaceInLine, IsRefusedFirst}
-use Rattle.elasticlunr_input.specs.Refused.{FailLinesOf, FailObjects, HasUnreadLine}
+use Rattle.elasticlunr_input.specs.Refused.{FailObjects, HasUnreadLine}
 use Rattle.elasticlunr_message.specs.Messages.{IsMemoryOr}
 use Rattle.elasticlunr_message.specs.Messages.{IfPlaced}
-use Rattle.elasticlunr_input.specs.RefusedPlaces.{IsLinesPlace, IsPlaceInLines}
+use Rattle.elasticlunr_input.specs.RefusedPlaces.{IsLinesPlace}
 use Rattle.elasticlunr_input.specs.RefusedRead.{AreRefusedFrom, BeginsWith}
 use Rattle.elasticlunr_input.specs.Settled.{Settings}
 use Rattle.elasticlunr_message.specs.declared.form.Form.{Form}
@@ -46,6 +46,7 @@ use Rattle.elasticlunr_message.specs.declared.form.Form.TheVariants.{Job}
 use Rattle.elasticlunr_message.specs.declared.message.Message.{Message}
 use Rattle.elasticlunr_message.specs.declared.message.Trouble.{Trouble}
 use Rattle.elasticlunr_message.specs.declared.message.Trouble.TheVariants.{Refused, Memory, Device}
+use Rattle.elasticlunr_input.proofs.LinesBy.{FailLinesOf, IsPlaceInLines}
 use Rattle.elasticlunr_input.proofs.LineLemmas.{fail_with, fails_also, first_among, line_with, problem_among}
 use Rattle.elasticlunr_input.proofs.LinePlaces.{place_with, placed_for}
 

@@ -1,4 +1,5 @@
 pub mod FieldKeys
+pub mod LinesBy
 pub mod LineLemmas
 pub mod LinePlaces
 pub mod Refusals

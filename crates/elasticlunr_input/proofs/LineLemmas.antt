@@ -17,8 +17,9 @@ use Rattle.elasticlunr_parse.specs.declared.outcome.Refusal.TheVariants.{NotJson
 use Rattle.elasticlunr_input.specs.Asked.{options_of, reference_key_of}
 use Rattle.elasticlunr_input.specs.Fields.{fields_of_first, text_keys}
 use Rattle.elasticlunr_input.specs.Lines.{IsLinesLineWith}
-use Rattle.elasticlunr_input.specs.Refused.{FailLines, FailLinesOf, FailObjects, HasUnreadLine}
+use Rattle.elasticlunr_input.specs.Refused.{FailLines, FailObjects, HasUnreadLine}
 use Rattle.elasticlunr_input.specs.Settled.{Settings}
+use Rattle.elasticlunr_input.proofs.LinesBy.{FailLinesOf}
 
 -- the values of a text begin with those that were read, and the next
 parts : (before items : List Data) (d : Data) (more : List (Option Data)) → map Some before ++ Some d ∷ more ≡ map Some items → (take (length before) items ≡ before) × (slice_get items (length before) ≡ Some d)

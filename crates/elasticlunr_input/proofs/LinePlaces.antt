@@ -8,11 +8,12 @@ use Rattle.elasticlunr_input.specs.Asked.{options_of}
 use Rattle.elasticlunr_input.specs.FaultPlaces.{IsPlaceInObjectLines}
 use Rattle.elasticlunr_input.specs.Inputs.{IsBelow, IsPlacedBelow}
 use Rattle.elasticlunr_message.specs.Messages.{IfPlaced}
-use Rattle.elasticlunr_input.specs.RefusedPlaces.{IsLinesPlace, IsPlaceInLines}
+use Rattle.elasticlunr_input.specs.RefusedPlaces.{IsLinesPlace}
 use Rattle.elasticlunr_input.specs.Settled.{Settings}
 use Rattle.elasticlunr_message.specs.declared.message.Trouble.{Trouble}
 use Rattle.elasticlunr_message.specs.declared.message.Trouble.TheVariants.{Refused, Memory, Device}
 use Rattle.elasticlunr_place.specs.declared.place.Place.{Place}
+use Rattle.elasticlunr_input.proofs.LinesBy.{IsPlaceInLines}
 use Rattle.elasticlunr_input.proofs.LineLemmas.{first_options, unread_with}
 
 pub some_for : (P Q : Place → Type 0) (o : Option Place) → ((place : Place) → P place → Q place) → IfSome o P → IfSome o Q

@@ -32,10 +32,6 @@ FailsArray settings d = (as_array d ≡ None) ⊎ ((items : List Data) × (as_ar
 abbrev pub HasUnreadLine : (List Data → Options) → Bytes → Type 0
 HasUnreadLine options_for text = (before : List Data) × (docs : List Document) × (rest : List (Option Data)) × AreDocumentsOf (options_for before) before docs × (map Some before ++ None ∷ rest ≡ readings text)
 
--- a line is the first that is not JSON, or the values of the lines fail a check of objects that are read so
-abbrev pub FailLinesOf : Options → Bytes → Type 0
-FailLinesOf options text = HasUnreadLine (λ _. options) text ⊎ ((items : List Data) × AreLineValues text items × FailObjects options items)
-
 -- a line is the first that is not JSON, or the values of the lines fail a check
 abbrev pub FailLines : Settings → Bytes → Type 0
 FailLines settings text = HasUnreadLine (options_of settings) text ⊎ ((items : List Data) × AreLineValues text items × FailObjects (options_of settings items) items)

@@ -10,7 +10,6 @@ use Rattle.elasticlunr_input.specs.Asked.{options_of}
 use Rattle.elasticlunr_input.specs.FaultPlaces.{IsPlaceInJob, IsPlaceInObjectLines, IsPlaceInObjects}
 use Rattle.elasticlunr_input.specs.Indexes.{IsNotJson}
 use Rattle.elasticlunr_parse.specs.Lines.{AreLineValues}
-use Rattle.elasticlunr_parse.specs.Objects.{Options}
 use Rattle.elasticlunr_place.specs.Members.{IsPlaceOf}
 use Rattle.elasticlunr_place.specs.Places.{IsPlaceIn}
 use Rattle.elasticlunr_input.specs.Refused.{HasUnreadLine}
@@ -29,12 +28,7 @@ IsArrayPlace settings text d place = ((as_array d ≡ None) × IsPlaceOf None []
     ⊎ ((items : List Data) × (as_array d ≡ Some (items_of items)) × IsPlaceInObjects text (options_of settings items) items place)
 
 -- it is in the text, a line of which is not JSON, or it is that of the first problem of the values of the lines, as
--- they are read with these options
-abbrev pub IsPlaceInLines : Bytes → Options → Place → Type 0
-IsPlaceInLines text options place = (HasUnreadLine (λ _. options) text × IsPlaceIn text place)
-    ⊎ ((items : List Data) × AreLineValues text items × IsPlaceInObjectLines text options items place)
-
--- the same with these settings
+-- they are read with these settings
 abbrev pub IsLinesPlace : Settings → Bytes → Place → Type 0
 IsLinesPlace settings text place = (HasUnreadLine (options_of settings) text × IsPlaceIn text place)
     ⊎ ((items : List Data) × AreLineValues text items × IsPlaceInObjectLines text (options_of settings items) items place)

@@ -13,7 +13,7 @@ use Rattle.elasticlunr.specs.declared.index.Index.{Index}
 use Rattle.elasticlunr_job.specs.Answer.{HasTooMany}
 use Rattle.elasticlunr.specs.Calls.{followed_by}
 use Rattle.elasticlunr_job.specs.Commands.{compacted}
-use Rattle.elasticlunr_job.specs.Filled.{Follows}
+use Rattle.elasticlunr_job.proofs.Taken.{Follows}
 use Rattle.elasticlunr_parse.specs.JobTold.{document_told}
 use Rattle.elasticlunr_parse.specs.declared.job.Document as held
 

@@ -1,4 +1,5 @@
 pub mod Stops
+pub mod Taken
 pub mod Alike
 pub mod Filling
 pub mod Printing

@@ -12,7 +12,8 @@ use Rattle.elasticlunr.specs.Standing.{Plan}
 use Rattle.elasticlunr_job.specs.Answer.{IsIndexLine, line, printed_text}
 use Rattle.elasticlunr.specs.Calls.{followed_by}
 use Rattle.elasticlunr_job.specs.Commands.{IsAdded, in_order}
-use Rattle.elasticlunr_job.specs.Filled.{HasDone, IsBuiltFor}
+use Rattle.elasticlunr_job.specs.Filled.{IsBuiltFor}
+use Rattle.elasticlunr_job.proofs.Taken.{HasDone}
 use Rattle.elasticlunr_parse.specs.Job.{Job}
 
 -- its text, of the commands that it stands for

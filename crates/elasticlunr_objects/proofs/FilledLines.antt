@@ -7,12 +7,12 @@ use Rattle.serde_json.specs.Data.{Data}
 use Rattle.elasticlunr_text.specs.Text.{Bytes}
 use Rattle.elasticlunr.specs.History as history
 use Rattle.elasticlunr.specs.History.{Commands, add, ◌▸◌}
-use Rattle.elasticlunr_job.specs.Filled.{Follows, HasTaken}
 use Rattle.elasticlunr_parse.specs.Job.{Document}
 use Rattle.elasticlunr_parse.specs.Lines.{is_blank, is_filled}
 use Rattle.elasticlunr_parse.specs.Objects.{Options, AreDocumentsOf, HasTexts, IsDocumentOf}
 use Rattle.elasticlunr_parse.proofs.FieldTexts.{AllZip-push}
-use Rattle.elasticlunr_job.proofs.Filling.{Makes, Standing, Follows-append}
+use Rattle.elasticlunr_job.proofs.Filling.{Follows-append}
+use Rattle.elasticlunr_job.proofs.Taken.{Follows, HasTaken, Makes, Standing}
 
 pub filled_first : (line : Bytes) (lines : List Bytes) → is_blank line ≡ false → filter is_filled (line ∷ lines) ≡ line ∷ filter is_filled lines
 filled_first line lines is = ap (λ b. cond (if b then false else true) (line ∷ filter is_filled lines) (filter is_filled lines)) is

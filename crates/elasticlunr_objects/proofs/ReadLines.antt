@@ -16,7 +16,7 @@ use Rattle.elasticlunr.specs.Printed.{IsTextAfter}
 use Rattle.elasticlunr.specs.Standing.{Plan}
 use Rattle.elasticlunr_job.specs.Answer.{line, printed_text}
 use Rattle.elasticlunr_job.specs.Commands.{in_order}
-use Rattle.elasticlunr_job.specs.Filled.{Follows, HasTaken, IsBuiltFor}
+use Rattle.elasticlunr_job.specs.Filled.{IsBuiltFor}
 use Rattle.elasticlunr_objects.specs.Lines.{HasLineProblem, IsFirstNoDocument}
 use Rattle.elasticlunr_objects.specs.LinesTold.{IsFilledLine, IsTaken, IsValueOf}
 use Rattle.elasticlunr_parse.specs.declared.objects.Problem.{Problem}
@@ -32,7 +32,7 @@ use Rattle.elasticlunr_parse.proofs.FieldTexts.{AllZip-push}
 use Rattle.elasticlunr_parse.proofs.LineSplits.{split_none}
 use Rattle.elasticlunr_parse.proofs.WholeLines.{filled_append}
 use Rattle.elasticlunr_objects.proofs.FilledLines.{blank_first, filled_first, taken_one}
-use Rattle.elasticlunr_job.proofs.Filling.{Makes, Standing}
+use Rattle.elasticlunr_job.proofs.Taken.{Follows, HasTaken, Makes, Standing}
 use Rattle.elasticlunr_job.proofs.Printing.{carried_line}
 
 module _ (line : Bytes) (none : HasNoFeed line) where

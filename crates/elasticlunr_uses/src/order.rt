@@ -3,10 +3,8 @@
 //! Two pages go into an index, and in the other order into another one. Proved: both print equal
 //! texts. A caller has to know that a reference has one document: of two pages with one reference
 //! the later one stays, so there the order does matter.
-ghost use Rattle.std.specs.Prelude.{◌≡◌, ◌≢◌, ◌∷◌, [], IfOk, codes, string_bytes};
-ghost use Rattle.elasticlunr_lang.specs.declared.any.AnyLanguage.TheVariants.{English as english};
-ghost use Rattle.elasticlunr.specs.Calls.{adding};
-ghost use Rattle.elasticlunr.specs.Kept.{IsTextOfCalls};
+ghost use Rattle.std.specs.Prelude.{◌≡◌, ◌≢◌, ◌∷◌, [], IfOk, string_bytes};
+ghost use Rattle.elasticlunr_uses.specs.Pages.{adding_page, IsTextOf};
 
 use crate::page::Page;
 use elasticlunr::laws::current::current_documents_decide_the_text;
@@ -19,12 +17,10 @@ pub fn in_either_order(
     one: Page<'_>,
     other: Page<'_>,
 ) -> Result<(String, String), IndexError>
-    ensures forwards { IfOk result (λ texts. IsTextOfCalls english (codes "body" ∷ [])
-        (adding one.entry.reference.now (one.entry.text.now ∷ [])
-        ∷ adding other.entry.reference.now (other.entry.text.now ∷ []) ∷ []) (string_bytes texts.0)) }
-    ensures backwards { IfOk result (λ texts. IsTextOfCalls english (codes "body" ∷ [])
-        (adding other.entry.reference.now (other.entry.text.now ∷ [])
-        ∷ adding one.entry.reference.now (one.entry.text.now ∷ []) ∷ []) (string_bytes texts.1)) }
+    ensures forwards { IfOk result (λ texts.
+        IsTextOf (adding_page one.entry ∷ adding_page other.entry ∷ []) (string_bytes texts.0)) }
+    ensures backwards { IfOk result (λ texts.
+        IsTextOf (adding_page other.entry ∷ adding_page one.entry ∷ []) (string_bytes texts.1)) }
     ensures equal { IfOk result (λ texts. one.entry.reference.now ≢ other.entry.reference.now
         → string_bytes texts.0 ≡ string_bytes texts.1) }
 {
@@ -36,9 +32,8 @@ pub fn in_either_order(
 
 /// The text of the index of two pages, in this order.
 pub fn in_order(alloc: Global, first: Page<'_>, second: Page<'_>) -> Result<String, IndexError>
-    ensures { IfOk result (λ text. IsTextOfCalls english (codes "body" ∷ [])
-        (adding first.entry.reference.now (first.entry.text.now ∷ [])
-        ∷ adding second.entry.reference.now (second.entry.text.now ∷ []) ∷ []) (string_bytes text)) }
+    ensures { IfOk result (λ text.
+        IsTextOf (adding_page first.entry ∷ adding_page second.entry ∷ []) (string_bytes text)) }
 {
     let mut index = Index::new(alloc, &["body"])?;
     index.add_doc(first.reference, &[first.text])?;

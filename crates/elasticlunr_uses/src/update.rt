@@ -3,10 +3,9 @@
 //! Three pages go into an index; then one has another text, one is removed, and the index is
 //! compacted. Proved: its text is that of a new index of the pages that remain. A caller has to
 //! know that only a compaction forgets the words of the old text and of the removed page.
-ghost use Rattle.std.specs.Prelude.{◌≡◌, ◌≢◌, ◌∷◌, [], IfOk, codes, string_bytes};
-ghost use Rattle.elasticlunr_lang.specs.declared.any.AnyLanguage.TheVariants.{English as english};
-ghost use Rattle.elasticlunr.specs.Calls.{adding, removing, compacting};
-ghost use Rattle.elasticlunr.specs.Kept.{IsTextOfCalls};
+ghost use Rattle.std.specs.Prelude.{◌≡◌, ◌≢◌, ◌∷◌, [], IfOk, string_bytes};
+ghost use Rattle.elasticlunr.specs.Calls.{compacting};
+ghost use Rattle.elasticlunr_uses.specs.Pages.{adding_page, adding_text, removing_page, IsTextOf};
 
 use crate::order::in_order;
 use crate::page::Page;
@@ -22,15 +21,11 @@ pub fn updated_and_new(
     goes: Page<'_>,
     new_text: &str,
 ) -> Result<(String, String), IndexError>
-    ensures updated { IfOk result (λ texts. IsTextOfCalls english (codes "body" ∷ [])
-        (adding stays.entry.reference.now (stays.entry.text.now ∷ [])
-        ∷ adding changes.entry.reference.now (changes.entry.text.now ∷ [])
-        ∷ adding goes.entry.reference.now (goes.entry.text.now ∷ [])
-        ∷ adding changes.entry.reference.now (new_text.now ∷ [])
-        ∷ removing goes.entry.reference.now ∷ compacting ∷ []) (string_bytes texts.0)) }
-    ensures new { IfOk result (λ texts. IsTextOfCalls english (codes "body" ∷ [])
-        (adding stays.entry.reference.now (stays.entry.text.now ∷ [])
-        ∷ adding changes.entry.reference.now (new_text.now ∷ []) ∷ []) (string_bytes texts.1)) }
+    ensures updated { IfOk result (λ texts.
+        IsTextOf (adding_page stays.entry ∷ adding_page changes.entry ∷ adding_page goes.entry
+        ∷ adding_text changes.entry new_text.now ∷ removing_page goes.entry ∷ compacting ∷ []) (string_bytes texts.0)) }
+    ensures new { IfOk result (λ texts.
+        IsTextOf (adding_page stays.entry ∷ adding_text changes.entry new_text.now ∷ []) (string_bytes texts.1)) }
     ensures equal { IfOk result (λ texts. stays.entry.reference.now ≢ changes.entry.reference.now
         → stays.entry.reference.now ≢ goes.entry.reference.now
         → changes.entry.reference.now ≢ goes.entry.reference.now → string_bytes texts.0 ≡ string_bytes texts.1) }
@@ -53,12 +48,9 @@ fn updated(
     goes: Page<'_>,
     changed: Page<'_>,
 ) -> Result<String, IndexError>
-    ensures { IfOk result (λ text. IsTextOfCalls english (codes "body" ∷ [])
-        (adding stays.entry.reference.now (stays.entry.text.now ∷ [])
-        ∷ adding changes.entry.reference.now (changes.entry.text.now ∷ [])
-        ∷ adding goes.entry.reference.now (goes.entry.text.now ∷ [])
-        ∷ adding changed.entry.reference.now (changed.entry.text.now ∷ [])
-        ∷ removing goes.entry.reference.now ∷ compacting ∷ []) (string_bytes text)) }
+    ensures { IfOk result (λ text.
+        IsTextOf (adding_page stays.entry ∷ adding_page changes.entry ∷ adding_page goes.entry
+        ∷ adding_page changed.entry ∷ removing_page goes.entry ∷ compacting ∷ []) (string_bytes text)) }
 {
     let mut index = Index::new(alloc, &["body"])?;
     index.add_doc(stays.reference, &[stays.text])?;

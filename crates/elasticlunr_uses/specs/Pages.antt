@@ -1,0 +1,23 @@
+-- Pages of a site, and the text of their index.
+use Rattle.std.specs.Prelude.{ℕ, List, [], ◌∷◌, codes}
+use Rattle.elasticlunr_text.specs.Text.{Bytes}
+use Rattle.elasticlunr_lang.specs.declared.any.AnyLanguage.TheVariants.{English as english}
+use Rattle.elasticlunr.specs.Calls.{Call, adding, removing}
+use Rattle.elasticlunr.specs.Kept.{IsTextOfCalls}
+use Rattle.elasticlunr_uses.specs.declared.page.Page.{Page}
+
+-- the page is added with this text
+abbrev pub adding_text : Page → Bytes → Call
+adding_text page text = adding page.reference.now (text ∷ [])
+
+-- it is added with its own
+abbrev pub adding_page : Page → Call
+adding_page page = adding_text page page.text.now
+
+-- it is removed
+abbrev pub removing_page : Page → Call
+removing_page page = removing page.reference.now
+
+-- the text is what an English index of the field `body` prints after these calls
+abbrev pub IsTextOf : List Call → (text : List ℕ) → Type 0
+IsTextOf calls text = IsTextOfCalls english (codes "body" ∷ []) calls text

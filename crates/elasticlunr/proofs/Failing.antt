@@ -3,7 +3,7 @@ use Rattle.std.proofs.Common.{◌≡◌, ◌↔◌, ◌⊎◌, ◌<◌, ◌≤�
 use Rattle.std.proofs.lemmas.List.{length-append, length-map}
 use Rattle.elasticlunr_history.specs.Fields.{has_name}
 use Rattle.elasticlunr_text.specs.Text.{bytes_of}
-use Rattle.std.specs.Prelude.{IsNone, IsTrue, OnOk, IfOk, IfErr, IsErrAnd}
+use Rattle.std.specs.Prelude.{IsNone, IsSome, is_some, IsTrue, OnOk, IfOk, IfErr, IsErrAnd}
 use Rattle.elasticlunr_text.specs.IndexError.{IndexError}
 use Rattle.elasticlunr_text.specs.IndexError.TheVariants.{DuplicateField, Failed, Memory, TooManyValues}
 
@@ -74,3 +74,15 @@ pub one_each_more : {T : Type 0} (names more : List (String Global)) (name : Lis
     → length tokenizers ≡ length names → length also ≡ length more
 one_each_more names more name tokenizers also tokenizer is are many =
     ap length are ∙ length-append tokenizers (tokenizer ∷ []) ∙ ap (λ n. n + 1) (many ∙ sym (length-map names string_bytes)) ∙ sym (length-append (bytes_of names) (name ∷ [])) ∙ sym (ap length is) ∙ length-map more string_bytes
+
+-- a name that was not found was not there
+pub not_named : (names at : List (String Global)) (name : List ℕ) (place : Option ℕ) (found : Bool) → at ≡ names → found ≡ is_some place → found ≡ false → IsSome place ↔ IsTrue (has_name name (bytes_of at)) → has_name name (bytes_of names) ≡ false
+not_named names at name place found value is absent tells = ap (λ ns. has_name name (bytes_of ns)) (sym value) ∙ not_there (has_name name (bytes_of at)) tells
+  where
+    not_there : (there : Bool) → IsSome place ↔ IsTrue there → there ≡ false
+    not_there true same = absurd (true≢false (sym (same.1 refl) ∙ (sym is ∙ absent)))
+    not_there false same = refl
+
+-- want of memory refuses no name
+pub memory_duplicate : {T : Type 0} (r : Result T IndexError) (there : Bool) → r ≡ Err Memory → there ≡ false → (r ≡ Err DuplicateField) ↔ IsTrue there
+memory_duplicate r there memory absent = (λ twice. absurd (cc (memory, twice)), λ h. absurd (true≢false (sym h ∙ absent)))

@@ -1,4 +1,5 @@
 use Rattle.std.proofs.Common.{◌≡◌, List, Option, ap, ◌∙◌}
+use Rattle.std.proofs.lemmas.Result.{IfOk-from_err}
 use Rattle.elasticlunr_text.specs.Text.{Bytes}
 use Rattle.elasticlunr.specs.Choices.{Choices, beginning, with_fields, HasOnlyFields, IsBuiltBy}
 use Rattle.elasticlunr.proofs.After.{new_after, plan_of_fields}
@@ -35,3 +36,51 @@ returns-clause-after g c = if_ok c.build.result _ _
     (plan_of_fields g.L.Language.name_of g.L.Language.stages_of c.args.lang _ _ _ (c.in_ok-add_fields.ensures.chosen ∙ ap (with_fields _) c.in_ok-builder.ensures.chosen) is.0)
     is.1.0 is.1.1)
     (both_ok _ _ _ c.build.ensures.plan (both_ok _ _ _ (returns-clause-reads g c) c.build.ensures.empty))
+
+pub returns-in_err-builder-clause-differ : goal.returns-in_err-builder-clause-differ
+returns-in_err-builder-clause-differ g c = IfOk-from_err c.from_residual.result _ c.from_residual.ensures.0
+
+pub returns-in_err-builder-clause-empty : goal.returns-in_err-builder-clause-empty
+returns-in_err-builder-clause-empty g c = IfOk-from_err c.from_residual.result _ c.from_residual.ensures.0
+
+pub returns-in_err-builder-clause-given : goal.returns-in_err-builder-clause-given
+returns-in_err-builder-clause-given g c = IfOk-from_err c.from_residual.result _ c.from_residual.ensures.0
+
+pub returns-in_err-builder-clause-plan : goal.returns-in_err-builder-clause-plan
+returns-in_err-builder-clause-plan g c = IfOk-from_err c.from_residual.result _ c.from_residual.ensures.0
+
+pub returns-in_err-builder-clause-kept : goal.returns-in_err-builder-clause-kept
+returns-in_err-builder-clause-kept g c = IfOk-from_err c.from_residual.result _ c.from_residual.ensures.0
+
+pub returns-in_err-builder-clause-leaves : goal.returns-in_err-builder-clause-leaves
+returns-in_err-builder-clause-leaves g c = IfOk-from_err c.from_residual.result _ c.from_residual.ensures.0
+
+pub returns-in_err-builder-clause-reads : goal.returns-in_err-builder-clause-reads
+returns-in_err-builder-clause-reads g c = IfOk-from_err c.from_residual.result _ c.from_residual.ensures.0
+
+pub returns-in_err-builder-clause-after : goal.returns-in_err-builder-clause-after
+returns-in_err-builder-clause-after g c = IfOk-from_err c.from_residual.result _ c.from_residual.ensures.0
+
+pub returns-in_err-add_fields-clause-differ : goal.returns-in_err-add_fields-clause-differ
+returns-in_err-add_fields-clause-differ g c = IfOk-from_err c.from_residual-in_err-add_fields.result _ c.from_residual-in_err-add_fields.ensures.0
+
+pub returns-in_err-add_fields-clause-empty : goal.returns-in_err-add_fields-clause-empty
+returns-in_err-add_fields-clause-empty g c = IfOk-from_err c.from_residual-in_err-add_fields.result _ c.from_residual-in_err-add_fields.ensures.0
+
+pub returns-in_err-add_fields-clause-given : goal.returns-in_err-add_fields-clause-given
+returns-in_err-add_fields-clause-given g c = IfOk-from_err c.from_residual-in_err-add_fields.result _ c.from_residual-in_err-add_fields.ensures.0
+
+pub returns-in_err-add_fields-clause-plan : goal.returns-in_err-add_fields-clause-plan
+returns-in_err-add_fields-clause-plan g c = IfOk-from_err c.from_residual-in_err-add_fields.result _ c.from_residual-in_err-add_fields.ensures.0
+
+pub returns-in_err-add_fields-clause-kept : goal.returns-in_err-add_fields-clause-kept
+returns-in_err-add_fields-clause-kept g c = IfOk-from_err c.from_residual-in_err-add_fields.result _ c.from_residual-in_err-add_fields.ensures.0
+
+pub returns-in_err-add_fields-clause-leaves : goal.returns-in_err-add_fields-clause-leaves
+returns-in_err-add_fields-clause-leaves g c = IfOk-from_err c.from_residual-in_err-add_fields.result _ c.from_residual-in_err-add_fields.ensures.0
+
+pub returns-in_err-add_fields-clause-reads : goal.returns-in_err-add_fields-clause-reads
+returns-in_err-add_fields-clause-reads g c = IfOk-from_err c.from_residual-in_err-add_fields.result _ c.from_residual-in_err-add_fields.ensures.0
+
+pub returns-in_err-add_fields-clause-after : goal.returns-in_err-add_fields-clause-after
+returns-in_err-add_fields-clause-after g c = IfOk-from_err c.from_residual-in_err-add_fields.result _ c.from_residual-in_err-add_fields.ensures.0

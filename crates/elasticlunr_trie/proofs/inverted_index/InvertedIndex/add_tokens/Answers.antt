@@ -1,4 +1,5 @@
 use Rattle.std.proofs.Common.{map, ap, subst, ◌∙◌}
+use Rattle.std.proofs.lemmas.Result.{IfOk-from_err}
 use Rattle.elasticlunr_nodes.specs.Table.{AreChanged, additions}
 use Rattle.elasticlunr_nodes.specs.Trie.{table_of}
 use Rattle.elasticlunr_nodes.specs.Starts.{told}
@@ -11,3 +12,9 @@ returns-clause-ok c =
     let all_told = ap (map told) c.deref-3.ensures.value ∙ c.in_ok-starts.ensures.told in
     subst (λ ts. AreChanged (additions c.args.doc_ref.now ts) c.args.self.now after) all_told
     (subst (λ T. AreChanged (additions c.args.doc_ref.now (map told c.deref-3.result.now)) T after) c.self.view_is c.in_ok-add_starts.ensures.ok)
+
+pub returns-in_err-starts-clause-ok : goal.returns-in_err-starts-clause-ok
+returns-in_err-starts-clause-ok c = IfOk-from_err c.from_residual.result _ c.from_residual.ensures.0
+
+pub returns-in_err-add_starts-clause-ok : goal.returns-in_err-add_starts-clause-ok
+returns-in_err-add_starts-clause-ok c = IfOk-from_err c.from_residual-in_err-add_starts.result _ c.from_residual-in_err-add_starts.ensures.0

@@ -2,6 +2,7 @@ use Rattle.std.proofs.Common.{subst, ap, ◌∙◌, codes}
 use Rattle.serde_json.specs.View.{members_view, view}
 use Rattle.serde_json.specs.Data.{put, object}
 use Rattle.serde_json.proofs.Views.{view-Object}
+use Rattle.std.proofs.lemmas.Result.{IfOk-from_err}
 use Rattle.elasticlunr_nodes.specs.Trie.{table_of}
 use Rattle.elasticlunr_nodes.specs.Table.{IsTable}
 use Rattle.elasticlunr_trie.proofs.Bounds.{nodes_table}
@@ -31,3 +32,21 @@ returns-in_err-root-clause-table c = subst IsTable c.self.view_is (nodes_table c
 
 pub returns-in_err-set_member-clause-table : goal.returns-in_err-set_member-clause-table
 returns-in_err-set_member-clause-table c = subst IsTable c.self.view_is (nodes_table c.self.inside.root.items c.self.inside.nodes.items c.self.invariant.trie c.self.inside.names c.self.inside.references.items c.self.invariant)
+
+pub returns-in_err-root-clause-tree : goal.returns-in_err-root-clause-tree
+returns-in_err-root-clause-tree c = IfOk-from_err c.from_residual.result _ c.from_residual.ensures.0
+
+pub returns-in_err-root-clause-only : goal.returns-in_err-root-clause-only
+returns-in_err-root-clause-only c = IfOk-from_err c.from_residual.result _ c.from_residual.ensures.0
+
+pub returns-in_err-root-clause-whole : goal.returns-in_err-root-clause-whole
+returns-in_err-root-clause-whole c = IfOk-from_err c.from_residual.result _ c.from_residual.ensures.0
+
+pub returns-in_err-set_member-clause-tree : goal.returns-in_err-set_member-clause-tree
+returns-in_err-set_member-clause-tree c = IfOk-from_err c.from_residual-in_err-set_member.result _ c.from_residual-in_err-set_member.ensures.0
+
+pub returns-in_err-set_member-clause-only : goal.returns-in_err-set_member-clause-only
+returns-in_err-set_member-clause-only c = IfOk-from_err c.from_residual-in_err-set_member.result _ c.from_residual-in_err-set_member.ensures.0
+
+pub returns-in_err-set_member-clause-whole : goal.returns-in_err-set_member-clause-whole
+returns-in_err-set_member-clause-whole c = IfOk-from_err c.from_residual-in_err-set_member.result _ c.from_residual-in_err-set_member.ensures.0

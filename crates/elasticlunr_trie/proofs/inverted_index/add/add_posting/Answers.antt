@@ -3,6 +3,7 @@ use Rattle.std.specs.Prelude.{encode_utf8}
 use Rattle.std.proofs.lemmas.List.{nil_from_length}
 use Rattle.std.specs.Str.{all_scalars}
 use Rattle.std.proofs.lemmas.Str.{scalars-chars}
+use Rattle.std.proofs.lemmas.Result.{IfOk-from_err}
 use Rattle.elasticlunr_nodes.specs.Table.{AddsToken}
 use Rattle.elasticlunr_nodes.specs.Trie.{step_of, table_of}
 use Rattle.elasticlunr_nodes.specs.declared.nodes.Place.TheVariants.{Root, At}
@@ -83,3 +84,12 @@ returns-in_ok-set_posting-in-At-clause-ok c =
 
 pub returns-in_ok-set_posting-in-At-clause-paths : goal.returns-in_ok-set_posting-in-At-clause-paths
 returns-in_ok-set_posting-in-At-clause-paths c = settled_paths c.args.root.now.items c.args.nodes.now.items c.requires.index.trie _ c.in_ok-set_posting-in-At.ensures.ok.shape
+
+pub returns-in_err-grow-in-Some-clause-ok : goal.returns-in_err-grow-in-Some-clause-ok
+returns-in_err-grow-in-Some-clause-ok c = IfOk-from_err c.from_residual.result _ c.from_residual.ensures.0
+
+pub returns-in_err-grow-in-Some-clause-paths : goal.returns-in_err-grow-in-Some-clause-paths
+returns-in_err-grow-in-Some-clause-paths c = IfOk-from_err c.from_residual.result _ c.from_residual.ensures.0
+
+pub returns-in_err-set_posting-in-At-clause-ok : goal.returns-in_err-set_posting-in-At-clause-ok
+returns-in_err-set_posting-in-At-clause-ok c = IfOk-from_err c.from_residual-in_err-set_posting-in-At.result _ c.from_residual-in_err-set_posting-in-At.ensures.0

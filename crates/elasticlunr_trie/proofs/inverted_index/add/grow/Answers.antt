@@ -1,8 +1,9 @@
 use Rattle.std.proofs.Common.{◌≡◌, ◌+◌, ◌-◌, ◌≤◌, suc, IsTrue, Result, Ok, Err, OnErr, length, refl, sym, ap, subst, arith}
 use Rattle.std.specs.Str.{chars}
+use Rattle.std.proofs.lemmas.Result.{IfOk-from_err}
 use Rattle.elasticlunr_nodes.specs.Names.{AreNames}
 use Rattle.elasticlunr_nodes.specs.Nodes.{has, list_at}
-use Rattle.elasticlunr_nodes.specs.Trie.{step_of}
+use Rattle.elasticlunr_nodes.specs.Trie.{step_of, IsIndex}
 use Rattle.elasticlunr_nodes.specs.Branch.{IsBranch}
 use Rattle.elasticlunr_nodes.specs.declared.nodes.Place.TheVariants.{Root}
 use Rattle.elasticlunr_nodes.proofs.Forest.{within}
@@ -71,3 +72,30 @@ returns-clause-paths c =
 pub returns-in_err-branch-clause-index : goal.returns-in_err-branch-clause-index
 returns-in_err-branch-clause-index c =
     kept_index c.args.root.now.items c.args.nodes.now.items c.args.names.now c.args.references.now.items c.requires.index c.args.doc_ref.now _ c.in_ok-number.ensures.names _ _ (same_trie c.args.root.now.items c.args.nodes.now.items) c.utf8.doc_ref _ (keeps_same c.args.references.now.items)
+
+pub returns-in_err-number-clause-index : goal.returns-in_err-number-clause-index
+returns-in_err-number-clause-index c = subst (λ names. IsIndex c.args.root.now.items c.args.nodes.now.items names c.args.references.now.items) (sym c.in_err-number.ensures.err) c.requires.index
+
+pub returns-in_err-number-clause-ok : goal.returns-in_err-number-clause-ok
+returns-in_err-number-clause-ok c = IfOk-from_err c.from_residual.result _ c.from_residual.ensures.0
+
+pub returns-in_err-number-clause-paths : goal.returns-in_err-number-clause-paths
+returns-in_err-number-clause-paths c = IfOk-from_err c.from_residual.result _ c.from_residual.ensures.0
+
+pub returns-in_err-branch-clause-ok : goal.returns-in_err-branch-clause-ok
+returns-in_err-branch-clause-ok c = IfOk-from_err c.from_residual-in_err-branch.result _ c.from_residual-in_err-branch.ensures.0
+
+pub returns-in_err-branch-clause-paths : goal.returns-in_err-branch-clause-paths
+returns-in_err-branch-clause-paths c = IfOk-from_err c.from_residual-in_err-branch.result _ c.from_residual-in_err-branch.ensures.0
+
+pub returns-in_err-list_new-clause-ok : goal.returns-in_err-list_new-clause-ok
+returns-in_err-list_new-clause-ok c = IfOk-from_err c.from_residual-in_err-list_new.result _ c.from_residual-in_err-list_new.ensures.0
+
+pub returns-in_err-list_new-clause-paths : goal.returns-in_err-list_new-clause-paths
+returns-in_err-list_new-clause-paths c = IfOk-from_err c.from_residual-in_err-list_new.result _ c.from_residual-in_err-list_new.ensures.0
+
+pub returns-in_err-attach-clause-ok : goal.returns-in_err-attach-clause-ok
+returns-in_err-attach-clause-ok c = IfOk-from_err c.from_residual-in_err-attach.result _ c.from_residual-in_err-attach.ensures.0
+
+pub returns-in_err-attach-clause-paths : goal.returns-in_err-attach-clause-paths
+returns-in_err-attach-clause-paths c = IfOk-from_err c.from_residual-in_err-attach.result _ c.from_residual-in_err-attach.ensures.0

@@ -1,7 +1,8 @@
 use Rattle.std.proofs.Common.{◌≤◌, length, OnErr, Result, Ok, Err, refl, sym, ap, subst, ◌∙◌, arith}
 use Rattle.std.specs.FinMap.{get}
+use Rattle.std.proofs.lemmas.Result.{IfOk-from_err}
 use Rattle.elasticlunr_nodes.specs.Names.{AreNames, number_of}
-use Rattle.elasticlunr_nodes.specs.Nodes.{SetsPosting, SamePostings}
+use Rattle.elasticlunr_nodes.specs.Nodes.{AreListed, SetsPosting, SamePostings}
 use Rattle.elasticlunr_nodes.proofs.Added as added
 use Rattle.elasticlunr_trie.proofs.inverted_index.add.set_posting.Goals as goal
 
@@ -45,3 +46,18 @@ returns-in_err-set_number-clause-names c = λ are. subst AreNames (sym c.in_ok-n
 
 pub returns-clause-names : goal.returns-clause-names
 returns-clause-names c = λ are. subst AreNames (sym c.in_ok-number.ensures.names) (added.names_entered c.args.names.now are c.args.doc_ref.now c.utf8.doc_ref)
+
+pub returns-in_err-number-clause-names : goal.returns-in_err-number-clause-names
+returns-in_err-number-clause-names c = λ are. subst AreNames (sym c.in_err-number.ensures.err) are
+
+pub returns-in_err-number-clause-listed : goal.returns-in_err-number-clause-listed
+returns-in_err-number-clause-listed c = subst (λ ns. AreListed ns c.args.references.now.items c.args.nodes.now.items) (sym c.in_err-number.ensures.err) c.requires.listed
+
+pub returns-in_err-number-clause-ok : goal.returns-in_err-number-clause-ok
+returns-in_err-number-clause-ok c = IfOk-from_err c.from_residual.result _ c.from_residual.ensures.0
+
+pub returns-in_err-list_node-clause-ok : goal.returns-in_err-list_node-clause-ok
+returns-in_err-list_node-clause-ok c = IfOk-from_err c.from_residual-in_err-list_node.result _ c.from_residual-in_err-list_node.ensures.0
+
+pub returns-in_err-set_number-clause-ok : goal.returns-in_err-set_number-clause-ok
+returns-in_err-set_number-clause-ok c = IfOk-from_err c.from_residual-in_err-set_number.result _ c.from_residual-in_err-set_number.ensures.0

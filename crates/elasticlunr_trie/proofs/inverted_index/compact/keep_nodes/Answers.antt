@@ -1,5 +1,6 @@
 use Rattle.std.proofs.Common.{◌+◌, sym, ap, ◌∙◌, arith, subst, Some}
 use Rattle.std.specs.FinMap.{entries}
+use Rattle.std.proofs.lemmas.Result.{IfOk-from_err}
 use Rattle.elasticlunr_nodes.specs.Pairs.{IsStrictlySorted}
 use Rattle.elasticlunr_nodes.specs.Names.{AreNames, ArePostings, named_pairs}
 use Rattle.elasticlunr_trie.specs.Children.{child}
@@ -64,3 +65,12 @@ loop-i-preserved c =
           (put_behind marks names nodes c.loop-i.kept_names c.loop-i.kept.items c.loop-i.i held.kept _ marked (c.in_ok-children.ensures ∙ ap (kept_children marks) (c.as_slice.ensures ∙ sym (ap children_of here))) new same
           (λ k. named_extended c.loop-i.kept_names new (postings_at c.loop-i.kept.items k) ok.extends (held.listed.named k)));
     }
+
+pub returns-in_err-children : goal.returns-in_err-children
+returns-in_err-children c = record { names = IfOk-from_err c.from_residual.result _ c.from_residual.ensures.0; listed = IfOk-from_err c.from_residual.result _ c.from_residual.ensures.0; kept = IfOk-from_err c.from_residual.result _ c.from_residual.ensures.0 }
+
+pub returns-in_err-postings : goal.returns-in_err-postings
+returns-in_err-postings c = record { names = IfOk-from_err c.from_residual-in_err-postings.result _ c.from_residual-in_err-postings.ensures.0; listed = IfOk-from_err c.from_residual-in_err-postings.result _ c.from_residual-in_err-postings.ensures.0; kept = IfOk-from_err c.from_residual-in_err-postings.result _ c.from_residual-in_err-postings.ensures.0 }
+
+pub returns-in_err-push : goal.returns-in_err-push
+returns-in_err-push c = record { names = IfOk-from_err c.from_residual-in_err-push.result _ c.from_residual-in_err-push.ensures.0; listed = IfOk-from_err c.from_residual-in_err-push.result _ c.from_residual-in_err-push.ensures.0; kept = IfOk-from_err c.from_residual-in_err-push.result _ c.from_residual-in_err-push.ensures.0 }

@@ -7,6 +7,7 @@ use Rattle.serde_json.specs.Data.{put}
 use Rattle.serde_json.specs.Find.{get_member}
 use Rattle.serde_json.specs.View.{view, members_view}
 use Rattle.serde_json.proofs.Views.{Entry, put_last}
+use Rattle.std.proofs.lemmas.Result.{IfOk-from_err}
 use Rattle.elasticlunr_trie.specs.Reading.{borrowed_values, ReadsChildren}
 use Rattle.elasticlunr_trie.proofs.Finishing.{ordered_members}
 use Rattle.elasticlunr_trie.proofs.Reading.{nothing_read, not_yet, not_among, is_there, skips_key, takes_key, below_next, goes_last, insert_last, borrowed_push, length-borrowed}
@@ -81,3 +82,21 @@ loop-key-preserved c =
 
 pub returns-clause-order : goal.returns-clause-order
 returns-clause-order c = ordered_members c.args.members.now.entries c.iter-key-items.ensures.ordered
+
+pub returns-in_err-short_number-clause-ok : goal.returns-in_err-short_number-clause-ok
+returns-in_err-short_number-clause-ok c = IfOk-from_err c.from_residual.result _ c.from_residual.ensures.0
+
+pub returns-in_err-short_number-clause-order : goal.returns-in_err-short_number-clause-order
+returns-in_err-short_number-clause-order c = IfOk-from_err c.from_residual.result _ c.from_residual.ensures.0
+
+pub returns-in_err-push-clause-ok : goal.returns-in_err-push-clause-ok
+returns-in_err-push-clause-ok c = IfOk-from_err c.from_residual-in_err-push.result _ c.from_residual-in_err-push.ensures.0
+
+pub returns-in_err-push-clause-order : goal.returns-in_err-push-clause-order
+returns-in_err-push-clause-order c = IfOk-from_err c.from_residual-in_err-push.result _ c.from_residual-in_err-push.ensures.0
+
+pub returns-in_err-push-2-clause-ok : goal.returns-in_err-push-2-clause-ok
+returns-in_err-push-2-clause-ok c = IfOk-from_err c.from_residual-in_err-push-2.result _ c.from_residual-in_err-push-2.ensures.0
+
+pub returns-in_err-push-2-clause-order : goal.returns-in_err-push-2-clause-order
+returns-in_err-push-2-clause-order c = IfOk-from_err c.from_residual-in_err-push-2.result _ c.from_residual-in_err-push-2.ensures.0

@@ -1,6 +1,7 @@
 use Rattle.std.proofs.Common.{◌≡◌, [], sym, subst, ◌∙◌, true≢false, length, arith}
 use Rattle.std.proofs.lemmas.List.{nil_from_length}
 use Rattle.serde_json.specs.View.{view}
+use Rattle.std.proofs.lemmas.Result.{IfOk-from_err}
 use Rattle.elasticlunr_nodes.specs.Names.{AreNames}
 use Rattle.elasticlunr_nodes.specs.Nodes.{AreListed, IsListed}
 use Rattle.elasticlunr_trie.specs.Reading.{borrowed_values, ReadsNode}
@@ -66,3 +67,33 @@ returns-clause-tree c =
     let held = c.loop-alloc.invariant in
     let same : length c.loop-alloc.waiting.items ≡ length c.loop-alloc.nodes.items = omega (arith, c.loop-alloc-test.false, c.len.ensures, c.len-in-loop-alloc.ensures, held.read.low, c.loop-alloc.waiting.ok.0, c.loop-alloc.nodes.ok.0, length-borrowed c.loop-alloc.waiting.items) in
     read_tree c.loop-alloc.names c.in_ok-root.root.items c.loop-alloc.nodes.items (view c.args.value.now) (borrowed_values c.loop-alloc.waiting.items) held.read (length-borrowed c.loop-alloc.waiting.items ∙ same)
+
+pub returns-in_err-first-clause-index : goal.returns-in_err-first-clause-index
+returns-in_err-first-clause-index c = IfOk-from_err c.from_residual.result _ c.from_residual.ensures.0
+
+pub returns-in_err-first-clause-tree : goal.returns-in_err-first-clause-tree
+returns-in_err-first-clause-tree c = IfOk-from_err c.from_residual.result _ c.from_residual.ensures.0
+
+pub returns-in_err-root-clause-index : goal.returns-in_err-root-clause-index
+returns-in_err-root-clause-index c = IfOk-from_err c.from_residual-in_err-root.result _ c.from_residual-in_err-root.ensures.0
+
+pub returns-in_err-root-clause-tree : goal.returns-in_err-root-clause-tree
+returns-in_err-root-clause-tree c = IfOk-from_err c.from_residual-in_err-root.result _ c.from_residual-in_err-root.ensures.0
+
+pub returns-in_err-children-clause-index : goal.returns-in_err-children-clause-index
+returns-in_err-children-clause-index c = IfOk-from_err c.from_residual-in_err-children.result _ c.from_residual-in_err-children.ensures.0
+
+pub returns-in_err-children-clause-tree : goal.returns-in_err-children-clause-tree
+returns-in_err-children-clause-tree c = IfOk-from_err c.from_residual-in_err-children.result _ c.from_residual-in_err-children.ensures.0
+
+pub returns-in_err-postings-clause-index : goal.returns-in_err-postings-clause-index
+returns-in_err-postings-clause-index c = IfOk-from_err c.from_residual-in_err-postings.result _ c.from_residual-in_err-postings.ensures.0
+
+pub returns-in_err-postings-clause-tree : goal.returns-in_err-postings-clause-tree
+returns-in_err-postings-clause-tree c = IfOk-from_err c.from_residual-in_err-postings.result _ c.from_residual-in_err-postings.ensures.0
+
+pub returns-in_err-push-clause-index : goal.returns-in_err-push-clause-index
+returns-in_err-push-clause-index c = IfOk-from_err c.from_residual-in_err-push.result _ c.from_residual-in_err-push.ensures.0
+
+pub returns-in_err-push-clause-tree : goal.returns-in_err-push-clause-tree
+returns-in_err-push-clause-tree c = IfOk-from_err c.from_residual-in_err-push.result _ c.from_residual-in_err-push.ensures.0

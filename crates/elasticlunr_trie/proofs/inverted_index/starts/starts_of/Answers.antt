@@ -1,5 +1,6 @@
 use Rattle.std.proofs.Common.{map, sym, ap, ◌∙◌, ◌++◌}
 use Rattle.std.proofs.lemmas.List.{append-nil, drop_all}
+use Rattle.std.proofs.lemmas.Result.{IfOk-from_err}
 use Rattle.elasticlunr_nodes.specs.Starts.{told}
 use Rattle.elasticlunr_nodes.specs.Table.{told_tokens}
 use Rattle.elasticlunr_nodes.specs.Trie.{step_of}
@@ -28,3 +29,9 @@ loop-token-preserved c =
 
 pub loop-token-init : goal.loop-token-init
 loop-token-init c = none_yet (step_of c.args.root.now c.args.nodes.now) c.in_ok-starts.starts.items c.args.tokens.now c.in_ok-starts.ensures.items
+
+pub returns-in_err-starts : goal.returns-in_err-starts
+returns-in_err-starts c = record { starts = IfOk-from_err c.from_residual.result _ c.from_residual.ensures.0; told = IfOk-from_err c.from_residual.result _ c.from_residual.ensures.0 }
+
+pub returns-in_err-push : goal.returns-in_err-push
+returns-in_err-push c = record { starts = IfOk-from_err c.from_residual-in_err-push.result _ c.from_residual-in_err-push.ensures.0; told = IfOk-from_err c.from_residual-in_err-push.result _ c.from_residual-in_err-push.ensures.0 }

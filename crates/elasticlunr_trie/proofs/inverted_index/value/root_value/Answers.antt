@@ -2,6 +2,7 @@ use Rattle.std.proofs.Common.{◌≡◌, [], suc, refl, sym, ap, subst, ◌∙�
 use Rattle.serde_json.specs.View.{members_view, view}
 use Rattle.serde_json.specs.Data.{object}
 use Rattle.serde_json.proofs.Views.{view-Object}
+use Rattle.std.proofs.lemmas.Result.{IfOk-from_err}
 use Rattle.elasticlunr_nodes.specs.Pairs.{IsStrictlySorted}
 use Rattle.elasticlunr_trie.specs.Children.{child}
 use Rattle.elasticlunr_nodes.specs.Nodes.{children_of, entries_of, postings_at}
@@ -125,3 +126,15 @@ docs_value-requires-clause-shown c =
     let shown : map.entries P ≡ under_names names (behind c.in_ok-ranked.ranked.items) =
     ap map.entries (pairs_named names (postings_at nodes i) (c.requires.numbered i) c.requires.names ∙ ap (named_pairs names) (sym (c.pairs.ensures ∙ ap (λ o. map.entries (entries_of o)) (sym here)))) ∙ c.in_ok-ranked.ensures.shown in
     (P, shown ∙ ap (λ r. under_names names (behind r)) (sym c.deref.ensures.value))
+
+pub returns-in_err-ranked : goal.returns-in_err-ranked
+returns-in_err-ranked c = IfOk-from_err c.from_residual.result _ c.from_residual.ensures.0
+
+pub returns-in_err-docs : goal.returns-in_err-docs
+returns-in_err-docs c = IfOk-from_err c.from_residual-in_err-docs.result _ c.from_residual-in_err-docs.ensures.0
+
+pub returns-in_err-value : goal.returns-in_err-value
+returns-in_err-value c = IfOk-from_err c.from_residual-in_err-value.result _ c.from_residual-in_err-value.ensures.0
+
+pub returns-in_err-value-2 : goal.returns-in_err-value-2
+returns-in_err-value-2 c = IfOk-from_err c.from_residual-in_err-value-2.result _ c.from_residual-in_err-value-2.ensures.0

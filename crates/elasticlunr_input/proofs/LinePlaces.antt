@@ -7,7 +7,7 @@ use Rattle.elasticlunr_parse.specs.Objects.{Options}
 use Rattle.elasticlunr_input.specs.Asked.{options_of}
 use Rattle.elasticlunr_input.specs.FaultPlaces.{IsPlaceInObjectLines}
 use Rattle.elasticlunr_input.specs.Inputs.{IsBelow, IsPlacedBelow}
-use Rattle.elasticlunr_message.specs.Messages.{IfPlaced}
+use Rattle.elasticlunr_message.specs.Messages.{IfPlaced, IsLowered}
 use Rattle.elasticlunr_input.specs.RefusedPlaces.{IsLinesPlace}
 use Rattle.elasticlunr_input.specs.Settled.{Settings}
 use Rattle.elasticlunr_message.specs.declared.message.Trouble.{Trouble}
@@ -34,6 +34,12 @@ placed_again P Q e (Err x) more same is = placed_for P Q x more (subst (IfPlaced
 pub some_below : (lines : ℕ) (P Q : Place → Type 0) (place : Option Place) → ((at : Place) → P at → Q at) → IsPlacedBelow lines P place → IfSome place (IsBelow lines Q)
 some_below lines P Q None more is = tt
 some_below lines P Q (Some place) more is = (is.0, is.2.1, more is.0 is.1)
+
+-- and where the place is known that it is lowered from, if there is one
+pub lowered_below : (lines : ℕ) (P : Place → Type 0) (at place : Option Place) → IfSome at P → IsLowered at lines place → IfSome place (IsBelow lines P)
+lowered_below lines P at None is low = tt
+lowered_below lines P None (Some place) is low = absurd (cc)
+lowered_below lines P (Some at) (Some place) is low = (at, low.1, is)
 
 -- with the options that the settings give for the first value
 pub place_with : (settings : Settings) (text : Bytes) (options : Options) (first : List Data) → map Some first ≡ take 1 (readings text) → options ≡ options_of settings first

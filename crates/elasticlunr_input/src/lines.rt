@@ -24,6 +24,7 @@ use elasticlunr_message::message::{Message, Trouble, lowered, not_json, unplaced
 use elasticlunr_objects::lines::{LastLine, LinesError, Watch, is_blank, lines_line, read_line};
 use elasticlunr_objects::objects::{AddError, Object, Options, Problem, object_of};
 use elasticlunr_place::member::{Step, place_of};
+use elasticlunr_place::place::Place;
 use serde_json::{Error, Value};
 use std::alloc::{AllocError, Global};
 use std::io::{self, BufRead, ErrorKind, Read};
@@ -145,6 +146,20 @@ fn line_unread(alloc: Global, last: &LastLine, error: &Error) -> Result<Message,
     Ok(lowered(message, last.before))
 }
 
+/// The place of what is wrong with the value of a line, which is no document.
+fn line_place(
+    alloc: Global,
+    options: &Options<'_>,
+    line: &[u8],
+    problem: Problem,
+) -> Result<Option<Place>, AllocError>
+    ensures { IfOk result (λ place. IfSome place
+        (IsPlaceOf None (problem_path (options_told options.now) problem) line.now)) }
+{
+    let key = Step::Key(problem_key(options, problem));
+    place_of(alloc, line, None, path_of(&[key], problem))
+}
+
 /// What is wrong with the value of the line that was read last, which has this number and is no
 /// document.
 fn value_refused(
@@ -158,9 +173,8 @@ fn value_refused(
     ensures { IfOk result (λ message. IfSome message.place (IsBelow last.now.before
         (IsPlaceOf None (problem_path (options_told options.now) problem) last.now.text.items))) }
 {
+    let place = line_place(alloc, options, &last.text, problem)?;
     let text = problem_text(alloc, options, number, Some(value), problem)?;
-    let key = Step::Key(problem_key(options, problem));
-    let place = place_of(alloc, &last.text, None, path_of(&[key], problem))?;
     Ok(lowered(Message { place, text }, last.before))
 }
 
@@ -223,14 +237,31 @@ pub(crate) fn lines_text<R: BufRead>(
     ensures err { IfErr result (AreRefusedLines (options_told options.now)
         (option_append (Some head.now) (R.remaining reader.old))) }
 {
-    let tokens = Tokens::of_language(alloc, options.language)?;
-    let mut watcher = Watcher { tokens, notes };
-    let mut all = head.chain(reader);
-    match lines_line(alloc, options, &mut all, last, &mut watcher) {
+    match watched_line(alloc, options, head, last, reader, notes) {
         Ok(line) => {
-            watcher.notes.end(&options.fields)?;
+            notes.end(&options.fields)?;
             Ok(line)
         }
         Err(e) => Err(trouble_of(alloc, options, last, e)?),
     }
+}
+
+/// The same text, while what is unwise in each document goes to the notes.
+fn watched_line<R: BufRead>(
+    alloc: Global,
+    options: &Options<'_>,
+    head: &[u8],
+    last: &mut LastLine,
+    reader: &mut R,
+    notes: &mut Notes,
+) -> Result<String, LinesError>
+    ensures ok { IfOk result (λ line. (text : Bytes) × AreAll (option_append (Some head.now) (R.remaining reader.old)) text
+        × IsLineOfLines (options_told options.now) text (string_bytes line)) }
+    ensures err { IfErr result (FailsLines (options_told options.now)
+        (option_append (Some head.now) (R.remaining reader.old)) last.new) }
+{
+    let tokens = Tokens::of_language(alloc, options.language)?;
+    let mut watcher = Watcher { tokens, notes };
+    let mut all = head.chain(reader);
+    lines_line(alloc, options, &mut all, last, &mut watcher)
 }

@@ -9,6 +9,7 @@ pub mod Steps
 pub mod Asking
 pub mod Searching
 pub mod Wording
+pub mod Joining
 pub mod Several
 pub mod Joined
 pub mod Requested

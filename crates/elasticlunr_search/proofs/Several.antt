@@ -1,46 +1,38 @@
 -- What is found in several fields.
-use Rattle.std.proofs.Common.{◌≡◌, ◌↔◌, ◌<◌, ◌≤◌, ◌+◌, ℕ, zero, suc, Bool, true, false, ◌||◌, true≢false, List, [], ◌∷◌, ◌++◌, length, take, get_or, Some, arith, refl, sym, ap, subst, ◌∙◌}
+use Rattle.std.proofs.Common.{◌≡◌, ◌↔◌, ◌<◌, ℕ, zero, suc, Bool, true, false, ◌||◌, true≢false, List, [], ◌∷◌, length, get_or, Some, arith, refl, sym, ap, subst, ◌∙◌}
 use Rattle.std.specs.Prelude.{Contains}
-use Rattle.std.specs.Borrow.{Bor}
 use Rattle.std.specs.List.{AllZip, list_any, slice_get}
 use Rattle.std.specs.List.Sorted.{IsStrictlySortedBy}
-use Rattle.std.proofs.lemmas.List.{take_more, take_all, map-append}
-use Rattle.std.proofs.lemmas.List.Folds.{list_any-append}
-use Rattle.elasticlunr_text.specs.Text.{Bytes, text_cmp, is_listed}
-use Rattle.elasticlunr.specs.Fields.{borrowed}
+use Rattle.elasticlunr_text.specs.Text.{Text, Bytes, text_cmp, is_listed}
+use Rattle.elasticlunr_trie.specs.Table.{Table}
 use Rattle.elasticlunr.specs.Found.{AreThose}
+use Rattle.elasticlunr_search.specs.Tries.{FindsInTrie, FindsInTries}
 use Rattle.elasticlunr_search.specs.Words.{AreNumbersOf}
-use Rattle.elasticlunr_search.proofs.FieldTries.{push}
-use Rattle.elasticlunr_search.proofs.Those.{are_those, listed}
+use Rattle.elasticlunr_search.specs.declared.words.Join.{Join}
+use Rattle.elasticlunr_search.proofs.Joining.{AreJoined}
+use Rattle.elasticlunr_search.proofs.Those.{any_tells, are_those, listed}
 
--- one name more
-pub next_field : (names : List (Bor Bytes)) (i : ℕ) (other : Bor Bytes) → i < length names → borrowed (take (i + 1) names) ≡ borrowed (take i names) ++ (get_or names i other).now ∷ []
-next_field names i other lt = ap borrowed (take_more names i other lt) ∙ map-append (λ text. text.now) (take i names) (get_or names i other ∷ [])
+-- what holds of each name and its list, and what follows from that
+each_weaker : (R Q : Bytes → List Bytes → Type 0) → ((name : Bytes) (part : List Bytes) → R name part → Q name part) → (names : List Bytes) (parts : List (List Bytes)) → AllZip R names parts → AllZip Q names parts
+each_weaker R Q f [] [] all = tt
+each_weaker R Q f [] (part ∷ parts) all = absurd all
+each_weaker R Q f (name ∷ names) [] all = absurd all
+each_weaker R Q f (name ∷ names) (part ∷ parts) all = (f name part all.0, each_weaker R Q f names parts all.1)
+
+-- where each list has those that are found in the trie of its field
+pub found_in_tries : (R : Bytes → List Bytes → Type 0) (reads : ℕ → Bytes → List Text → Type 0) (fields : List Bytes) (tables : List Table) (join : Join) (query : Bytes) → ((name : Bytes) (part : List Bytes) → R name part → FindsInTrie reads fields tables join name query part)
+    → (names found : List Bytes) → AreJoined R names found → IsStrictlySortedBy text_cmp found → FindsInTries reads fields tables join names query found
+found_in_tries R reads fields tables join query in_trie names found joined order =
+    let in_part = λ (r : Bytes). any_tells (is_listed r) joined.parts in (
+      joined.parts,
+      each_weaker R (λ name part. FindsInTrie reads fields tables join name query part) in_trie names joined.parts joined.each,
+      are_those _ (λ r. list_any (is_listed r) joined.parts)
+          (λ r. (λ e. let w = (in_part r).0 e in (w.0, w.1, (listed r w.0).1 w.2), λ h. (in_part r).1 (h.0, h.1, (listed r h.0).0 h.2))) found order joined.in_one,
+    )
 
 or_true : (b : Bool) → (b || true) ≡ true
 or_true true = refl
 or_true false = refl
-
-or_none : (b : Bool) → (b || false) ≡ b
-or_none true = refl
-or_none false = refl
-
--- each name has a list of its own, and what is found is listed in one of these
-pub record AreJoined (R : Bytes → List Bytes → Type 0) (names found : List Bytes) : Type 0 where
-  pub parts : List (List Bytes)
-  pub each : AllZip R names parts
-  pub in_one : (r : Bytes) → is_listed r found ≡ list_any (is_listed r) parts
-
-pub joined_more : (R : Bytes → List Bytes → Type 0) (names all before after part : List Bytes) (name : Bytes) → all ≡ names ++ name ∷ [] → AreJoined R names before → R name part
-    → ((r : Bytes) → is_listed r after ≡ (is_listed r before || is_listed r part)) → AreJoined R all after
-joined_more R names all before after part name more are its both = record {
-  parts = are.parts ++ part ∷ [];
-  each = subst (λ ns. AllZip R ns (are.parts ++ part ∷ [])) (sym more) (push R names are.parts name part are.each its);
-  in_one = λ r. both r ∙ ap (λ b. b || is_listed r part) (are.in_one r) ∙ ap (λ b. list_any (is_listed r) are.parts || b) (sym (or_none (is_listed r part))) ∙ sym (list_any-append (is_listed r) are.parts (part ∷ []));
-}
-
-pub all_joined : (R : Bytes → List Bytes → Type 0) (names : List (Bor Bytes)) (i : ℕ) (found : List Bytes) → length names ≤ i → AreJoined R (borrowed (take i names)) found → AreJoined R (borrowed names) found
-all_joined R names i found past are = subst (λ ns. AreJoined R (borrowed ns) found) (take_all i names past) are
 
 contains_cases : (x y : ℕ) (xs : List ℕ) (Q : Type 0) → (x ≡ y → Q) → (Contains xs y → Q) → Contains (x ∷ xs) y → Q
 contains_cases x y xs Q here there c = by c.0 c.1 c.2 where

@@ -28,7 +28,7 @@ pub are_those : (P : Bytes → Type 0) (p : Bytes → Bool) → ((r : Bytes) →
     → IsStrictlySortedBy text_cmp rs → ((r : Bytes) → is_listed r rs ≡ p r) → AreThose P rs
 are_those P p tells rs order has = record { sorted = order; exact = λ r. (λ c. (tells r).0 (sym (has r) ∙ (listed r rs).0 c), λ h. (listed r rs).1 (has r ∙ (tells r).1 h)) }
 
-any_tells : (p : Text → Bool) (ts : List Text) → (list_any p ts ≡ true) ↔ ((t : Text) × Contains ts t × (p t ≡ true))
+pub any_tells : {A : Type 0} (p : A → Bool) (ts : List A) → (list_any p ts ≡ true) ↔ ((t : A) × Contains ts t × (p t ≡ true))
 any_tells p ts = (λ e. let a = Any-from_list_any p ts e in (a.1, (a.0, a.2, a.3), a.4), λ h. list_any_at p ts h.1.0 h.0 h.1.1 (ap p h.1.2 ∙ h.2))
 
 all_tells : (p : Text → Bool) (ts : List Text) → (list_all p ts ≡ true) ↔ ((t : Text) → Contains ts t → p t ≡ true)

@@ -4,14 +4,17 @@ use Rattle.std.specs.List.{before_first, after_first}
 use Rattle.elasticlunr_text.specs.Text.{Bytes}
 use Rattle.elasticlunr_lang.specs.Known.{language_name}
 use Rattle.elasticlunr_lang.specs.declared.any.AnyLanguage.{AnyLanguage}
+use Rattle.elasticlunr_trie.specs.Table.{Table}
+use Rattle.elasticlunr_store.specs.Contents.{Contents}
 use Rattle.elasticlunr.specs.Fields.{has_name}
 use Rattle.elasticlunr.specs.History.{Commands}
 use Rattle.elasticlunr.specs.Kept.{KeptReads}
 use Rattle.elasticlunr.specs.Printed.{IsPrintOf}
 use Rattle.elasticlunr.specs.Standing.{Plan}
-use Rattle.elasticlunr_search.specs.Fields.{HasField, IsIndexWith}
+use Rattle.elasticlunr_search.specs.Fields.{IsIndexOf}
 use Rattle.elasticlunr_search.specs.Lines.{lines}
 use Rattle.elasticlunr_search.specs.Requests.{IsRequest}
+use Rattle.elasticlunr_search.specs.Tries.{FindsInTrie, FindsInTries}
 use Rattle.elasticlunr_search.specs.Words.{asked_fields, FindsInField, FindsInFields}
 use Rattle.elasticlunr_search.specs.declared.request.Request.{Request}
 use Rattle.elasticlunr_search.specs.declared.words.Join.{Join}
@@ -24,23 +27,34 @@ abbrev pub AreFoundBy : AnyLanguage → Data → Request → List Bytes → Type
 AreFoundBy language v request found = (plan : Plan) (commands : Commands) (text : List ℕ) → read text ≡ Some v → IsPrintOf plan commands text
     → FindsInField (KeptReads language) request.join plan commands request.field.now request.query.now found
 
--- the value has the field, and they are found by the language that it names
-abbrev pub AreFoundOf : Data → Request → List Bytes → Type 0
-AreFoundOf v request found = HasField v request.field.now × ((language : AnyLanguage) × (get (codes "lang") v ≡ Some (string (language_name language))) × AreFoundBy language v request found)
+-- the value is that of an index with the field, and these references are found in the field's trie by the language that the value names
+pub record AreFoundOf (v : Data) (request : Request) (found : List Bytes) : Type 0 where
+  pub fields : List Bytes
+  pub tables : List Table
+  pub contents : Contents
+  pub of_index : IsIndexOf v fields tables contents
+  pub is_there : IsTrue (has_name request.field.now fields)
+  pub language : AnyLanguage
+  pub named : get (codes "lang") v ≡ Some (string (language_name language))
+  pub in_trie : FindsInTrie (KeptReads language) fields tables request.join request.field.now request.query.now found
+  pub are_found : AreFoundBy language v request found
 
 -- whatever printed text the value is of, these references are found of the query in one or more of the fields, where this language read the documents
 abbrev pub AreFoundInFieldsBy : AnyLanguage → Data → Join → (fields : List Bytes) → (query : Bytes) → (found : List Bytes) → Type 0
 AreFoundInFieldsBy language v join fields query found = (plan : Plan) (commands : Commands) (text : List ℕ) → read text ≡ Some v → IsPrintOf plan commands text
     → FindsInFields (KeptReads language) join plan commands fields query found
 
--- the value is that of an index, of which the text has the lines of what is found in the field of this name, or else in one or more of all, by the language that it names
+-- the value is that of an index, and the text has the lines of what is found by the language that it names, in the trie of the field of this name or else in one or more of all
 pub record AreLinesFound (v : Data) (join : Join) (field : Option Bytes) (query text : Bytes) : Type 0 where
   pub fields : List Bytes
-  pub of_index : IsIndexWith v fields
+  pub tables : List Table
+  pub contents : Contents
+  pub of_index : IsIndexOf v fields tables contents
   pub are_there : All (λ name. IsTrue (has_name name fields)) (asked_fields field fields)
   pub language : AnyLanguage
   pub named : get (codes "lang") v ≡ Some (string (language_name language))
   pub found : List Bytes
+  pub in_tries : FindsInTries (KeptReads language) fields tables join (asked_fields field fields) query found
   pub are_found : AreFoundInFieldsBy language v join (asked_fields field fields) query found
   pub are_lines : text ≡ lines found
 

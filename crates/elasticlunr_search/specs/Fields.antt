@@ -1,5 +1,5 @@
 -- What the index has that a value is of.
-use Rattle.std.specs.Prelude.{◌≡◌, List, false, IsTrue}
+use Rattle.std.specs.Prelude.{◌≡◌, List, false}
 use Rattle.elasticlunr_text.specs.Text.{Bytes}
 use Rattle.elasticlunr_trie.specs.Table.{Table}
 use Rattle.elasticlunr_store.specs.Contents.{Contents, IsConsistent}
@@ -14,10 +14,6 @@ IsIndexOf v names tables contents = HasParts v names tables contents × IsConsis
 -- the value is that of an index with fields of these names
 abbrev pub IsIndexWith : Data → List Bytes → Type 0
 IsIndexWith v names = (tables : List Table) × (contents : Contents) × IsIndexOf v names tables contents
-
--- the value is that of an index with a field of this name
-abbrev pub HasField : Data → Bytes → Type 0
-HasField v field = (names : List Bytes) × IsIndexWith v names × IsTrue (has_name field names)
 
 -- the value is that of an index with no field of this name
 abbrev pub HasNoField : Data → Bytes → Type 0

@@ -1,7 +1,9 @@
 -- What a searcher stands for.
 use Rattle.std.specs.Prelude.{◌≡◌, ℕ, List, Option, false, All, Contains, IsTrue}
+use Rattle.std.specs.FinMap.{get}
 use Rattle.elasticlunr_text.specs.Text.{Text, Bytes, bytes_of}
 use Rattle.elasticlunr_text.specs.Stages.{LeavesBy}
+use Rattle.elasticlunr_store.specs.Contents.{TextMap}
 use Rattle.elasticlunr.specs.Fields.{has_name}
 use Rattle.elasticlunr.specs.History.{Commands}
 use Rattle.elasticlunr.specs.Reading.{LanguageReads}
@@ -9,6 +11,7 @@ use Rattle.elasticlunr.specs.Shape.{ArePartsOf}
 use Rattle.elasticlunr.specs.Standing.{Plan}
 use Rattle.elasticlunr_search.specs.Fields.{IsIndexOf}
 use Rattle.elasticlunr_search.specs.Query.{IsFound}
+use Rattle.elasticlunr_search.specs.Tries.{FindsInTrie, FindsInTries}
 use Rattle.elasticlunr_search.specs.Words.{FindsInField, FindsInFields}
 use Rattle.elasticlunr_search.specs.declared.printed.Printed.{Printed}
 use Rattle.elasticlunr_search.specs.declared.searcher.Searcher.{Searcher}
@@ -36,29 +39,42 @@ module _ {L P X : Type 0} {O : X → Type 0} {p : _} where
   abbrev pub HasPartsOf : Data → Searcher L P X O p → Type 0
   HasPartsOf v s = IsIndexOf v (fields_of s) s.printed.tries.items s.printed.store
 
-  -- it searches what these commands leave in an index of this plan, by this language; `leaves_of` is what a language leaves of a token, `leaves` what a boxed stage does
-  pub record StandsFor (leaves_of : L → Text → Option Text → Type 0) (leaves : (v : X) × O v → Text → Option Text) (s : Searcher L P X O p) (language : L) (plan : Plan) (commands : Commands) : Type 0 where
+  -- the texts that its store has of a reference
+  abbrev pub kept_texts : Searcher L P X O p → Bytes → Option TextMap
+  kept_texts s reference = get s.printed.store.texts reference
+
+  -- it speaks this language: that is its own, and its pipeline leaves what the language does; `leaves_of` is what a language leaves of a token, `leaves` what a boxed stage does
+  pub record Speaks (leaves_of : L → Text → Option Text → Type 0) (leaves : (v : X) × O v → Text → Option Text) (s : Searcher L P X O p) (language : L) : Type 0 where
     pub its_language : s.language ≡ language
     pub stages : LeavesBy leaves s.pipeline (leaves_of language)
+
+  -- it searches what these commands leave in an index of this plan, by this language
+  pub record StandsFor (leaves_of : L → Text → Option Text → Type 0) (leaves : (v : X) × O v → Text → Option Text) (s : Searcher L P X O p) (language : L) (plan : Plan) (commands : Commands) : Type 0 where
+    pub speaks : Speaks leaves_of leaves s language
     pub read : IsReadOf s.printed plan commands
 
-  -- whatever it searches, these references are found of the query in the field; `Finds` says it of the commands, the field's number and the query's tokens
-  abbrev pub AreFound : (tokens_of : L → Text → List Text) (leaves_of : L → Text → Option Text → Type 0) (leaves : (v : X) × O v → Text → Option Text) → Searcher L P X O p
-      → (Finds : Commands → ℕ → List Text → List Bytes → Type 0) → (field query : Bytes) → (found : List Bytes) → Type 0
-  AreFound tokens_of leaves_of leaves s Finds field query found = (language : L) (plan : Plan) (commands : Commands)
-      → StandsFor leaves_of leaves s language plan commands
-      → IsFound (Finds commands) (LanguageReads (tokens_of language) (leaves_of language)) plan.fields field query found
+  module _ (tokens_of : L → Text → List Text) (leaves_of : L → Text → Option Text → Type 0) (leaves : (v : X) × O v → Text → Option Text) (s : Searcher L P X O p) where
+    -- whatever language it speaks, these references are found of the query in the trie of the field
+    abbrev pub AreFoundInTrie : Join → (field query : Bytes) → (found : List Bytes) → Type 0
+    AreFoundInTrie join field query found = (language : L) → Speaks leaves_of leaves s language
+        → FindsInTrie (LanguageReads (tokens_of language) (leaves_of language)) (fields_of s) s.printed.tries.items join field query found
 
-  -- whatever it searches, where its language read the documents, these references are found of the query's text in the field
-  abbrev pub AreFoundInTexts : (tokens_of : L → Text → List Text) (leaves_of : L → Text → Option Text → Type 0) (leaves : (v : X) × O v → Text → Option Text) → Searcher L P X O p
-      → Join → (field query : Bytes) → (found : List Bytes) → Type 0
-  AreFoundInTexts tokens_of leaves_of leaves s join field query found = (language : L) (plan : Plan) (commands : Commands)
-      → StandsFor leaves_of leaves s language plan commands
-      → FindsInField (LanguageReads (tokens_of language) (leaves_of language)) join plan commands field query found
+    -- whatever language it speaks, these references are found of it in one or more of the tries of the fields of these names
+    abbrev pub AreFoundInTries : Join → (names : List Bytes) → (query : Bytes) → (found : List Bytes) → Type 0
+    AreFoundInTries join names query found = (language : L) → Speaks leaves_of leaves s language
+        → FindsInTries (LanguageReads (tokens_of language) (leaves_of language)) (fields_of s) s.printed.tries.items join names query found
 
-  -- whatever it searches, where its language read the documents, these references are found of it in one or more of the fields of these names
-  abbrev pub AreFoundInFields : (tokens_of : L → Text → List Text) (leaves_of : L → Text → Option Text → Type 0) (leaves : (v : X) × O v → Text → Option Text) → Searcher L P X O p
-      → Join → (names : List Bytes) → (query : Bytes) → (found : List Bytes) → Type 0
-  AreFoundInFields tokens_of leaves_of leaves s join names query found = (language : L) (plan : Plan) (commands : Commands)
-      → StandsFor leaves_of leaves s language plan commands
-      → FindsInFields (LanguageReads (tokens_of language) (leaves_of language)) join plan commands names query found
+    -- whatever it searches, these references are found of the query in the field; `Finds` says it of the commands, the field's number and the query's tokens
+    abbrev pub AreFound : (Finds : Commands → ℕ → List Text → List Bytes → Type 0) → (field query : Bytes) → (found : List Bytes) → Type 0
+    AreFound Finds field query found = (language : L) (plan : Plan) (commands : Commands) → StandsFor leaves_of leaves s language plan commands
+        → IsFound (Finds commands) (LanguageReads (tokens_of language) (leaves_of language)) plan.fields field query found
+
+    -- whatever it searches, where its language read the documents, these references are found of the query's text in the field
+    abbrev pub AreFoundInTexts : Join → (field query : Bytes) → (found : List Bytes) → Type 0
+    AreFoundInTexts join field query found = (language : L) (plan : Plan) (commands : Commands) → StandsFor leaves_of leaves s language plan commands
+        → FindsInField (LanguageReads (tokens_of language) (leaves_of language)) join plan commands field query found
+
+    -- whatever it searches, where its language read the documents, these references are found of it in one or more of the fields of these names
+    abbrev pub AreFoundInFields : Join → (names : List Bytes) → (query : Bytes) → (found : List Bytes) → Type 0
+    AreFoundInFields join names query found = (language : L) (plan : Plan) (commands : Commands) → StandsFor leaves_of leaves s language plan commands
+        → FindsInFields (LanguageReads (tokens_of language) (leaves_of language)) join plan commands names query found

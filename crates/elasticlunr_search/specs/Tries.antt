@@ -1,8 +1,12 @@
--- What a search of one trie answers.
-use Rattle.std.specs.Prelude.{◌≢◌, List, [], IsSome, Contains}
+-- What a search of tries answers.
+use Rattle.std.specs.Prelude.{◌≡◌, ◌≢◌, ℕ, List, [], Some, IsSome, Contains, slice_get}
+use Rattle.std.specs.List.{AllZip}
 use Rattle.elasticlunr_text.specs.Text.{Text, Bytes}
 use Rattle.elasticlunr_trie.specs.Table.{Table, posting}
 use Rattle.elasticlunr.specs.Found.{AreThose}
+use Rattle.elasticlunr_search.specs.Query.{IsFound}
+use Rattle.elasticlunr_search.specs.declared.words.Join.{Join}
+use Rattle.elasticlunr_search.specs.declared.words.Join.TheVariants.{Any, All}
 
 -- the references that have a posting at one of the tokens
 abbrev pub HaveAny : Table → List Text → List Bytes → Type 0
@@ -11,3 +15,23 @@ HaveAny table tokens = AreThose (λ r. (token : Text) × Contains tokens token �
 -- the references that have a posting at each token, of which there is one at least
 abbrev pub HaveAll : Table → List Text → List Bytes → Type 0
 HaveAll table tokens = AreThose (λ r. (tokens ≢ []) × ((token : Text) → Contains tokens token → IsSome (posting table token r)))
+
+-- the one or the other, as the join says
+abbrev pub Have : Join → Table → List Text → List Bytes → Type 0
+Have Any = HaveAny
+Have All = HaveAll
+
+-- they are those of the table at this place
+abbrev pub HaveAt : List Table → Join → ℕ → List Text → List Bytes → Type 0
+HaveAt tables join i tokens found = (table : Table) × (slice_get tables i ≡ Some table) × Have join table tokens found
+
+-- In each definition `reads` relates the number of a field and a text to the tokens that a language reads of it, and each field has the table at the same place.
+module _ (reads : ℕ → Bytes → List Text → Type 0) (fields : List Bytes) (tables : List Table) (join : Join) where
+  -- these are the references that have, in the table of the field of this name, a posting at one of the query's tokens, or at each
+  abbrev pub FindsInTrie : (field query : Bytes) → (found : List Bytes) → Type 0
+  FindsInTrie = IsFound (HaveAt tables join) reads fields
+
+  -- these are the references that are found so in one or more of the fields of these names, each of which is a field's
+  abbrev pub FindsInTries : (names : List Bytes) → (query : Bytes) → (found : List Bytes) → Type 0
+  FindsInTries names query found = (parts : List (List Bytes)) × AllZip (λ name part. FindsInTrie name query part) names parts
+      × AreThose (λ r. (part : List Bytes) × Contains parts part × Contains part r) found

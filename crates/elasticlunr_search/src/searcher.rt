@@ -35,7 +35,8 @@ use std::collections::{BTreeMap, BTreeSet};
 /// A printed index, the language that it was built with, and the pipeline of that language.
 ///
 /// It keeps the allocator that its constructor was handed. The tokens of a query are what the
-/// language makes of it and its pipeline leaves, without empty ones, which no index has.
+/// language makes of it and its pipeline leaves, without empty ones, which no index has. What is
+/// found is what the tries have at these, whoever printed the index.
 #[derive(Drop)]
 pub struct Searcher<L> {
     alloc: Global,
@@ -45,7 +46,7 @@ pub struct Searcher<L> {
 }
 
 impl<L: Language> Searcher<L> {
-    ghost use Rattle.elasticlunr_search.specs.Standing.{fields_of, AreFound, AreFoundInFields, AreFoundInTexts, HasFieldsOf, HasPartsOf, LacksFieldOf, StandsFor};
+    ghost use Rattle.elasticlunr_search.specs.Standing.{fields_of, kept_texts, AreFound, AreFoundInFields, AreFoundInTexts, AreFoundInTrie, AreFoundInTries, HasFieldsOf, HasPartsOf, LacksFieldOf, Speaks, StandsFor};
 
     /// Reads the printed text of an index, in any layout, once. The index must have been built with
     /// this language: a text that names another one is refused, and one that names none is read.
@@ -53,6 +54,7 @@ impl<L: Language> Searcher<L> {
         ensures stands { IfOk result (λ s. (plan : Plan) (commands : Commands)
             → IsPrintOf plan commands text.now
             → StandsFor L.leaves_of leaves s language plan commands) }
+        ensures speaks { IfOk result (λ s. Speaks L.leaves_of leaves s language) }
         ensures parts { IfOk result (λ s. (v : Data) × (read text.now ≡ Some v) × HasPartsOf v s) }
         ensures refused { IfErr result (Refuses (L.name_of language) text.now) }
         ensures accepted { IfErr result (RefusesPrint (L.name_of language) text.now) }
@@ -70,6 +72,7 @@ impl<L: Language> Searcher<L> {
         ensures stands { IfOk result (λ s. (plan : Plan) (commands : Commands) (text : List ℕ)
             → read text ≡ Some (view value.now) → IsPrintOf plan commands text
             → StandsFor L.leaves_of leaves s language plan commands) }
+        ensures speaks { IfOk result (λ s. Speaks L.leaves_of leaves s language) }
         ensures parts { IfOk result (HasPartsOf (view value.now)) }
         ensures refused { IfErr result (RefusesValue (L.name_of language) (view value.now)) }
         ensures other { NamesOther (L.name_of language) (view value.now)
@@ -107,6 +110,8 @@ impl<L: Language> Searcher<L> {
         ensures errors { IfErr result (λ e. (e ≡ NoSuchField) ⊎ (e ≡ Memory)) }
         ensures found { IfOk result (λ found. AreFoundInTexts L.tokens_of L.leaves_of leaves self.now
             join field.now query.now (bytes_of found.items)) }
+        ensures in_trie { IfOk result (λ found. AreFoundInTrie L.tokens_of L.leaves_of leaves self.now
+            join field.now query.now (bytes_of found.items)) }
     {
         documents_have_the_tokens_of_their_values::<L>();
         match join {
@@ -127,6 +132,8 @@ impl<L: Language> Searcher<L> {
         ensures has_fields { OnOk result (HasFieldsOf self.now (borrowed fields.now)) }
         ensures errors { IfErr result (λ e. (e ≡ NoSuchField) ⊎ (e ≡ Memory)) }
         ensures found { IfOk result (λ found. AreFoundInFields L.tokens_of L.leaves_of leaves self.now
+            join (borrowed fields.now) query.now (bytes_of found.items)) }
+        ensures in_tries { IfOk result (λ found. AreFoundInTries L.tokens_of L.leaves_of leaves self.now
             join (borrowed fields.now) query.now (bytes_of found.items)) }
     {
         let mut found = BTreeSet::new(self.alloc);
@@ -153,6 +160,9 @@ impl<L: Language> Searcher<L> {
         ensures found { IfOk result (λ found. AreFoundInFields L.tokens_of L.leaves_of leaves self.now
             join (asked_fields (option_map (λ f. f.now) field.entry) (fields_of self.now)) query.now
             (bytes_of found.items)) }
+        ensures in_tries { IfOk result (λ found. AreFoundInTries L.tokens_of L.leaves_of leaves self.now
+            join (asked_fields (option_map (λ f. f.now) field.entry) (fields_of self.now)) query.now
+            (bytes_of found.items)) }
     {
         match field {
             Some(field) => self.find_in(join, &[field], query),
@@ -169,6 +179,8 @@ impl<L: Language> Searcher<L> {
         ensures no_field { (result ≡ Err NoSuchField) ↔ (has_name field.now (fields_of self.now) ≡ false) }
         ensures errors { IfErr result (λ e. (e ≡ NoSuchField) ⊎ (e ≡ Memory)) }
         ensures found { IfOk result (λ found. AreFound L.tokens_of L.leaves_of leaves self.now FindsAny
+            field.now query.now (bytes_of found.items)) }
+        ensures in_trie { IfOk result (λ found. AreFoundInTrie L.tokens_of L.leaves_of leaves self.now Join.Any
             field.now query.now (bytes_of found.items)) }
     {
         postings_tell_tokens();
@@ -188,6 +200,8 @@ impl<L: Language> Searcher<L> {
         ensures errors { IfErr result (λ e. (e ≡ NoSuchField) ⊎ (e ≡ Memory)) }
         ensures found { IfOk result (λ found. AreFound L.tokens_of L.leaves_of leaves self.now FindsAll
             field.now query.now (bytes_of found.items)) }
+        ensures in_trie { IfOk result (λ found. AreFoundInTrie L.tokens_of L.leaves_of leaves self.now Join.All
+            field.now query.now (bytes_of found.items)) }
     {
         postings_tell_tokens();
         let Some(trie) = self.trie(field) else {
@@ -202,6 +216,8 @@ impl<L: Language> Searcher<L> {
     /// their texts, none where there is no such document.
     pub fn texts(&self, reference: &str) -> Result<Option<BTreeMap<String, String>>, SearchError>
         ensures errors { IfErr result (λ e. e ≡ Memory) }
+        ensures kept { IfOk result (λ texts.
+            option_map (λ t. text_map t.entries) texts ≡ kept_texts self.now reference.now) }
         ensures texts { IfOk result (λ texts. (language : L) (plan : Plan) (commands : Commands)
             → StandsFor L.leaves_of leaves self.now language plan commands
             → option_map (λ t. text_map t.entries) texts ≡ option_map (stored plan) (now commands reference.now)) }

@@ -12,12 +12,16 @@ returns-in_err-found-clause-refused c =
 
 pub returns-clause-found : goal.returns-clause-found
 returns-clause-found c =
+    let language = c.in_ok-language.language in
     let searcher = c.in_ok-searcher.searcher in
-    let field = c.args.request.now.field.now in (
-      (fields_of searcher, (searcher.printed.tries.items, searcher.printed.store, c.in_ok-searcher.ensures.parts), searched (has_name field (fields_of searcher)) c.in_ok-found.ensures.no_field.1),
-      (
-        c.in_ok-language.language,
-        c.in_ok-language.ensures.named,
-        λ plan commands text reads print read. c.in_ok-found.ensures.found c.in_ok-language.language plan commands (c.in_ok-searcher.ensures.stands plan commands text reads print) read,
-      ),
-    )
+    record {
+      fields = fields_of searcher;
+      tables = searcher.printed.tries.items;
+      contents = searcher.printed.store;
+      of_index = c.in_ok-searcher.ensures.parts;
+      is_there = searched (has_name c.args.request.now.field.now (fields_of searcher)) c.in_ok-found.ensures.no_field.1;
+      language = language;
+      named = c.in_ok-language.ensures.named;
+      in_trie = c.in_ok-found.ensures.in_trie language c.in_ok-searcher.ensures.speaks;
+      are_found = λ plan commands text reads print. c.in_ok-found.ensures.found language plan commands (c.in_ok-searcher.ensures.stands plan commands text reads print);
+    }

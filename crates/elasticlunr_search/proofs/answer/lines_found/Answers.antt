@@ -14,14 +14,18 @@ returns-in_err-found-clause-refused c =
 
 pub returns-clause-found : goal.returns-clause-found
 returns-clause-found c =
+    let language = c.in_ok-language.language in
     let searcher = c.in_ok-searcher.searcher in
     record {
       fields = fields_of searcher;
-      of_index = (searcher.printed.tries.items, searcher.printed.store, c.in_ok-searcher.ensures.parts);
+      tables = searcher.printed.tries.items;
+      contents = searcher.printed.store;
+      of_index = c.in_ok-searcher.ensures.parts;
       are_there = c.in_ok-found.ensures.has_fields;
-      language = c.in_ok-language.language;
+      language = language;
       named = c.in_ok-language.ensures.named;
       found = bytes_of c.in_ok-found.found.items;
-      are_found = λ plan commands text reads print. c.in_ok-found.ensures.found c.in_ok-language.language plan commands (c.in_ok-searcher.ensures.stands plan commands text reads print);
+      in_tries = c.in_ok-found.ensures.in_tries language c.in_ok-searcher.ensures.speaks;
+      are_found = λ plan commands text reads print. c.in_ok-found.ensures.found language plan commands (c.in_ok-searcher.ensures.stands plan commands text reads print);
       are_lines = c.in_ok-lines_of.ensures ∙ ap (λ references. lines (bytes_of references)) c.deref.ensures.value;
     }

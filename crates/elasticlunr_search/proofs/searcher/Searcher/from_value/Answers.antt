@@ -8,7 +8,6 @@ returns-clause-stands g c plan commands text reads print =
     let printed = c.in_ok-printed.printed in
     let law = c.printed_texts_have_their_parts.ensures.only in
     record {
-      its_language = refl;
-      stages = c.in_ok-pipeline.ensures.leaves;
+      speaks = record { its_language = refl; stages = c.in_ok-pipeline.ensures.leaves };
       read = law plan commands text (view c.args.value.now) (bytes_of printed.fields.items) printed.tries.items printed.store print reads c.in_ok-printed.ensures.parts.0;
     }

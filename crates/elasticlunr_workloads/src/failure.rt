@@ -1,0 +1,33 @@
+//! Why a job came to no end.
+
+use elasticlunr::IndexError;
+use elasticlunr_search::SearchError;
+use std::alloc::{AllocError, AllocFailed};
+
+/// A refusal, which no job expects, or want of memory.
+#[derive(Clone, Copy)]
+pub struct Failure {}
+
+impl From<IndexError> for Failure {
+    fn from(_error: IndexError) -> Failure {
+        Failure {}
+    }
+}
+
+impl From<SearchError> for Failure {
+    fn from(_error: SearchError) -> Failure {
+        Failure {}
+    }
+}
+
+impl From<AllocError> for Failure {
+    fn from(_refused: AllocError) -> Failure {
+        Failure {}
+    }
+}
+
+impl<T: Drop> From<AllocFailed<T>> for Failure {
+    fn from(_refused: AllocFailed<T>) -> Failure {
+        Failure {}
+    }
+}

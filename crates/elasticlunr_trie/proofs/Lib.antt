@@ -19,3 +19,4 @@ pub mod Compact
 pub mod Changes
 pub mod Written
 pub mod Behind
+mod Ends

@@ -1,5 +1,6 @@
 pub use Rattle.elasticlunr_nodes.specs.Table
 pub mod Begun
+pub mod Ends
 pub mod Compacted
 pub mod Tree
 pub mod EqualTables

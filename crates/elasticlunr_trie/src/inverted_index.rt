@@ -14,6 +14,7 @@ ghost use Rattle.elasticlunr_trie.specs.Tree.{IsTrieValue};
 
 mod add;
 mod compact;
+mod ends;
 mod read;
 mod references;
 mod remove;
@@ -35,8 +36,9 @@ use same::same_below;
 use serde_json::{Map, Value};
 use starts::{add_starts, starts_of};
 use std::alloc::Global;
-use std::collections::BTreeMap;
+use std::collections::{BTreeMap, HashMap};
 use std::marker::Model;
+use std::{fmt, mem};
 use value::tree_value;
 
 /// The tokens of a field, each with the references of the documents that have it, and how often
@@ -52,15 +54,18 @@ use value::tree_value;
 /// postings stand; its name is kept once. A name may stay when its postings go, until the trie is
 /// compacted; no call shows it.
 ///
-/// A node takes 32 bytes, and more where it has several children or several postings. A number of a
+/// A node takes 32 bytes, and more where it has several children or several postings; a token that
+/// came twice is remembered with its node, which takes some 75 bytes. A number of a
 /// node or of a reference has 32 bits: a call that would make more of them fails as where memory is
 /// wanting.
-#[derive(Debug, Drop)]
+#[derive(Drop)]
 pub struct InvertedIndex {
     root: Vec<(char, u32)>,
     nodes: Vec<Node>,
     names: Names,
     references: Vec<Reference>,
+    // where tokens lead that came more than once
+    ends: HashMap<String, u32>,
 }
 
 impl Model for InvertedIndex {
@@ -72,11 +77,13 @@ impl Model for InvertedIndex {
 
     ghost coded = { map.code (coded_list coded_ℕ) (map.code (coded_list coded_ℕ) coded_ℕ) };
 
-    ghost use Rattle.elasticlunr_nodes.specs.Trie.{table_of, IsIndex};
+    ghost use Rattle.elasticlunr_nodes.specs.Trie.{table_of, step_of, IsIndex};
+    ghost use Rattle.elasticlunr_trie.specs.Ends.{AreEnds};
 
     ghost view = { λ a. table_of a.root.items a.nodes.items a.names };
 
-    ghost invariant = { λ a. IsIndex a.root.items a.nodes.items a.names a.references.items };
+    ghost invariant = { λ a. IsIndex a.root.items a.nodes.items a.names a.references.items
+        × AreEnds (step_of a.root.items a.nodes.items) a.ends };
 }
 
 impl InvertedIndex {
@@ -91,6 +98,7 @@ impl InvertedIndex {
             nodes: Vec::new(alloc),
             names: Names::new(alloc),
             references: Vec::new(alloc),
+            ends: HashMap::new(alloc),
         }
     }
 
@@ -116,6 +124,7 @@ impl InvertedIndex {
             return Ok(());
         }
         let alloc = *self.nodes.allocator();
+        let ends = mem::replace(&mut self.ends, HashMap::new(alloc));
         add_posting(
             alloc,
             &mut self.root,
@@ -125,22 +134,25 @@ impl InvertedIndex {
             doc_ref,
             Start::new(token, term_freq),
         )?;
+        self.ends = ends;
         Ok(())
     }
 
     /// Sets the postings of several tokens, one after the other. An empty token changes nothing.
     ///
-    /// The tokens are walked side by side: while one walk waits for memory, the others go on, so
-    /// that in a large trie this takes less time than a call for each; and the reference gets room
-    /// for all of them at once. Where memory is wanting, the postings of some tokens may be set,
-    /// from the first on, and nothing else has changed.
+    /// A token that came twice before is at its end by one look-up. The others are walked side by
+    /// side: while one walk waits for memory, the others go on, so that in a large trie this takes
+    /// less time than a call for each; and the reference gets room for all of them at once. Where
+    /// memory is wanting, the postings of some tokens may be set, from the first on, and nothing
+    /// else has changed.
     pub fn add_tokens(&mut self, doc_ref: &str, tokens: &[(&str, u64)]) -> Result<(), IndexError>
         ensures ok { OnOk result (AreChanged (additions doc_ref.now (told_tokens tokens.now)) self.old self.new) }
         ensures memory { IsOkUnless result Memory }
         ensures err { OnErr result (AreBegun (additions doc_ref.now (told_tokens tokens.now)) self.old self.new) }
     {
         let alloc = *self.nodes.allocator();
-        let starts = starts_of(alloc, &self.root, &self.nodes, tokens)?;
+        let mut ends = mem::replace(&mut self.ends, HashMap::new(alloc));
+        let starts = starts_of(alloc, &self.root, &self.nodes, &mut ends, tokens)?;
         add_starts(
             alloc,
             &mut self.root,
@@ -150,6 +162,7 @@ impl InvertedIndex {
             doc_ref,
             &starts,
         )?;
+        self.ends = ends;
         Ok(())
     }
 
@@ -264,6 +277,7 @@ impl InvertedIndex {
             nodes,
             names,
             references,
+            ends: HashMap::new(alloc),
         })
     }
 
@@ -273,6 +287,17 @@ impl InvertedIndex {
         ensures { result ≡ knows self.now (chars token.now) }
     {
         find(&self.root, &self.nodes, token).is_some()
+    }
+}
+
+impl fmt::Debug for InvertedIndex {
+    fn fmt<W: fmt::Write>(&self, f: &mut fmt::Formatter<W>) -> fmt::Result {
+        f.debug_struct("InvertedIndex")
+            .field("root", &self.root)
+            .field("nodes", &self.nodes)
+            .field("names", &self.names)
+            .field("references", &self.references)
+            .finish()
     }
 }
 

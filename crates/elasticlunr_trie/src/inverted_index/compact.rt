@@ -18,6 +18,7 @@ use elasticlunr_nodes::names::Names;
 use elasticlunr_nodes::nodes::{Children, Node, Reference, short_number};
 use elasticlunr_nodes::numbered::renumber;
 use std::alloc::{AllocError, Global};
+use std::collections::HashMap;
 
 impl InvertedIndex {
     /// A new trie with the same postings, in which only the beginnings of their tokens are known,
@@ -42,6 +43,7 @@ impl InvertedIndex {
             nodes,
             names,
             references,
+            ends: HashMap::new(alloc),
         })
     }
 }

@@ -2,6 +2,7 @@
 //! characters; the walks of several don't wait for one another.
 ghost use Rattle.std.specs.Prelude.{◌≡◌, map, All, IfOk, OnOk, OnErr};
 ghost use Rattle.std.specs.Str.{chars};
+ghost use Rattle.elasticlunr_trie.specs.Ends.{AreEnds};
 ghost use Rattle.elasticlunr_nodes.specs.Table.{AreChanged, IsChanged, additions, told_tokens};
 ghost use Rattle.elasticlunr_nodes.specs.Table.Change.{add};
 ghost use Rattle.elasticlunr_nodes.specs.Trie.{Step, step_of, IsTrie, IsIndex};
@@ -10,12 +11,14 @@ ghost use Rattle.elasticlunr_nodes.specs.Starts.{IsStart, KeepsPaths, told};
 ghost use Rattle.elasticlunr_trie.specs.Begun.{AreBegun};
 
 use super::add::add_posting;
+use super::ends::{begin, remember};
 use elasticlunr_nodes::branch::locate;
 use elasticlunr_nodes::names::Names;
 use elasticlunr_nodes::nodes::{Node, Place, Reference, child, children_at};
 use elasticlunr_nodes::room::make_room;
 use elasticlunr_nodes::start::Start;
 use std::alloc::{AllocError, Global};
+use std::collections::HashMap;
 
 // How many characters of each token are walked side by side. What follows them is mostly a path
 // without branches, whose nodes stand side by side.
@@ -51,6 +54,9 @@ fn step_all(root: &[(char, u32)], nodes: &[Node], starts: &mut [Start<'_>])
     ensures told { map told starts.new ≡ map told starts.old }
 {
     for i in 0..starts.len() {
+        if starts[i].rest.is_empty() {
+            continue;
+        }
         starts[i] = step(root, nodes, starts[i]);
     }
 }
@@ -79,30 +85,82 @@ fn finish_all(root: &[(char, u32)], nodes: &[Node], starts: &mut [Start<'_>])
     ensures told { map told starts.new ≡ map told starts.old }
 {
     for i in 0..starts.len() {
+        if starts[i].rest.is_empty() {
+            continue;
+        }
         starts[i] = finish(root, nodes, starts[i]);
     }
 }
 
-// Tokens with their frequencies, each walked as far as it is known.
+// Tokens with their frequencies, each walked as far as it is known. A token that came before may
+// lead to its end at once.
 pub(super) fn starts_of<'a>(
     alloc: Global,
     root: &[(char, u32)],
     nodes: &[Node],
+    ends: &mut HashMap<String, u32>,
     tokens: &[(&'a str, u64)],
 ) -> Result<Vec<Start<'a>>, AllocError>
-    requires { IsTrie root.now nodes.now }
+    requires trie { IsTrie root.now nodes.now }
+    requires ends { AreEnds (step_of root.now nodes.now) ends.old }
+    ensures ends { AreEnds (step_of root.now nodes.now) ends.new }
+    ensures starts { IfOk result (λ v. All (IsStart (step_of root.now nodes.now)) v.items) }
+    ensures told { IfOk result (λ v. map told v.items ≡ told_tokens tokens.now) }
+{
+    let mut missed = Vec::new(alloc);
+    let mut starts = begun(alloc, root, nodes, ends, tokens, &mut missed)?;
+    for _ in 0..STEPS {
+        step_all(root, nodes, &mut starts);
+    }
+    finish_all(root, nodes, &mut starts);
+    remember_all(alloc, root, nodes, ends, &starts, &missed)?;
+    Ok(starts)
+}
+
+// Tokens with their frequencies, each at its end, where that is remembered. The numbers of the
+// others are told.
+fn begun<'a>(
+    alloc: Global,
+    root: &[(char, u32)],
+    nodes: &[Node],
+    ends: &HashMap<String, u32>,
+    tokens: &[(&'a str, u64)],
+    missed: &mut Vec<usize>,
+) -> Result<Vec<Start<'a>>, AllocError>
+    requires ends { AreEnds (step_of root.now nodes.now) ends.now }
     ensures starts { IfOk result (λ v. All (IsStart (step_of root.now nodes.now)) v.items) }
     ensures told { IfOk result (λ v. map told v.items ≡ told_tokens tokens.now) }
 {
     let mut starts = Vec::with_capacity(alloc, tokens.len())?;
     for &(token, frequency) in tokens {
-        starts.push(Start::new(token, frequency))?;
+        let start = begin(root, nodes, ends, token, frequency);
+        if matches!(start.place, Place::Root) {
+            missed.push(starts.len())?;
+        }
+        starts.push(start)?;
     }
-    for _ in 0..STEPS {
-        step_all(root, nodes, &mut starts);
-    }
-    finish_all(root, nodes, &mut starts);
     Ok(starts)
+}
+
+// Remembers where the tokens of these numbers lead.
+fn remember_all(
+    alloc: Global,
+    root: &[(char, u32)],
+    nodes: &[Node],
+    ends: &mut HashMap<String, u32>,
+    starts: &[Start<'_>],
+    missed: &[usize],
+) -> Result<(), AllocError>
+    requires ends { AreEnds (step_of root.now nodes.now) ends.old }
+    requires starts { All (IsStart (step_of root.now nodes.now)) starts.now }
+    ensures ends { AreEnds (step_of root.now nodes.now) ends.new }
+{
+    for i in missed {
+        if *i < starts.len() {
+            remember(alloc, root, nodes, ends, starts[*i])?;
+        }
+    }
+    Ok(())
 }
 
 // Sets the posting of a token, unless it is empty.
@@ -145,6 +203,8 @@ pub(super) fn add_starts(
     ensures index { IsIndex root.new.items nodes.new.items names.new references.new.items }
     ensures ok { OnOk result (AreChanged (additions doc_ref.now (map told starts.now))
         (node_table root.old nodes.old names.old) (node_table root.new nodes.new names.new)) }
+    ensures paths { OnOk result (KeepsPaths (step_of root.old.items nodes.old.items)
+        (step_of root.new.items nodes.new.items)) }
     ensures err { OnErr result (AreBegun (additions doc_ref.now (map told starts.now))
         (node_table root.old nodes.old names.old) (node_table root.new nodes.new names.new)) }
 {

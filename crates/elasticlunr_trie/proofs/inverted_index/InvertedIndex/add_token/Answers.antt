@@ -6,6 +6,7 @@ use mathlib.Core.Bool.{false≢true}
 use Rattle.elasticlunr_nodes.specs.Table.{AddsToken}
 use Rattle.elasticlunr_nodes.specs.Trie.{table_of}
 use Rattle.elasticlunr_nodes.proofs.Letters.{some_character, no_character}
+use Rattle.elasticlunr_trie.proofs.Ends.{ends_kept}
 use Rattle.elasticlunr_trie.proofs.inverted_index.InvertedIndex.add_token.Goals as goal
 
 on_err : {T E : Type 0} (r : Result T E) (P : Type 0) → P → OnErr r P
@@ -18,7 +19,7 @@ returns-then-is_empty-clause-ok c some = absurd (some (no_character _ (eqb-true 
 -- a token that is not empty has a character
 pub add_posting-requires-clause-not_empty : goal.add_posting-requires-clause-not_empty
 add_posting-requires-clause-not_empty c none =
-    let none : chars c.args.token.now ≡ [] = sym (ap (λ (t : Text × ℕ). t.0) c.new.ensures.told) ∙ none in
+    let none : chars c.args.token.now ≡ [] = sym (ap (λ (t : Text × ℕ). t.0) c.new-2.ensures.told) ∙ none in
     absurd (false≢true (c.if-is_empty.ensures ∙ eq-eqb (length c.args.token.now) 0 (some_character c.args.token.now c.utf8.token none)))
 
 pub returns-in_err-add_posting-clause-empty_token : goal.returns-in_err-add_posting-clause-empty_token
@@ -36,5 +37,8 @@ returns-clause-empty_token c none =
 pub returns-clause-ok : goal.returns-clause-ok
 returns-clause-ok c _ =
     let after = table_of c.add_posting.new.root.items c.add_posting.new.nodes.items c.add_posting.new.names in
-    subst (λ (t : Text × ℕ). AddsToken c.args.self.now after t.0 c.args.doc_ref.now t.1) c.new.ensures.told
-    (subst (λ T. AddsToken T after (chars c.new.result.token.now) c.args.doc_ref.now c.new.result.frequency) c.self.view_is c.in_ok-add_posting.ensures.ok)
+    subst (λ (t : Text × ℕ). AddsToken c.args.self.now after t.0 c.args.doc_ref.now t.1) c.new-2.ensures.told
+    (subst (λ T. AddsToken T after (chars c.new-2.result.token.now) c.args.doc_ref.now c.new-2.result.frequency) c.self.view_is c.in_ok-add_posting.ensures.ok)
+
+pub invariant_of-self-2 : goal.invariant_of-self-2
+invariant_of-self-2 c = (c.in_ok-add_posting.ensures.index, rw c.replace-ends.ensures.value (ends_kept _ _ c.self.inside.ends c.in_ok-add_posting.ensures.paths c.self.invariant.1))

@@ -1,9 +1,14 @@
-use Rattle.std.proofs.Common.{map, ap, subst, ◌∙◌}
+use Rattle.std.proofs.Common.{Result, Ok, Err, OnErr, map, ap, subst, ◌∙◌}
 use Rattle.std.proofs.lemmas.Result.{IfOk-from_err}
 use Rattle.elasticlunr_nodes.specs.Table.{AreChanged, additions}
 use Rattle.elasticlunr_nodes.specs.Trie.{table_of}
 use Rattle.elasticlunr_nodes.specs.Starts.{told}
+use Rattle.elasticlunr_trie.proofs.Ends.{ends_kept}
 use Rattle.elasticlunr_trie.proofs.inverted_index.InvertedIndex.add_tokens.Goals as goal
+
+on_err : {T E : Type 0} (r : Result T E) (P : Type 0) → P → OnErr r P
+on_err (Ok x) P p = tt
+on_err (Err e) P p = p
 
 -- the starts tell the tokens and their frequencies
 pub returns-clause-ok : goal.returns-clause-ok
@@ -18,3 +23,10 @@ returns-in_err-starts-clause-ok c = IfOk-from_err c.from_residual.result _ c.fro
 
 pub returns-in_err-add_starts-clause-ok : goal.returns-in_err-add_starts-clause-ok
 returns-in_err-add_starts-clause-ok c = IfOk-from_err c.from_residual-in_err-add_starts.result _ c.from_residual-in_err-add_starts.ensures.0
+
+-- nothing was changed
+pub returns-in_err-starts-clause-err : goal.returns-in_err-starts-clause-err
+returns-in_err-starts-clause-err c = on_err c.from_residual.result _ (0, c.self.view_is)
+
+pub invariant_of-self-2 : goal.invariant_of-self-2
+invariant_of-self-2 c = (c.in_ok-add_starts.ensures.index, ends_kept _ _ c.starts_of.new.ends c.in_ok-add_starts.ensures.paths (rw (c.deref.ensures.value, c.deref-2.ensures.value) at c.in_ok-starts.ensures.ends))

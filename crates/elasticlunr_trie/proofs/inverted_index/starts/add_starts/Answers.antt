@@ -15,6 +15,7 @@ loop-start-preserved c = (
   c.in_ok-add_start.ensures.index,
   (λ k d lt. start_kept _ _ c.in_ok-add_start.ensures.paths _ (c.loop-start.invariant.1 k d lt)),
   changed_on c.args.doc_ref.now c.args.starts.now c.loop-start.start-index _ _ _ _ (omega arith) c.loop-start.invariant.2 c.in_ok-add_start.ensures.ok,
+  (λ t p e. c.in_ok-add_start.ensures.paths t p (c.loop-start.invariant.3 t p e)),
 )
 
 pub loop-start-init : goal.loop-start-init
@@ -26,6 +27,7 @@ loop-start-init c =
       subst (λ ns. IsIndex root ns c.make_room.new.names c.make_room.new.references.items) are (c.make_room.ensures.index root there),
       c.requires.starts,
       same,
+      (λ t p e. e),
     )
 
 pub returns-clause-index : goal.returns-clause-index
@@ -45,3 +47,6 @@ returns-in_err-add_start-clause-err c =
     let new = table_of c.add_start.new.root.items c.add_start.new.nodes.items c.add_start.new.names in
     on_err c.from_residual-in_err-add_start.result _ (begun c.args.doc_ref.now c.args.starts.now c.loop-start.start-index old new
     (subst (AreChanged first old) (sym c.in_err-add_start.ensures.err) c.loop-start.invariant.2))
+
+pub returns-clause-paths : goal.returns-clause-paths
+returns-clause-paths c = c.loop-start.invariant.3

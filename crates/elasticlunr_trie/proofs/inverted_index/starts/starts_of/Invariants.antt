@@ -1,13 +1,8 @@
-use Rattle.std.proofs.Common.{◌≡◌, ◌++◌, map, All, drop}
+use Rattle.std.proofs.Common.{◌≡◌, map, All}
 use Rattle.elasticlunr_nodes.specs.Table.{told_tokens}
 use Rattle.elasticlunr_nodes.specs.Trie.{step_of}
 use Rattle.elasticlunr_nodes.specs.Starts.{IsStart, told}
 use Rattle.elasticlunr_trie.proofs.inverted_index.starts.starts_of.Given as goal
-
--- the tokens from here on come behind those that have a start
-abbrev pub invariant-loop-token : goal.invariant-loop-token
-invariant-loop-token l =
-    All (IsStart (step_of l.root l.nodes)) l.starts.items × (map told l.starts.items ++ told_tokens (drop l.token-index l.tokens) ≡ told_tokens l.tokens)
 
 abbrev pub invariant-loop : goal.invariant-loop
 invariant-loop l = All (IsStart (step_of l.root l.nodes)) l.starts.items × (map told l.starts.items ≡ told_tokens l.tokens)

@@ -1,0 +1,13 @@
+use Rattle.std.proofs.Common.{chars, sym}
+use Rattle.std.proofs.lemmas.Str.{IsUtf8-nil}
+use Rattle.elasticlunr_trie.proofs.Ends.{all_known}
+use Rattle.elasticlunr_trie.proofs.inverted_index.ends.begin.Goals as goal
+
+pub returns-in-Some-clause-start : goal.returns-in-Some-clause-start
+returns-in-Some-clause-start c = record {
+  known = chars c.args.token.now;
+  split = all_known c.args.token.now;
+  leads = c.requires c.args.token.now c.in-Some.k.now (sym c.in-Some.ensures.value);
+  token = c.utf8.token;
+  rest = IsUtf8-nil;
+}

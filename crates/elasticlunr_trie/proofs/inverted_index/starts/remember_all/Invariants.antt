@@ -1,0 +1,6 @@
+use Rattle.elasticlunr_nodes.specs.Trie.{step_of}
+use Rattle.elasticlunr_trie.specs.Ends.{AreEnds}
+use Rattle.elasticlunr_trie.proofs.inverted_index.starts.remember_all.Given as goal
+
+abbrev pub invariant-loop-i : goal.invariant-loop-i
+invariant-loop-i l = AreEnds (step_of l.root l.nodes) l.ends

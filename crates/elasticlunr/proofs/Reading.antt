@@ -1,17 +1,13 @@
 -- What is read by the language alone.
-use Rattle.std.proofs.Common.{◌≡◌, ◌≢◌, ◌<◌, ◌↔◌, ℕ, List, [], ◌∷◌, length, get_or, Option, None, Some, Result, IfOk, IsTrue, String, Vec, Global, string_bytes, refl, sym, subst, filter_map}
+use Rattle.std.proofs.Common.{◌≡◌, ◌≢◌, ◌<◌, ◌↔◌, ℕ, List, [], ◌∷◌, length, get_or, Option, None, Some, Result, IfOk, IsTrue, String, Vec, Global, Bool, true, false, refl, sym, ap, subst, ◌∙◌, filter_map}
 use Rattle.std.proofs.lemmas.Option.{slice_get_read}
+use Rattle.std.specs.Bool.{OnTrue}
 use Rattle.std.specs.List.{slice_get, AllZip, AllByRecursion}
 use Rattle.std.specs.Str.{chars, all_scalars}
-use Rattle.std.proofs.lemmas.Str.{scalars-chars, IsUtf8-string_bytes}
 use Rattle.elasticlunr_text.specs.Text.{Text, Bytes, texts_of}
+use Rattle.elasticlunr_text.proofs.TextLemmas.{texts_are_texts}
 use Rattle.elasticlunr.specs.Choices.{Choices, IsMadeAt, Reads}
 use Rattle.elasticlunr.specs.Reading.{LanguageReads}
-
--- the texts of strings are lists of characters
-pub texts_are_texts : (strings : List (String Global)) → AllByRecursion (λ token. IsTrue (all_scalars token)) (texts_of strings)
-texts_are_texts [] = tt
-texts_are_texts (s ∷ strings) = (scalars-chars (string_bytes s) (IsUtf8-string_bytes s), texts_are_texts strings)
 
 -- what one relation leaves of texts, another does that holds wherever the one does
 pub leaves_as : (M R : Text → Option Text → Type 0) → ((token : Text) (left : Option Text) → IsTrue (all_scalars token) → M token left → R token left)
@@ -27,6 +23,14 @@ pub made_at : {L T E : Type 0} (tokens_of : L → Text → List Text) (answers :
     → IfOk r (λ made. IsMadeAt tokens_of answers language (slice_get tokenizers i) value (texts_of made.items))
 made_at tokens_of answers language tokenizers i place value r inside read made =
     subst (λ there. IfOk r (λ v. IsMadeAt tokens_of answers language there value (texts_of v.items))) (sym (slice_get_read tokenizers (length tokenizers) i place refl inside read)) made
+
+-- where there is no tokenizer and the language makes words, words are made
+pub words_at : {L T : Type 0} (tokens_of : L → Text → List Text) (answers : T → Bytes → List Text → Type 0) (words : Text → List Text) (language : L) (tokenizers : List (Option T)) (i : ℕ) (place : Option T)
+    (b : Bool) → i < length tokenizers → place ≡ get_or tokenizers i place → place ≡ None → OnTrue b ((text : Text) → tokens_of language text ≡ words text)
+    → OnTrue b ((value : Bytes) → IsMadeAt tokens_of answers language (slice_get tokenizers i) value (words (chars value)))
+words_at tokens_of answers words language tokenizers i place true inside read none same = λ value.
+    subst (λ there. IsMadeAt tokens_of answers language there value (words (chars value))) (sym (slice_get_read tokenizers (length tokenizers) i place refl inside read ∙ ap Some none)) (sym (same (chars value)))
+words_at tokens_of answers words language tokenizers i place false inside read none same = tt
 
 module _ {L P T : Type 0} (tokens_of : L → Text → List Text) (answers : T → Bytes → List Text → Type 0) (c : Choices L P T) where
   -- what is made by a language, or by a tokenizer that is not there, is made by the language

@@ -40,6 +40,10 @@ impl<K: KeptLanguage> Language for K {
         K::LANGUAGE.tokenize(alloc, text)
     }
 
+    fn tokenizes_whitespace(&self) -> bool {
+        K::LANGUAGE.tokenizes_whitespace()
+    }
+
     fn make_pipeline(&self, alloc: Global, empty: Pipeline) -> Result<Pipeline, AllocError> {
         K::LANGUAGE.make_pipeline(alloc, empty)
     }

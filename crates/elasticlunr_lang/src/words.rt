@@ -1,11 +1,13 @@
 //! The words of a text.
-ghost use Rattle.std.specs.Prelude.{◌≡◌, ◌<◌, ◌∷◌, [], ◌++◌, IfOk, IfSome, OnOk, filter, map, length, option_map};
+ghost use Rattle.std.specs.Prelude.{◌≡◌, ◌<◌, List, ◌∷◌, [], ◌++◌, IfOk, IfSome, OnOk, filter, map, length, option_map};
 ghost use Rattle.std.specs.Str.{chars, IsAscii};
-ghost use Rattle.elasticlunr_text.specs.Text.{text_of, texts_of, is_not_empty};
+ghost use Rattle.elasticlunr_text.specs.Text.{Text, text_of, texts_of, is_not_empty};
 ghost use Rattle.elasticlunr_lang.specs.Lower.{lower};
+ghost use Rattle.elasticlunr_lang.specs.Read.{IsReadAs};
 ghost use Rattle.elasticlunr_lang.specs.Words.{words, in_lower_case, is_separator, IsRunOf};
 
 use crate::lower::lower_char;
+use elasticlunr_text::pipeline::Pipeline;
 use std::alloc::{AllocError, Global};
 
 #[tactic(auto, unfolding(crate::specs::Words::is_separator))]
@@ -87,4 +89,42 @@ pub fn tokenize_whitespace(alloc: Global, text: &str) -> Result<Vec<String>, All
         left = rest;
     }
     Ok(tokens)
+}
+
+/// Puts what a pipeline leaves of the word of a run behind what it left of others, unless the run is
+/// empty.
+fn read_run(
+    alloc: Global,
+    run: &str,
+    pipeline: &Pipeline,
+    kept: &mut Vec<String>,
+) -> Result<(), AllocError>
+    ensures { OnOk result ((tokens : List Text) → IsReadAs leaves pipeline.now tokens (texts_of kept.old.items)
+        → IsReadAs leaves pipeline.now (tokens ++ map in_lower_case (filter is_not_empty (chars run.now ∷ [])))
+        (texts_of kept.new.items)) }
+{
+    if !run.is_empty() {
+        let word = word_of(alloc, run)?;
+        pipeline.run_on(alloc, word, kept)?;
+    }
+    Ok(())
+}
+
+/// What a pipeline leaves of the words of the text, in order. Each word passes the stages before
+/// the next one is made, so that the memory of a word that a stage drops serves another one.
+pub fn run_on_words(
+    alloc: Global,
+    text: &str,
+    pipeline: &Pipeline,
+) -> Result<Vec<String>, AllocError>
+    ensures { IfOk result (λ left. IsReadAs leaves pipeline.now (words (chars text.now)) (texts_of left.items)) }
+{
+    let mut kept = Vec::new(alloc);
+    let mut left = Some(text);
+    while let Some(text) = left {
+        let (run, rest) = split_run(text);
+        read_run(alloc, run, pipeline, &mut kept)?;
+        left = rest;
+    }
+    Ok(kept)
 }

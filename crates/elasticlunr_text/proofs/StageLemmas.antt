@@ -63,14 +63,18 @@ module _ {f x p calls : _} (leaves : DynBox x Global p → List ℕ → Option (
       last (Some u) = refl
 
   -- one token more, of which a text is left
-  pub MayRun-kept : (stages : List (Stage f x p calls)) (tokens kept more : List (String Global)) (t u : String Global) → MayRun leaves stages (texts_of tokens) (texts_of kept) → MayLeaveAll leaves stages (text_of t) (Some (text_of u)) → more ≡ kept ++ u ∷ [] → MayRun leaves stages (texts_of (tokens ++ t ∷ [])) (texts_of more)
+  pub MayRun-kept : (stages : List (Stage f x p calls)) (tokens : List (List ℕ)) (kept more : List (String Global)) (t : List ℕ) (u : String Global) → MayRun leaves stages tokens (texts_of kept) → MayLeaveAll leaves stages t (Some (text_of u)) → more ≡ kept ++ u ∷ [] → MayRun leaves stages (tokens ++ t ∷ []) (texts_of more)
   MayRun-kept stages tokens kept more t u all one e =
-      rw (e, map-append text_of tokens (t ∷ []), map-append text_of kept (u ∷ [])) (MayRun-snoc stages (texts_of tokens) (texts_of kept) (text_of t) (Some (text_of u)) all one)
+      rw (e, map-append text_of kept (u ∷ [])) (MayRun-snoc stages tokens (texts_of kept) t (Some (text_of u)) all one)
 
   -- one token more, which is dropped
-  pub MayRun-dropped : (stages : List (Stage f x p calls)) (tokens kept : List (String Global)) (t : String Global) → MayRun leaves stages (texts_of tokens) (texts_of kept) → MayLeaveAll leaves stages (text_of t) None → MayRun leaves stages (texts_of (tokens ++ t ∷ [])) (texts_of kept)
+  pub MayRun-dropped : (stages : List (Stage f x p calls)) (tokens : List (List ℕ)) (kept : List (String Global)) (t : List ℕ) → MayRun leaves stages tokens (texts_of kept) → MayLeaveAll leaves stages t None → MayRun leaves stages (tokens ++ t ∷ []) (texts_of kept)
   MayRun-dropped stages tokens kept t all one =
-      rw (map-append text_of tokens (t ∷ []), ← (append-nil (texts_of kept))) (MayRun-snoc stages (texts_of tokens) (texts_of kept) (text_of t) None all one)
+      rw (← (append-nil (texts_of kept))) (MayRun-snoc stages tokens (texts_of kept) t None all one)
+
+  -- the texts of one string more
+  pub MayRun-strings : (stages : List (Stage f x p calls)) (tokens : List (String Global)) (t : String Global) (texts : List (List ℕ)) → MayRun leaves stages (texts_of tokens ++ text_of t ∷ []) texts → MayRun leaves stages (texts_of (tokens ++ t ∷ [])) texts
+  MayRun-strings stages tokens t texts ran = rw (map-append text_of tokens (t ∷ [])) ran
 
   -- a run of two lists of tokens is a run of each
   pub MayRun-parts : (stages : List (Stage f x p calls)) (tokens more texts : List (List ℕ)) → MayRun leaves stages (tokens ++ more) texts → (one : List (List ℕ)) × (other : List (List ℕ)) × (texts ≡ one ++ other) × MayRun leaves stages tokens one × MayRun leaves stages more other

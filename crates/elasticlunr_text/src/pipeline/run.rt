@@ -1,6 +1,6 @@
 //! Pipelines of stages.
-ghost use Rattle.std.specs.Prelude.{◌≡◌, IfOk, option_map};
-ghost use Rattle.elasticlunr_text.specs.Text.{text_of, texts_of, bytes_of};
+ghost use Rattle.std.specs.Prelude.{◌≡◌, ◌++◌, ◌∷◌, [], List, IfOk, OnOk, option_map};
+ghost use Rattle.elasticlunr_text.specs.Text.{Text, text_of, texts_of, bytes_of};
 
 use super::stage::Stage;
 use std::alloc::{AllocError, Global};
@@ -41,6 +41,23 @@ impl Pipeline {
         Ok(Some(token))
     }
 
+    /// Puts what the stages leave of one more token behind what they left of others. A token that a
+    /// stage drops is gone; one that a stage empties stays.
+    pub fn run_on(
+        &self,
+        alloc: Global,
+        token: String,
+        kept: &mut Vec<String>,
+    ) -> Result<(), AllocError>
+        ensures { OnOk result ((tokens : List Text) → IsRun leaves self.now tokens (texts_of kept.old.items)
+            → IsRun leaves self.now (tokens ++ text_of token ∷ []) (texts_of kept.new.items)) }
+    {
+        if let Some(left) = self.filter(alloc, token)? {
+            kept.push(left)?;
+        }
+        Ok(())
+    }
+
     /// What the stages leave of each token, in order. A token that a stage drops is gone; one that
     /// a stage empties stays.
     pub fn run(&self, alloc: Global, tokens: Vec<String>) -> Result<Vec<String>, AllocError>
@@ -48,9 +65,7 @@ impl Pipeline {
     {
         let mut kept = Vec::with_capacity(alloc, tokens.len())?;
         for token in tokens {
-            if let Some(left) = self.filter(alloc, token)? {
-                kept.push(left)?;
-            }
+            self.run_on(alloc, token, &mut kept)?;
         }
         Ok(kept)
     }

@@ -4,18 +4,12 @@ use Rattle.std.proofs.lemmas.Iterator.Consumers.{YieldsList-end}
 use Rattle.std.proofs.lemmas.List.{map-id}
 use Rattle.elasticlunr_text.specs.Stages.{MayRun}
 use Rattle.elasticlunr_text.specs.Text.{texts_of}
-use Rattle.elasticlunr_text.proofs.StageLemmas.{MayRun-kept, MayRun-dropped}
+use Rattle.elasticlunr_text.proofs.StageLemmas.{MayRun-strings}
 use Rattle.elasticlunr_text.proofs.pipeline.run.Pipeline.run.Goals as goal
-
-pub loop-token-preserved-in-Continue-branch-4 : goal.loop-token-preserved-in-Continue-branch-4
-loop-token-preserved-in-Continue-branch-4 g c =
-    MayRun-kept _ c.args.self.now.queue.items c.loop-token.yielded c.loop-token.kept.items _ c.in-Some.token c.in-Some-2.left c.loop-token.invariant
-    (rw c.in-Some-2.is at c.in_ok-left.ensures) c.in_ok-push.ensures.items
 
 pub loop-token-preserved : goal.loop-token-preserved
 loop-token-preserved g c =
-    MayRun-dropped _ c.args.self.now.queue.items c.loop-token.yielded c.loop-token.kept.items c.in-Some.token c.loop-token.invariant
-    (rw c.in_default.is at c.in_ok-left.ensures)
+    MayRun-strings _ c.args.self.now.queue.items c.loop-token.yielded c.in-Some.token _ (c.in_ok-run_on.ensures (texts_of c.loop-token.yielded) c.loop-token.invariant)
 
 pub returns : goal.returns
 returns g c =

@@ -5,14 +5,17 @@ ghost use Rattle.elasticlunr_nodes.specs.Names.{names_of, number_of, entered, Ar
 
 use std::alloc::{AllocError, Global};
 use std::collections::BTreeMap;
+use std::fmt;
 use std::marker::Model;
 
 /// Names in the order in which they came. The number of a name is its place, and no name comes
 /// twice.
-#[derive(Debug, Drop)]
+#[derive(Drop)]
 pub struct Names {
     in_order: Vec<String>,
     numbers: BTreeMap<String, usize>,
+    // the number of the name that was entered last
+    recent: usize,
 }
 
 impl Model for Names {
@@ -38,6 +41,7 @@ impl Names {
         Names {
             in_order: Vec::new(alloc),
             numbers: BTreeMap::new(alloc),
+            recent: 0,
         }
     }
 
@@ -69,31 +73,42 @@ impl Names {
         Ok(ranks)
     }
 
-    /// The number of the newest name, if it is this one.
-    fn newest(&self, name: &str) -> Option<usize>
+    /// The number of the name that was entered last, if it is this one.
+    fn entered_last(&self, name: &str) -> Option<usize>
         ensures { IfSome result (λ n. number_of self.now name.now ≡ Some n) }
     {
-        let count = self.in_order.len();
-        if count == 0 || self.name(count - 1) != name {
+        if self.recent >= self.in_order.len() || self.name(self.recent) != name {
             return None;
         }
-        Some(count - 1)
+        Some(self.recent)
     }
 
-    /// The number of a name, which is added if it is new. The newest name, which comes most often,
-    /// is not looked up.
+    /// The number of a name, which is added if it is new. The name that was entered last, which
+    /// comes most often, is not looked up.
     pub fn enter(&mut self, name: &str) -> Result<usize, AllocError>
         ensures names { OnOk result (self.new ≡ entered self.old name.now) }
         ensures number { IfOk result (λ n. number_of self.new name.now ≡ Some n) }
         ensures err { OnErr result (self.new ≡ self.old) }
     {
-        if let Some(number) = self.newest(name) {
+        if let Some(number) = self.entered_last(name) {
             return Ok(number);
         }
         if let Some(number) = self.numbers.get(name) {
+            self.recent = *number;
             return Ok(*number);
         }
-        add_name(&mut self.in_order, &mut self.numbers, name)
+        let number = add_name(&mut self.in_order, &mut self.numbers, name)?;
+        self.recent = number;
+        Ok(number)
+    }
+}
+
+impl fmt::Debug for Names {
+    fn fmt<W: fmt::Write>(&self, f: &mut fmt::Formatter<W>) -> fmt::Result {
+        f.debug_struct("Names")
+            .field("in_order", &self.in_order)
+            .field("numbers", &self.numbers)
+            .finish()
     }
 }
 

@@ -54,17 +54,17 @@ use value::tree_value;
 /// postings stand; its name is kept once. A name may stay when its postings go, until the trie is
 /// compacted; no call shows it.
 ///
-/// A node takes 32 bytes, and more where it has several children or several postings; a token that
-/// came twice is remembered with its node, which takes some 75 bytes. A number of a
-/// node or of a reference has 32 bits: a call that would make more of them fails as where memory is
-/// wanting.
+/// A node takes 32 bytes, and more where it has several children or several postings. A token that
+/// came when it was known already, for the second time or as the beginning of another one, is
+/// remembered with its node, which takes some 75 bytes. A number of a node or of a reference has 32
+/// bits: a call that would make more of them fails as where memory is wanting.
 #[derive(Drop)]
 pub struct InvertedIndex {
     root: Vec<(char, u32)>,
     nodes: Vec<Node>,
     names: Names,
     references: Vec<Reference>,
-    // where tokens lead that came more than once
+    // where tokens lead that came when they were known already
     ends: HashMap<String, u32>,
 }
 
@@ -140,11 +140,11 @@ impl InvertedIndex {
 
     /// Sets the postings of several tokens, one after the other. An empty token changes nothing.
     ///
-    /// A token that came twice before is at its end by one look-up. The others are walked side by
-    /// side: while one walk waits for memory, the others go on, so that in a large trie this takes
-    /// less time than a call for each; and the reference gets room for all of them at once. Where
-    /// memory is wanting, the postings of some tokens may be set, from the first on, and nothing
-    /// else has changed.
+    /// A token that is remembered is at its end by one look-up. The others are walked side by side:
+    /// while one walk waits for memory, the others go on, so that in a large trie this takes less
+    /// time than a call for each; and the reference gets room for all of them at once. Where memory
+    /// is wanting, the postings of some tokens may be set, from the first on, and nothing else has
+    /// changed.
     pub fn add_tokens(&mut self, doc_ref: &str, tokens: &[(&str, u64)]) -> Result<(), IndexError>
         ensures ok { OnOk result (AreChanged (additions doc_ref.now (told_tokens tokens.now)) self.old self.new) }
         ensures memory { IsOkUnless result Memory }

@@ -1,12 +1,15 @@
 -- Where tokens lead, as a trie remembers it; for private clauses.
-use Rattle.std.specs.Prelude.{◌≡◌, ℕ, Some, String}
-use Rattle.std.specs.HashMap.{HashMap, get_by_text}
+use Rattle.std.specs.Prelude.{◌≡◌, ◌≢◌, Some, All, take}
 use Rattle.std.specs.Str.{chars}
-use Rattle.std.specs.declared.alloc.Global.{Global}
-use Rattle.elasticlunr_error.specs.Text.{Bytes}
 use Rattle.elasticlunr_nodes.specs.Trie.{Step, walk}
 use Rattle.elasticlunr_nodes.specs.declared.nodes.Place.TheVariants.{Root, At}
+use Rattle.elasticlunr_trie.specs.declared.inverted_index.ends.End.{End}
+use Rattle.elasticlunr_trie.specs.declared.inverted_index.ends.Ends.{Ends}
 
--- each token that is remembered leads to the node that is remembered
-abbrev pub AreEnds : {S : Type 0} → Step → HashMap (String Global) ℕ S → Type 0
-AreEnds step ends = (token : Bytes) (k : ℕ) → get_by_text ends token ≡ Some k → walk step Root (chars token) ≡ Some (At k)
+-- a token in a slot that is taken leads to its node
+abbrev pub IsEnd : Step → End → Type 0
+IsEnd step end = end.length ≢ 0 → walk step Root (chars (take end.length end.text)) ≡ Some (At end.node)
+
+-- each token that is remembered does
+abbrev pub AreEnds : Step → Ends → Type 0
+AreEnds step ends = All (IsEnd step) ends.slots.items

@@ -30,13 +30,14 @@ use elasticlunr_nodes::docs::copy_docs;
 use elasticlunr_nodes::names::Names;
 use elasticlunr_nodes::nodes::{Node, Place, Reference, find, find_frequency, find_postings};
 use elasticlunr_nodes::start::Start;
+use ends::Ends;
 use read::{only_member, read_nodes};
 use remove::{remove_posting, remove_postings};
 use same::same_below;
 use serde_json::{Map, Value};
 use starts::{add_starts, starts_of};
 use std::alloc::Global;
-use std::collections::{BTreeMap, HashMap};
+use std::collections::BTreeMap;
 use std::marker::Model;
 use std::{fmt, mem};
 use value::tree_value;
@@ -54,10 +55,11 @@ use value::tree_value;
 /// postings stand; its name is kept once. A name may stay when its postings go, until the trie is
 /// compacted; no call shows it.
 ///
-/// A node takes 32 bytes, and more where it has several children or several postings. A token that
-/// came when it was known already, for the second time or as the beginning of another one, is
-/// remembered with its node, which takes some 75 bytes. A number of a node or of a reference has 32
-/// bits: a call that would make more of them fails as where memory is wanting.
+/// A node takes 32 bytes, and more where it has several children or several postings. A token of up
+/// to 27 bytes that came when it was known already, for the second time or as the beginning of
+/// another one, is remembered with its node, if a slot is free for it: a slot takes 32 bytes, and at
+/// most three of four are taken. A number of a node or of a reference has 32 bits: a call that would
+/// make more of them fails as where memory is wanting.
 #[derive(Drop)]
 pub struct InvertedIndex {
     root: Vec<(char, u32)>,
@@ -65,7 +67,7 @@ pub struct InvertedIndex {
     names: Names,
     references: Vec<Reference>,
     // where tokens lead that came when they were known already
-    ends: HashMap<String, u32>,
+    ends: Ends,
 }
 
 impl Model for InvertedIndex {
@@ -98,7 +100,7 @@ impl InvertedIndex {
             nodes: Vec::new(alloc),
             names: Names::new(alloc),
             references: Vec::new(alloc),
-            ends: HashMap::new(alloc),
+            ends: Ends::new(alloc),
         }
     }
 
@@ -124,7 +126,7 @@ impl InvertedIndex {
             return Ok(());
         }
         let alloc = *self.nodes.allocator();
-        let ends = mem::replace(&mut self.ends, HashMap::new(alloc));
+        let ends = mem::replace(&mut self.ends, Ends::new(alloc));
         add_posting(
             alloc,
             &mut self.root,
@@ -151,8 +153,8 @@ impl InvertedIndex {
         ensures err { OnErr result (AreBegun (additions doc_ref.now (told_tokens tokens.now)) self.old self.new) }
     {
         let alloc = *self.nodes.allocator();
-        let mut ends = mem::replace(&mut self.ends, HashMap::new(alloc));
-        let starts = starts_of(alloc, &self.root, &self.nodes, &mut ends, tokens)?;
+        let starts = starts_of(alloc, &self.root, &self.nodes, &mut self.ends, tokens)?;
+        let ends = mem::replace(&mut self.ends, Ends::new(alloc));
         add_starts(
             alloc,
             &mut self.root,
@@ -277,7 +279,7 @@ impl InvertedIndex {
             nodes,
             names,
             references,
-            ends: HashMap::new(alloc),
+            ends: Ends::new(alloc),
         })
     }
 

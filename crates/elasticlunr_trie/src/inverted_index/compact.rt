@@ -12,13 +12,13 @@ ghost use Rattle.elasticlunr_nodes.specs.Trie.{IsTrie, IsIndex, HaveOneParent, s
 ghost use Rattle.elasticlunr_trie.specs.Compact.{AreNumbers, kept_children, HasFrequency, HasMarked, KeepsMarked, MarksBearing};
 
 use super::InvertedIndex;
+use super::ends::Ends;
 use elasticlunr_error::IndexError;
 use elasticlunr_nodes::few::Few;
 use elasticlunr_nodes::names::Names;
 use elasticlunr_nodes::nodes::{Children, Node, Reference, short_number};
 use elasticlunr_nodes::numbered::renumber;
 use std::alloc::{AllocError, Global};
-use std::collections::HashMap;
 
 impl InvertedIndex {
     /// A new trie with the same postings, in which only the beginnings of their tokens are known,
@@ -43,7 +43,7 @@ impl InvertedIndex {
             nodes,
             names,
             references,
-            ends: HashMap::new(alloc),
+            ends: Ends::new(alloc),
         })
     }
 }

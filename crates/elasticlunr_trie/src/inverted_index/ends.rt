@@ -1,21 +1,183 @@
-//! Where tokens lead that came before. To look that up takes one hash; to walk there takes a step
-//! for each character, and waits for memory at each.
-ghost use Rattle.std.specs.Prelude.{◌≡◌};
-ghost use Rattle.std.specs.Str.{chars, IsUtf8};
+//! Where tokens lead that came before. To look that up takes one hash, and waits for memory once;
+//! to walk there takes a step for each character, and waits at each.
+ghost use Rattle.std.specs.Prelude.{◌≡◌, ◌≢◌, ◌<◌, ℕ, Some, IfOk, IfSome, All, length, take};
+ghost use Rattle.std.specs.Str.{chars};
 ghost use Rattle.elasticlunr_nodes.specs.Starts.{IsStart, told};
-ghost use Rattle.elasticlunr_nodes.specs.Trie.{step_of};
-ghost use Rattle.elasticlunr_trie.specs.Ends.{AreEnds};
+ghost use Rattle.elasticlunr_nodes.specs.Trie.{Step, step_of, walk};
+ghost use Rattle.elasticlunr_nodes.specs.declared.nodes.Place.TheVariants.{Root, At};
+ghost use Rattle.elasticlunr_trie.specs.Ends.{AreEnds, IsEnd};
 
 use elasticlunr_nodes::nodes::{Node, Place, short_number};
 use elasticlunr_nodes::start::Start;
 use std::alloc::{AllocError, Global};
-use std::collections::HashMap;
+
+// How many bytes of a token a slot has room for. A longer token is walked.
+const ROOM: usize = 27;
+
+// In how many slots a token may stand: in the one of its hash, and in those that follow.
+const REACH: usize = 8;
+
+// How many slots there are at first.
+const FIRST: usize = 64;
+
+// A token and the number of the node to which it leads. The empty token marks a free slot.
+#[derive(Clone, Copy)]
+pub struct End {
+    node: u32,
+    length: u8,
+    text: [u8; ROOM],
+}
+
+impl End {
+    // What a free slot has.
+    fn free() -> Self
+        ensures { result.length ≡ 0 }
+    {
+        End {
+            node: 0,
+            length: 0,
+            text: [0; ROOM],
+        }
+    }
+
+    // A token with its node, if it has room.
+    fn new(token: &str, node: u32) -> Option<Self>
+        ensures { IfSome result (λ end. (take end.length end.text ≡ token.now) × (end.node ≡ node)) }
+    {
+        if token.len() > ROOM {
+            return None;
+        }
+        let mut text = [0; ROOM];
+        text[..token.len()].copy_from_slice(token.as_bytes());
+        Some(End {
+            node,
+            length: token.len() as u8,
+            text,
+        })
+    }
+
+    // The bytes of the token.
+    fn token(&self) -> &[u8]
+        ensures { result.now ≡ take self.now.length self.now.text }
+    {
+        self.text.get(..self.length as usize).unwrap_or(&self.text)
+    }
+}
+
+// Tokens with their nodes, each in one of the slots that its hash names; a token for which all of
+// them are taken isn't remembered. So a look-up never visits more, whatever the tokens are.
+#[derive(Drop)]
+pub struct Ends {
+    slots: Vec<End>,
+    taken: usize,
+}
+
+impl Ends {
+    // Nothing is remembered, and no memory requested.
+    pub(super) fn new(alloc: Global) -> Self
+        ensures { (step : Step) → AreEnds step result }
+    {
+        Ends {
+            slots: Vec::new(alloc),
+            taken: 0,
+        }
+    }
+
+    // The node to which a token leads, if that is remembered.
+    fn get(&self, token: &str) -> Option<u32>
+        ensures { IfSome result (λ k. (step : Step) → AreEnds step self.now → walk step Root (chars token.now) ≡ Some (At k)) }
+    {
+        if token.is_empty() || token.len() > ROOM {
+            return None;
+        }
+        let hash = hash_of(token.as_bytes());
+        for further in 0..REACH {
+            let end = self.slots.get(slot(&self.slots, hash, further))?;
+            if end.length == 0 {
+                return None;
+            }
+            if end.token() == token.as_bytes() {
+                return Some(end.node);
+            }
+        }
+        None
+    }
+
+    // Remembers where a token leads, if it has room and a slot is free for it. Where memory is
+    // wanting, nothing has changed.
+    fn put(&mut self, alloc: Global, token: &str, node: u32) -> Result<(), AllocError>
+        ensures { (step : Step) → AreEnds step self.old → walk step Root (chars token.now) ≡ Some (At node) → AreEnds step self.new }
+    {
+        let Some(end) = End::new(token, node) else {
+            return Ok(());
+        };
+        if self.taken >= self.slots.len() / 4 * 3 {
+            self.slots = twice_as_many(alloc, &self.slots)?;
+        }
+        if put_end(&mut self.slots, end) {
+            self.taken = self.taken.saturating_add(1);
+        }
+        Ok(())
+    }
+}
+
+// The hash of a token: FNV-1a, folded.
+fn hash_of(token: &[u8]) -> u64 {
+    let mut hash: u64 = 0xcbf2_9ce4_8422_2325;
+    for byte in token {
+        hash = (hash ^ u64::from(*byte)).wrapping_mul(0x0000_0100_0000_01b3);
+    }
+    hash ^ (hash >> 32)
+}
+
+// The number of a slot: so many further than that of the hash. The number of slots is a power of 2.
+fn slot(slots: &[End], hash: u64, further: usize) -> usize {
+    (hash as usize).wrapping_add(further) & slots.len().wrapping_sub(1)
+}
+
+// The first of the slots of a hash that is free, if one is.
+fn free_slot(slots: &[End], hash: u64) -> Option<usize>
+    ensures { IfSome result (λ place. place < length slots.now) }
+{
+    for further in 0..REACH {
+        let place = slot(slots, hash, further);
+        if slots.get(place)?.length == 0 {
+            return Some(place);
+        }
+    }
+    None
+}
+
+// Puts a token in one of its slots; was one free?
+fn put_end(slots: &mut [End], end: End) -> bool
+    ensures { (step : Step) → All (IsEnd step) slots.old → IsEnd step end → All (IsEnd step) slots.new }
+{
+    let Some(place) = free_slot(slots, hash_of(end.token())) else {
+        return false;
+    };
+    slots[place] = end;
+    true
+}
+
+// The same tokens in a table of twice as many slots.
+fn twice_as_many(alloc: Global, slots: &[End]) -> Result<Vec<End>, AllocError>
+    ensures { IfOk result (λ more. (step : Step) → All (IsEnd step) slots.now → All (IsEnd step) more.items) }
+{
+    let count = slots.len().saturating_mul(2).max(FIRST);
+    let mut more = Vec::from_elem(alloc, End::free(), count)?;
+    for end in slots {
+        if end.length != 0 {
+            put_end(&mut more, *end);
+        }
+    }
+    Ok(more)
+}
 
 // A token at its end, where that is remembered, and else at the root.
 pub(super) fn begin<'a>(
     root: &[(char, u32)],
     nodes: &[Node],
-    ends: &HashMap<String, u32>,
+    ends: &Ends,
     token: &'a str,
     frequency: u64,
 ) -> Start<'a>
@@ -27,7 +189,7 @@ pub(super) fn begin<'a>(
         Some(k) => Start {
             token,
             frequency,
-            place: Place::At(*k as usize),
+            place: Place::At(k as usize),
             rest: "",
         },
         None => Start::new(token, frequency),
@@ -39,7 +201,7 @@ pub(super) fn remember(
     alloc: Global,
     root: &[(char, u32)],
     nodes: &[Node],
-    ends: &mut HashMap<String, u32>,
+    ends: &mut Ends,
     start: Start<'_>,
 ) -> Result<(), AllocError>
     requires ends { AreEnds (step_of root.now nodes.now) ends.old }
@@ -50,9 +212,7 @@ pub(super) fn remember(
         return Ok(());
     }
     if let Place::At(k) = start.place {
-        let number = short_number(k)?;
-        let key = String::from_str(alloc, start.token)?;
-        ends.insert(key, number)?;
+        ends.put(alloc, start.token, short_number(k)?)?;
     }
     Ok(())
 }

@@ -11,14 +11,13 @@ ghost use Rattle.elasticlunr_nodes.specs.Starts.{IsStart, KeepsPaths, told};
 ghost use Rattle.elasticlunr_trie.specs.Begun.{AreBegun};
 
 use super::add::add_posting;
-use super::ends::{begin, remember};
+use super::ends::{Ends, begin, remember};
 use elasticlunr_nodes::branch::locate;
 use elasticlunr_nodes::names::Names;
 use elasticlunr_nodes::nodes::{Node, Place, Reference, child, children_at};
 use elasticlunr_nodes::room::make_room;
 use elasticlunr_nodes::start::Start;
 use std::alloc::{AllocError, Global};
-use std::collections::HashMap;
 
 // How many characters of each token are walked side by side. What follows them is mostly a path
 // without branches, whose nodes stand side by side.
@@ -98,7 +97,7 @@ pub(super) fn starts_of<'a>(
     alloc: Global,
     root: &[(char, u32)],
     nodes: &[Node],
-    ends: &mut HashMap<String, u32>,
+    ends: &mut Ends,
     tokens: &[(&'a str, u64)],
 ) -> Result<Vec<Start<'a>>, AllocError>
     requires trie { IsTrie root.now nodes.now }
@@ -123,7 +122,7 @@ fn begun<'a>(
     alloc: Global,
     root: &[(char, u32)],
     nodes: &[Node],
-    ends: &HashMap<String, u32>,
+    ends: &Ends,
     tokens: &[(&'a str, u64)],
     missed: &mut Vec<usize>,
 ) -> Result<Vec<Start<'a>>, AllocError>
@@ -147,7 +146,7 @@ fn remember_all(
     alloc: Global,
     root: &[(char, u32)],
     nodes: &[Node],
-    ends: &mut HashMap<String, u32>,
+    ends: &mut Ends,
     starts: &[Start<'_>],
     missed: &[usize],
 ) -> Result<(), AllocError>

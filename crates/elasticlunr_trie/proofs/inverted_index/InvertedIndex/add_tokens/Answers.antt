@@ -29,4 +29,4 @@ pub returns-in_err-starts-clause-err : goal.returns-in_err-starts-clause-err
 returns-in_err-starts-clause-err c = on_err c.from_residual.result _ (0, c.self.view_is)
 
 pub invariant_of-self-2 : goal.invariant_of-self-2
-invariant_of-self-2 c = (c.in_ok-add_starts.ensures.index, ends_kept _ _ c.starts_of.new.ends c.in_ok-add_starts.ensures.paths (rw (c.deref.ensures.value, c.deref-2.ensures.value) at c.in_ok-starts.ensures.ends))
+invariant_of-self-2 c = (c.in_ok-add_starts.ensures.index, rw c.replace-ends.ensures.value (ends_kept _ _ c.starts_of.new.ends c.in_ok-add_starts.ensures.paths (rw (c.deref.ensures.value, c.deref-2.ensures.value) at c.in_ok-starts.ensures.ends)))

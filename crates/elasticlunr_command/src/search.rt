@@ -12,10 +12,10 @@ use elasticlunr_message::form::read_value;
 use elasticlunr_message::message::{Trouble, unplaced};
 use elasticlunr_message::nearest::nearest;
 use elasticlunr_search::Join;
-use elasticlunr_search::answer::{Refusal, lines_found};
+use elasticlunr_search::answer::{Refusal, lines_at_once, lines_found};
 use serde_json::Value;
 use std::alloc::{AllocError, Global};
-use std::io;
+use std::{io, str};
 
 /// What is searched for: a query in a field, or in each.
 #[derive(Drop)]
@@ -56,6 +56,11 @@ fn found_lines(alloc: Global, text: &[u8], asked: &Asked<'_>) -> Result<String, 
         × AreLinesFound v asked.now.join (option_map (λ f. f.now) asked.now.field) asked.now.query.now
         (string_bytes lines)) }
 {
+    if let Ok(text) = str::from_utf8(text) {
+        if let Some(lines) = lines_at_once(alloc, text, asked.join, asked.field, asked.query)? {
+            return Ok(lines);
+        }
+    }
     let value = read_value(alloc, text)?;
     match lines_found(alloc, &value, asked.join, asked.field, asked.query) {
         Ok(lines) => Ok(lines),

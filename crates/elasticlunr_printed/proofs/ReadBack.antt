@@ -1,5 +1,5 @@
 -- A text of a plain value whose numbers have 64 bits is read as this value, and as no other.
-use Rattle.std.proofs.Common.{◌≡◌, ℕ, suc, ◌+◌, ◌≤◌, max, List, [], ◌∷◌, ◌++◌, Option, Some, None, option_map, option_and_then, refl, sym, ap, subst, ◌∙◌, arith, append-nil, Less}
+use Rattle.std.proofs.Common.{◌≡◌, ℕ, suc, ◌+◌, ◌≤◌, max, List, [], ◌∷◌, ◌++◌, Option, Some, None, option_map, option_and_then, unwrap_or, refl, sym, ap, subst, ◌∙◌, arith, append-nil, Less}
 use Rattle.std.proofs.lemmas.List.Elements.{recursion_from_All}
 use Rattle.std.specs.List.{All, AllByRecursion}
 use Rattle.std.specs.Ordering.{match_ordering}
@@ -8,6 +8,7 @@ use Rattle.json.specs.Lex.{tokens}
 use Rattle.json.specs.Json as json
 use Rattle.json.specs.Tree as tree
 use Rattle.json.specs.Tree.{json_tokens, items_tokens, members_tokens}
+use Rattle.json.proofs.Nesting.{value-depth}
 use Rattle.json.proofs.Printed.Trees.{value-json_tokens}
 use Rattle.elasticlunr_error.specs.Text.{Bytes, text_cmp}
 use Rattle.elasticlunr_store.specs.Contents.{Contents}
@@ -15,7 +16,7 @@ use Rattle.elasticlunr_trie.specs.Table.{Table}
 use Rattle.elasticlunr_json.specs.Tokens.{IsSmallToken}
 use Rattle.elasticlunr_trie.specs.Tree.{IsBelow, HasKeysInOrder}
 use Rattle.serde_json.specs.Data.{Data, null, boolean, number, string, array, object, unsigned, negative, float, Items, no_items, item, Members, no_members, member, put, depth, items_depth, members_depth}
-use Rattle.serde_json.specs.Read.{number_of, of_json, of_items, of_members, max_depth}
+use Rattle.serde_json.specs.Read.{number_of, of_json, of_items, of_members, max_depth, read}
 use Rattle.serde_json.specs.Written.{outline, items_outline, members_outline}
 use Rattle.serde_json.proofs.Numbers.{number_of-decimal}
 use Rattle.elasticlunr_printed.specs.Printed.{IsValueOf, IsReadAs}
@@ -109,14 +110,22 @@ module _ (j : json.Json) (ts : List Token) (are : ts ≡ json_tokens j) where
   deep_enough : (n : ℕ) → tree.depth j ≤ n → json.value n ts ≡ Some (j, [])
   deep_enough n h = ap (json.value n) (are ∙ sym (append-nil (json_tokens j))) ∙ value-json_tokens j n [] h
 
+  -- of no other JSON value are these the tokens
+  only_value : (k : json.Json) → json.value max_depth ts ≡ Some (k, []) → k ≡ j
+  only_value k is =
+      let n : ℕ = max_depth + tree.depth j in
+      ap (λ (o : Option (json.Json × List Token)). (unwrap_or o (j, [])).0) (sym (value_deeper max_depth n (omega arith) ts (k, []) is) ∙ deep_enough n (omega arith))
+
   only_json : (o : Option (json.Json × List Token)) (w : Data) → json.value max_depth ts ≡ o → option_and_then of_json (option_and_then (λ p. json.if_last p.0 p.1) o) ≡ Some w → of_json j ≡ Some w
   only_json None w is e = absurd (cc)
   only_json (Some (k, t ∷ more)) w is e = absurd (cc)
-  only_json (Some (k, [])) w is e =
-      let n : ℕ = max_depth + tree.depth j in
-      let both = sym (value_deeper max_depth n (omega arith) ts (k, []) is) ∙ deep_enough n (omega arith) in
-      let same : k ≡ j = cc in
-      ap of_json (sym same) ∙ e
+  only_json (Some (k, [])) w is e = ap of_json (sym (only_value k is)) ∙ e
+
+  -- what is passed over is nested no deeper than a reader goes
+  passed : (o : Option (json.Json × List Token)) → json.value max_depth ts ≡ o → option_map (λ p. p.1) o ≡ Some [] → tree.depth j ≤ max_depth
+  passed None is e = absurd (cc)
+  passed (Some (k, t ∷ more)) is e = absurd (cc)
+  passed (Some (k, [])) is e = subst (λ x. tree.depth x ≤ max_depth) (only_value k is) (value-depth max_depth ts [] k is)
 
 -- the text of an index's value is read as this value, and as no other
 pub printed_reads : (plan : Plan) (tables : List Table) (contents : Contents) (v : Data) (text : List ℕ) (ts : List Token)
@@ -132,3 +141,10 @@ printed_reads plan tables contents v text ts printed found are small =
           let same : w ≡ v = cc in
           same;
     }
+
+-- a text whose tokens are those of an index's value, and that is passed over as one value, is read as this value
+pub passed_reads : (plan : Plan) (tables : List Table) (contents : Contents) (v : Data) (text : List ℕ)
+    → IsValueOf plan tables contents v → tokens text ≡ json_tokens (outline v) → All IsSmallToken (tokens text) → json.skip_value max_depth (tokens text) ≡ Some [] → read text ≡ Some v
+passed_reads plan tables contents v text printed are small over =
+    (printed_reads plan tables contents v text (tokens text) printed refl are small).reads
+    (omega (arith, same_depth v, passed (outline v) (tokens text) are (json.value max_depth (tokens text)) refl over))

@@ -10,7 +10,7 @@ use Rattle.serde_json.specs.Data.{Data, array, string}
 use Rattle.serde_json.specs.Find.{get}
 use Rattle.serde_json.specs.Read.{read}
 use Rattle.elasticlunr_history.specs.History.{Commands}
-use Rattle.elasticlunr_printed.specs.Printed.{texts, IsPrintOf}
+use Rattle.elasticlunr_printed.specs.Printed.{texts, IsIndexValue, IsPrintOf}
 use Rattle.elasticlunr_printed.specs.Shape.{HasFields, HasTrie, HasTries, HasStore, HasLanguage, HasParts, ArePartsOf}
 use Rattle.elasticlunr_history.specs.Standing.{Plan, Holds}
 use Rattle.elasticlunr_history.proofs.OneZip.{one_zip}
@@ -53,13 +53,17 @@ have_tries : (o : Option Data) (names : List Bytes) (tables : List Table) → Al
 have_tries None names tables are has = absurd has
 have_tries (Some index) names tables are has = are_tries index names tables are has
 
+-- the value of an index has its parts
+pub index_parts : (plan : Plan) (tables : List Table) (contents : Contents) (v : Data) → IsIndexValue plan tables contents v → HasParts v plan.fields tables contents
+index_parts plan tables contents v of_index = record {
+  fields = fields_held plan tables contents v of_index.printed;
+  tries = have_tries _ plan.fields tables of_index.are_tables (tries_held plan tables contents v of_index.differ of_index.one_each of_index.printed);
+  store = subst (λ o. IsSomeAnd o (IsStoreValue contents)) (sym (store_held plan tables contents v of_index.printed)) refl;
+}
+
 -- the value of a print has what it was printed of
 pub parts_held : (plan : Plan) (commands : Commands) (text : List ℕ) (p : IsPrintOf plan commands text) → HasParts p.value plan.fields p.tables p.contents
-parts_held plan commands text p = record {
-  fields = fields_held plan p.tables p.contents p.value p.printed;
-  tries = have_tries _ plan.fields p.tables p.are_tables (tries_held plan p.tables p.contents p.value p.differ p.holds.one_each p.printed);
-  store = subst (λ o. IsSomeAnd o (IsStoreValue p.contents)) (sym (store_held plan p.tables p.contents p.value p.printed)) refl;
-}
+parts_held plan commands text p = index_parts plan p.tables p.contents p.value (record { differ = p.differ; one_each = p.holds.one_each; are_tables = p.are_tables; printed = p.printed })
 
 -- what was read of a print is what it was printed of
 pub parts_read : HasOneTable → HasOneContents → (plan : Plan) (commands : Commands) (text : List ℕ) (v : Data) (names : List Bytes) (tables : List Table) (contents : Contents)

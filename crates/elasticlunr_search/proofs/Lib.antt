@@ -13,3 +13,5 @@ pub mod Joining
 pub mod Several
 pub mod Joined
 pub mod Requested
+pub mod SameText
+mod Made

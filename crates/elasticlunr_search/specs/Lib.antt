@@ -8,3 +8,5 @@ pub mod Requests
 pub mod Lines
 pub mod Answers
 pub mod Unanswered
+pub mod SameText
+pub mod Anew

@@ -1,20 +1,22 @@
 //! What is found for a text that has a request and an index, and in the value of an index.
-ghost use Rattle.std.specs.Prelude.{◌≡◌, ◌⊎◌, Some, None, IfOk, IfErr, codes, option_map, string_bytes};
+ghost use Rattle.std.specs.Prelude.{◌≡◌, ◌⊎◌, Some, None, IfOk, IfErr, IfSome, codes, option_map, string_bytes};
 ghost use Rattle.elasticlunr_text.specs.Text.{bytes_of};
 ghost use Rattle.elasticlunr_lang.specs.Known.{language_name};
 ghost use Rattle.elasticlunr_search.specs.Answers.{AreFoundOf, AreLinesFound, IsFoundBelow};
 ghost use Rattle.elasticlunr_search.specs.Lines.{lines};
 ghost use Rattle.elasticlunr_search.specs.Unanswered.{IsNotSearched, IsRefusedBelow, NamesNone, refusal_text};
 ghost use Rattle.elasticlunr_search.specs.declared.answer.Refusal.TheVariants.{UnknownLanguage, Memory};
-ghost use Rattle.serde_json.specs.Data.{string};
+ghost use Rattle.serde_json.specs.Data.{Data, string};
 ghost use Rattle.serde_json.specs.Find.{get};
 ghost use Rattle.serde_json.specs.Read.{read};
 ghost use Rattle.serde_json.specs.View.{view};
 
+use crate::anew::make_anew;
 use crate::error::SearchError;
 use crate::request::{Request, request_of};
 use crate::searcher::Searcher;
 use crate::words::Join;
+use elasticlunr::laws::values::printed_texts_have_their_parts;
 use elasticlunr_lang::{AnyLanguage, Language, from_name};
 use serde_json::Value;
 use std::alloc::{AllocError, AllocFailed, Global};
@@ -102,6 +104,9 @@ pub fn answer(alloc: Global, input: &str) -> Result<String, Refusal>
     let Some(request) = request_of(&line) else {
         return Err(Refusal::NotARequest);
     };
+    if let Some(references) = find_at_once(alloc, &request, text)? {
+        return Ok(lines_of(alloc, &references)?);
+    }
     let index = json(alloc, text, Refusal::NotRead)?;
     let found = find_in(alloc, &request, &index)?;
     Ok(lines_of(alloc, &found)?)
@@ -116,6 +121,33 @@ fn json(alloc: Global, text: &str, unread: Refusal) -> Result<Value, Refusal>
         Ok(value) => Ok(value),
         Err(e) if e.is_memory() => Err(Refusal::Memory),
         Err(_) => Err(unread),
+    }
+}
+
+/// The references that are found in the value of this text, without the value, where the text is that
+/// of an index and has the field.
+fn find_at_once(
+    alloc: Global,
+    request: &Request<'_>,
+    text: &str,
+) -> Result<Option<Vec<String>>, AllocError>
+    ensures { IfOk result (λ o. IfSome o (λ found. (v : Data) × (read text.now ≡ Some v)
+        × AreFoundOf v request.now (bytes_of found.items))) }
+{
+    printed_texts_have_their_parts();
+    let Some(index) = make_anew(alloc, text)? else {
+        return Ok(None);
+    };
+    let Some(language) = from_name(index.language.as_str()) else {
+        return Ok(None);
+    };
+    let Ok(searcher) = Searcher::of_printed(alloc, language, index.printed) else {
+        return Err(AllocError);
+    };
+    match searcher.find(request.join, request.field, request.query) {
+        Ok(found) => Ok(Some(found)),
+        Err(SearchError::Memory) => Err(AllocError),
+        Err(_) => Ok(None),
     }
 }
 
@@ -147,6 +179,36 @@ pub fn lines_found(
     let searcher = Searcher::from_value(alloc, language, index)?;
     let found = searcher.find_within(join, field, query)?;
     Ok(lines_of(alloc, &found)?)
+}
+
+/// The lines that [`lines_found`] finds in the value of this text, without the value: where the text
+/// is printed as an index is, in any layout. `None` where it isn't, where no field has the name, and
+/// where the index can't be made anew from its tokens alone; its value then tells more.
+pub fn lines_at_once(
+    alloc: Global,
+    text: &str,
+    join: Join,
+    field: Option<&str>,
+    query: &str,
+) -> Result<Option<String>, AllocError>
+    ensures { IfOk result (λ o. IfSome o (λ lines. (v : Data) × (read text.now ≡ Some v)
+        × AreLinesFound v join (option_map (λ f. f.now) field.entry) query.now (string_bytes lines))) }
+{
+    printed_texts_have_their_parts();
+    let Some(index) = make_anew(alloc, text)? else {
+        return Ok(None);
+    };
+    let Some(language) = from_name(index.language.as_str()) else {
+        return Ok(None);
+    };
+    let Ok(searcher) = Searcher::of_printed(alloc, language, index.printed) else {
+        return Err(AllocError);
+    };
+    match searcher.find_within(join, field, query) {
+        Ok(found) => Ok(Some(lines_of(alloc, &found)?)),
+        Err(SearchError::Memory) => Err(AllocError),
+        Err(_) => Ok(None),
+    }
 }
 
 /// The language that the value of a printed index names.

@@ -6,11 +6,14 @@
 //! reads a request and an index from one text, [`answer::lines_found`] finds in an index's value.
 #![tactic(auto)]
 
+mod anew;
 pub mod answer;
 mod error;
 mod parts;
 mod printed;
+mod rebuild;
 mod request;
+mod same_text;
 mod searcher;
 mod tries;
 mod words;

@@ -17,6 +17,7 @@ ghost use Rattle.serde_json.specs.Data.{Data};
 ghost use Rattle.serde_json.specs.Read.{read};
 ghost use Rattle.serde_json.specs.View.{view};
 
+use crate::anew::make_anew;
 use crate::error::SearchError;
 use crate::parts::{names_other, value_of};
 use crate::printed::Printed;
@@ -63,6 +64,13 @@ impl<L: Language> Searcher<L> {
     {
         a_value_has_its_parts_once();
         printed_texts_have_their_parts();
+        let name = language.name(alloc)?;
+        if let Some(index) = make_anew(alloc, text)? {
+            if index.language == name {
+                return Searcher::of_printed(alloc, language, index.printed);
+            }
+            return Err(SearchError::OtherLanguage);
+        }
         let value = value_of(alloc, text)?;
         Searcher::from_value(alloc, language, &value)
     }
@@ -84,6 +92,19 @@ impl<L: Language> Searcher<L> {
             return Err(SearchError::OtherLanguage);
         }
         let printed = Printed::of_value(alloc, value)?;
+        Searcher::of_printed(alloc, language, printed)
+    }
+
+    /// A searcher of these parts.
+    pub(crate) fn of_printed(
+        alloc: Global,
+        language: L,
+        printed: Printed,
+    ) -> Result<Searcher<L>, SearchError>
+        ensures printed { IfOk result (λ s. s.printed ≡ printed) }
+        ensures speaks { IfOk result (λ s. Speaks L.leaves_of leaves s language) }
+        ensures memory { IfErr result (λ e. e ≡ Memory) }
+    {
         let empty = Pipeline {
             queue: Vec::new(alloc),
         };
@@ -267,7 +288,7 @@ fn texts_of<'a>(alloc: Global, names: &'a [String]) -> Result<Vec<&'a str>, Allo
 }
 
 /// Where the name stands.
-fn place_of(names: &[String], name: &str) -> Option<usize>
+pub(crate) fn place_of(names: &[String], name: &str) -> Option<usize>
     ensures found { IfSome result (λ i. (i < length names.now)
         × (slice_get (bytes_of names.now) i ≡ Some name.now)) }
     ensures is_found { IsSome result ↔ IsTrue (has_name name.now (bytes_of names.now)) }

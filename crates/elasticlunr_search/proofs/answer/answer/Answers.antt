@@ -32,5 +32,5 @@ returns-clause-found c =
       asks = (view c.in_ok-line.line, ap read (sym split.1) ∙ c.in_ok-line.ensures.ok, c.in-Some-request_of.ensures.some);
       below = ap read (sym split.2) ∙ c.in_ok-index.ensures.ok;
       are_found = c.in_ok-found.ensures.found;
-      are_lines = c.in_ok-lines_of.ensures ∙ ap (λ references. lines (bytes_of references)) c.deref.ensures.value;
+      are_lines = c.in_ok-lines_of-2.ensures ∙ ap (λ references. lines (bytes_of references)) c.deref-2.ensures.value;
     }

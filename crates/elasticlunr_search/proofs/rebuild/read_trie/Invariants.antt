@@ -1,0 +1,8 @@
+use Rattle.std.proofs.Common.{◌<◌, length}
+use Rattle.elasticlunr_search.proofs.rebuild.read_trie.Given as goal
+
+abbrev pub invariant-trie : goal.invariant-trie
+invariant-trie l = length l.reader < length l.fn.reader
+
+abbrev pub decreases-trie : goal.decreases-trie
+decreases-trie l = length l.reader

@@ -1,0 +1,228 @@
+//! An index made anew from the tokens of its printed text, with no JSON value of its tries.
+//!
+//! What is made is well formed, and no clause says more of it: whether it is what was printed is
+//! judged by printing it, token by token, beside the text (`make_anew`).
+ghost use Rattle.std.specs.Prelude.{◌<◌, IfOk, OnOk, length};
+ghost use Rattle.elasticlunr_store.specs.Contents.{IsConsistent};
+
+use crate::error::SearchError;
+use elasticlunr_store::DocumentStore;
+use elasticlunr_text::IndexError;
+use elasticlunr_trie::InvertedIndex;
+use json::{Reader, Token};
+use serde_json::Value;
+use std::alloc::{AllocError, Global};
+
+/// How deep `serde_json` reads.
+pub(crate) const MAX_DEPTH: usize = 127;
+
+/// What a printed text has, as it seems.
+#[derive(Drop)]
+pub(crate) struct Rebuilt<'a> {
+    pub fields: Vec<String>,
+    pub ref_field: &'a str,
+    pub language: &'a str,
+    pub stages: Vec<String>,
+    pub tries: Vec<(&'a str, InvertedIndex)>,
+    pub store: DocumentStore,
+}
+
+/// The parts that stand in a text in the order in which an index is printed.
+pub(crate) fn rebuild<'a>(
+    alloc: Global,
+    text: &'a str,
+    reader: &mut Reader<'a>,
+) -> Result<Rebuilt<'a>, SearchError>
+    ensures { IfOk result (λ r. IsConsistent r.store) }
+{
+    take(reader, Token::BeginObject)?;
+    take(reader, Token::Key("documentStore"))?;
+    let store = read_store(alloc, text, reader)?;
+    take(reader, Token::Key("fields"))?;
+    let fields = read_names(alloc, reader)?;
+    take(reader, Token::Key("index"))?;
+    let tries = read_tries(alloc, reader)?;
+    take(reader, Token::Key("lang"))?;
+    let language = read_text(reader)?;
+    take(reader, Token::Key("pipeline"))?;
+    let stages = read_names(alloc, reader)?;
+    take(reader, Token::Key("ref"))?;
+    let ref_field = read_text(reader)?;
+    Ok(Rebuilt {
+        fields,
+        ref_field,
+        language,
+        stages,
+        tries,
+        store,
+    })
+}
+
+/// The next token.
+fn next<'a>(reader: &mut Reader<'a>) -> Result<Token<'a>, SearchError>
+    ensures { OnOk result (length reader.new < length reader.old) }
+{
+    reader.next().ok_or(SearchError::NotRead)
+}
+
+/// Takes this token, if it is next.
+fn take(reader: &mut Reader<'_>, token: Token<'_>) -> Result<(), SearchError>
+    ensures { OnOk result (length reader.new < length reader.old) }
+{
+    let is_it = match (next(reader)?, token) {
+        (Token::BeginObject, Token::BeginObject) => true,
+        (Token::EndObject, Token::EndObject) => true,
+        (Token::BeginArray, Token::BeginArray) => true,
+        (Token::Key(found), Token::Key(name)) => found == name,
+        _ => false,
+    };
+    if is_it {
+        Ok(())
+    } else {
+        Err(SearchError::NotRead)
+    }
+}
+
+/// A text.
+fn read_text<'a>(reader: &mut Reader<'a>) -> Result<&'a str, SearchError> {
+    match next(reader)? {
+        Token::String(text) => Ok(text),
+        _ => Err(SearchError::NotRead),
+    }
+}
+
+/// A number.
+fn read_number(reader: &mut Reader<'_>) -> Result<u64, SearchError>
+    ensures { OnOk result (length reader.new < length reader.old) }
+{
+    match next(reader)? {
+        Token::Number(text) => text.parse::<u64>().map_err(|_| SearchError::NotRead),
+        _ => Err(SearchError::NotRead),
+    }
+}
+
+/// An array of names.
+fn read_names(alloc: Global, reader: &mut Reader<'_>) -> Result<Vec<String>, SearchError> {
+    take(reader, Token::BeginArray)?;
+    let mut names = Vec::new(alloc);
+    'names: loop {
+        match next(reader)? {
+            Token::String(name) => names.push(String::from_str(alloc, name)?)?,
+            Token::EndArray => return Ok(names),
+            _ => return Err(SearchError::NotRead),
+        }
+    }
+}
+
+/// A document store. It is read from its part of the text.
+fn read_store(
+    alloc: Global,
+    text: &str,
+    reader: &mut Reader<'_>,
+) -> Result<DocumentStore, SearchError>
+    ensures { IfOk result IsConsistent }
+{
+    let start = reader.offset();
+    if reader.skip_value(MAX_DEPTH).is_err() {
+        return Err(SearchError::NotRead);
+    }
+    let Some(part) = text.as_bytes().get(start..reader.offset()) else {
+        return Err(SearchError::NotRead);
+    };
+    let value = match Value::from_slice(alloc, part.strip_suffix(b",").unwrap_or(part)) {
+        Ok(value) => value,
+        Err(e) if e.is_memory() => return Err(SearchError::Memory),
+        Err(_) => return Err(SearchError::NotRead),
+    };
+    match DocumentStore::from_value(alloc, &value) {
+        Ok(store) => Ok(store),
+        Err(IndexError::Memory) => Err(SearchError::Memory),
+        Err(_) => Err(SearchError::NotRead),
+    }
+}
+
+/// Tries under the names of their fields.
+fn read_tries<'a>(
+    alloc: Global,
+    reader: &mut Reader<'a>,
+) -> Result<Vec<(&'a str, InvertedIndex)>, SearchError> {
+    take(reader, Token::BeginObject)?;
+    let mut tries = Vec::new(alloc);
+    'tries: loop {
+        match next(reader)? {
+            Token::Key(name) => tries.push((name, read_trie(alloc, reader)?))?,
+            Token::EndObject => return Ok(tries),
+            _ => return Err(SearchError::NotRead),
+        }
+    }
+}
+
+/// A trie. Each posting is added under the characters of the keys that lead to it.
+fn read_trie(alloc: Global, reader: &mut Reader<'_>) -> Result<InvertedIndex, SearchError>
+    ensures { OnOk result (length reader.new < length reader.old) }
+{
+    take(reader, Token::BeginObject)?;
+    take(reader, Token::Key("root"))?;
+    take(reader, Token::BeginObject)?;
+    let mut trie = InvertedIndex::new(alloc);
+    let mut path = String::new(alloc);
+    'trie: loop {
+        match next(reader)? {
+            Token::Key("docs") => read_postings(reader, &mut trie, path.as_str())?,
+            Token::Key("df") => {
+                read_number(reader)?;
+            }
+            Token::Key(letter) if is_letter(letter) => {
+                take(reader, Token::BeginObject)?;
+                path.push_str(letter)?;
+            }
+            Token::EndObject => {
+                if path.pop().is_none() {
+                    take(reader, Token::EndObject)?;
+                    return Ok(trie);
+                }
+            }
+            _ => return Err(SearchError::NotRead),
+        }
+    }
+}
+
+/// Whether the text is one character.
+fn is_letter(text: &str) -> bool {
+    let mut letters = text.chars();
+    letters.next().is_some() && letters.next().is_none()
+}
+
+/// The postings of a token.
+fn read_postings(
+    reader: &mut Reader<'_>,
+    trie: &mut InvertedIndex,
+    token: &str,
+) -> Result<(), SearchError>
+    ensures { OnOk result (length reader.new < length reader.old) }
+{
+    take(reader, Token::BeginObject)?;
+    'postings: loop {
+        match next(reader)? {
+            Token::Key(reference) => {
+                let frequency = read_frequency(reader)?;
+                if trie.add_token(reference, token, frequency).is_err() {
+                    return Err(SearchError::Memory);
+                }
+            }
+            Token::EndObject => return Ok(()),
+            _ => return Err(SearchError::NotRead),
+        }
+    }
+}
+
+/// The frequency in a posting.
+fn read_frequency(reader: &mut Reader<'_>) -> Result<u64, SearchError>
+    ensures { OnOk result (length reader.new < length reader.old) }
+{
+    take(reader, Token::BeginObject)?;
+    take(reader, Token::Key("tf"))?;
+    let frequency = read_number(reader)?;
+    take(reader, Token::EndObject)?;
+    Ok(frequency)
+}

@@ -1,12 +1,13 @@
 //! A search of one trie.
-ghost use Rattle.std.specs.Prelude.{◌≡◌, IfOk, is_some};
+ghost use Rattle.std.specs.Prelude.{◌≡◌, ◌||◌, IfOk, OnOk, is_some};
 ghost use Rattle.std.specs.List.Sorted.{IsStrictlySortedBy};
 ghost use Rattle.std.specs.Str.{chars};
 ghost use Rattle.elasticlunr_text.specs.Text.{Bytes, texts_of, bytes_of, text_cmp, is_listed};
+ghost use Rattle.elasticlunr_trie.specs.References.{texts_in};
 ghost use Rattle.elasticlunr_trie.specs.Table.{posting};
 ghost use Rattle.elasticlunr_search.specs.Tries.{HaveAny, HaveAll};
 
-use elasticlunr_trie::InvertedIndex;
+use elasticlunr_trie::{InvertedIndex, copied};
 use std::alloc::{AllocError, Global};
 use std::collections::BTreeSet;
 
@@ -20,10 +21,9 @@ pub(crate) fn find_any_in(
 {
     let mut found = BTreeSet::new(alloc);
     for token in tokens {
-        let references = references_of(trie, token.as_str())?;
-        found.extend(references)?;
+        put_references(trie, token.as_str(), &mut found)?;
     }
-    let found = found.into_iter().collect(alloc)?;
+    let found = copied(alloc, &found)?;
     Ok(found)
 }
 
@@ -45,6 +45,21 @@ pub(crate) fn find_all_in(
             Ok(found)
         }
         None => Ok(Vec::new(alloc)),
+    }
+}
+
+/// Puts the references that have a posting at a token into a set.
+fn put_references<'a>(
+    trie: &'a InvertedIndex,
+    token: &str,
+    found: &mut BTreeSet<&'a str>,
+) -> Result<(), AllocError>
+    ensures { OnOk result ((r : Bytes) → is_listed r (texts_in found.new)
+        ≡ (is_listed r (texts_in found.old) || is_some (posting trie.now (chars token.now) r))) }
+{
+    match trie.put_references(token, found) {
+        Ok(()) => Ok(()),
+        Err(_) => Err(AllocError),
     }
 }
 

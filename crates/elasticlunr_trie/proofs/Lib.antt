@@ -20,3 +20,4 @@ pub mod Changes
 pub mod Written
 pub mod Behind
 mod Ends
+mod References

@@ -10,3 +10,4 @@ pub mod Reading
 pub mod Same
 pub mod Printed
 pub mod Compact
+pub mod References

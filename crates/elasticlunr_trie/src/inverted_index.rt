@@ -32,6 +32,7 @@ use elasticlunr_nodes::nodes::{Node, Place, Reference, find, find_frequency, fin
 use elasticlunr_nodes::start::Start;
 use ends::Ends;
 use read::{only_member, read_nodes};
+pub use references::copied;
 use remove::{remove_posting, remove_postings};
 use same::same_below;
 use serde_json::{Map, Value};

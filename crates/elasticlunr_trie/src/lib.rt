@@ -5,4 +5,4 @@
 pub mod inverted_index;
 pub mod laws;
 
-pub use inverted_index::InvertedIndex;
+pub use inverted_index::{InvertedIndex, copied};

@@ -1,16 +1,21 @@
 //! The references of a token.
-ghost use Rattle.std.specs.Prelude.{◌≡◌, ◌↔◌, IsTrue, IsSome, IfOk, IsOkUnless, string_cmp};
+ghost use Rattle.std.specs.Prelude.{◌≡◌, ◌↔◌, ◌||◌, IsTrue, IsSome, is_some, IfOk, OnOk, IsOkUnless};
 ghost use Rattle.std.specs.List.Sorted.{IsStrictlySortedBy};
-ghost use Rattle.std.specs.Map.{keys_of};
 ghost use Rattle.std.specs.Str.{chars};
 ghost use Rattle.elasticlunr_error.specs.Text.{Bytes, bytes_of, is_listed, text_cmp};
 ghost use Rattle.elasticlunr_error.specs.declared.error.IndexError.TheVariants.{Memory};
+ghost use Rattle.std.specs.FinMap.{get};
+ghost use Rattle.elasticlunr_nodes.specs.Names.{AreNames, ArePostings, named_pairs};
 ghost use Rattle.elasticlunr_nodes.specs.Table.{posting};
+ghost use Rattle.elasticlunr_trie.specs.References.{texts_in};
 
 use super::InvertedIndex;
 use elasticlunr_error::IndexError;
+use elasticlunr_nodes::names::Names;
+use elasticlunr_nodes::nodes::find_postings;
+use elasticlunr_nodes::posting::Posting;
 use std::alloc::{AllocError, Global};
-use std::collections::BTreeMap;
+use std::collections::BTreeSet;
 
 impl InvertedIndex {
     /// The references that have a posting at a token, each once, in the order of their bytes. The
@@ -22,22 +27,58 @@ impl InvertedIndex {
         ensures memory { IsOkUnless result Memory }
     {
         let alloc = *self.nodes.allocator();
-        let Some(docs) = self.get_docs(token)? else {
-            return Ok(Vec::new(alloc));
-        };
-        let names = names_of(alloc, &docs)?;
-        Ok(names)
+        let mut found = BTreeSet::new(alloc);
+        self.put_references(token, &mut found)?;
+        let references = copied(alloc, &found)?;
+        Ok(references)
     }
 }
 
-// The keys of a map.
-fn names_of(alloc: Global, docs: &BTreeMap<String, u64>) -> Result<Vec<String>, AllocError>
-    ensures keys { IfOk result (λ v. bytes_of v.items ≡ bytes_of (keys_of docs.now.entries)) }
-    ensures order { IfOk result (λ _. IsStrictlySortedBy string_cmp (keys_of docs.now.entries)) }
-{
-    let mut names = Vec::with_capacity(alloc, docs.len())?;
-    for (name, _) in docs.iter() {
-        names.push(name.clone()?)?;
+impl InvertedIndex {
+    /// Puts the references that have a posting at a token into a set, which takes no copies of
+    /// them. The work is in proportion to the token and its postings, with a look-up in the set for
+    /// each. Where memory is wanting, some of them may stand there.
+    pub fn put_references<'a>(
+        &'a self,
+        token: &str,
+        found: &mut BTreeSet<&'a str>,
+    ) -> Result<(), IndexError>
+        ensures listed { OnOk result ((r : Bytes) → is_listed r (texts_in found.new)
+            ≡ (is_listed r (texts_in found.old) || is_some (posting self.now (chars token.now) r))) }
+        ensures memory { IsOkUnless result Memory }
+    {
+        match find_postings(&self.root, &self.nodes, token) {
+            Some(postings) => Ok(put_names(&self.names, postings.pairs(), found)?),
+            None => Ok(()),
+        }
     }
-    Ok(names)
+}
+
+// Puts the names of postings into a set.
+fn put_names<'a>(
+    names: &'a Names,
+    pairs: &[Posting],
+    found: &mut BTreeSet<&'a str>,
+) -> Result<(), AllocError>
+    requires names { AreNames names.now }
+    requires postings { ArePostings names.now pairs.now }
+    ensures { OnOk result ((r : Bytes) → is_listed r (texts_in found.new)
+        ≡ (is_listed r (texts_in found.old) || is_some (get (named_pairs names.now pairs.now) r))) }
+{
+    for posting in pairs {
+        found.insert(names.name(posting.number()))?;
+    }
+    Ok(())
+}
+
+/// Copies of the texts in a set, in the order of their bytes.
+pub fn copied(alloc: Global, texts: &BTreeSet<&str>) -> Result<Vec<String>, AllocError>
+    ensures texts { IfOk result (λ v. bytes_of v.items ≡ texts_in texts.now) }
+    ensures order { IfOk result (λ _. IsStrictlySortedBy text_cmp (texts_in texts.now)) }
+{
+    let mut copies = Vec::with_capacity(alloc, texts.len())?;
+    for text in texts.iter() {
+        copies.push(String::from_str(alloc, text)?)?;
+    }
+    Ok(copies)
 }

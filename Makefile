@@ -1,4 +1,4 @@
-# The two commands: `make run` proves, builds and runs the program, `make test` passes the tests. Beside them, `make try`
+# The two commands: `make run` proves, builds and runs the program, `make test` passes the tests. Besides, `make try`
 # runs the program at once, without a proof, `make demo` shows the search page, and `make compare` compares the program with
 # the original crate.
 PREFIX ?= /usr/local
@@ -36,12 +36,13 @@ calls:
 demo: build
 	@python3 bench/browser_demo.py $(PORT)
 
-# `rt ci` (proves every crate from nothing, tries the wrong bodies, runs the tests and the programs) and, beside it, the
+# `rt ci` (proves every crate from nothing, tries the mutants, runs the tests and the programs) and, meanwhile, the
 # checks of bench/ on the programs that it built.
 test:
 	@bench/test.sh
 
-# Replays documents made by chance on the original crate, and prints speed and memory of both.
+# Replays random documents on the original crate, and prints speed and memory of both. The original stands on the
+# newest crates that Debian has, or on those of the release that BESIDE names: its stemmer is slower over an older `regex`.
 compare: build
 	@bench/compare/compare.sh
 

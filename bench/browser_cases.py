@@ -5,8 +5,11 @@ import socket
 import subprocess
 import sys
 
+import browser_anywhere
 import browser_book
 import browser_page
+import browser_policy
+import browser_speed
 from browser_pages import PAGES
 from browser_tools import SCRIPT, SECONDS, TOP, program
 
@@ -349,6 +352,10 @@ def readme():
     ]
 
 
+def pages():
+    return [case for cases_of in [browser_page, browser_anywhere, browser_policy, browser_speed] for case in cases_of.cases()]
+
+
 def groups():
     return [([], scripts()), (["node", "elasticlunr.min.js"], nodes()), (BROWSER, languages() + readme()),
-            (BROWSER, books()), (BROWSER, browser_page.cases() + [("demo: three sites", demo)]), (BROWSER, every_character())]
+            (BROWSER, books()), (BROWSER, pages() + [("demo: three sites", demo)]), (BROWSER, every_character())]

@@ -1,7 +1,7 @@
 #!/usr/bin/env python3
 """browser_demo.py PORT: sites of the jobs of examples/ in three languages, each with the search page, served on this machine alone.
 
-A site is made as README tells: the page, the two scripts and the index lie in one folder.
+A site is made as README tells: the page with its style and script, the two scripts and the index lie in one folder.
 """
 import functools
 import html
@@ -12,9 +12,9 @@ import shutil
 import subprocess
 import sys
 
-TOP = os.path.dirname(os.path.dirname(os.path.abspath(__file__)))
-INDEX = os.path.join(TOP, "crates/elasticlunr_index/out/elasticlunr_index")
-OUT = os.path.join(TOP, "browser/out")
+from browser_tools import FETCHED as OUT
+from browser_tools import INDEX, PARTS, TOP
+
 SITES = {"english": "job.json", "german": "german.json", "korean": "korean.json"}
 PAGE = '<!doctype html><meta charset="utf-8"><meta name="viewport" content="width=device-width"><title>{title}</title><style>:root{{color-scheme:light dark}}body{{margin:2rem auto;padding:0 1rem;max-width:40rem;font:1rem/1.5 system-ui,sans-serif}}</style><h1>{title}</h1>{body}\n'
 
@@ -41,7 +41,7 @@ def site(name, example, script):
         text = file.read()
     made = subprocess.run([INDEX], input=text.encode(), stdout=subprocess.PIPE, check=True).stdout
     os.makedirs(folder, exist_ok=True)
-    for part in [script, os.path.join(TOP, "browser/search.html"), os.path.join(TOP, "browser/elasticlunr-languages.js")]:
+    for part in [script, *(os.path.join(TOP, "browser", name) for name in PARTS)]:
         shutil.copy(part, folder)
     write(os.path.join(folder, "search_index.json"), made.decode())
     for ref, title, body in json.loads(text)["docs"]:

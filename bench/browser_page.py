@@ -1,4 +1,5 @@
 """The cases of the search page itself: typed, read and looked at as a reader does."""
+import html
 import json
 import os
 import shutil
@@ -6,7 +7,7 @@ import time
 
 import browser_book
 from browser_pages import PAGES
-from browser_tools import ELASTICLUNR, TOP, index_of
+from browser_tools import ELASTICLUNR, PARTS, TOP, index_of
 
 WAIT = 10
 SITES = {language: [[ref + ".html", *texts] for ref, *texts in pages] for language, pages in PAGES.items()}
@@ -16,22 +17,49 @@ def must(holds, told):
     assert holds, told if isinstance(told, str) else json.dumps(told, ensure_ascii=False)
 
 
-def site(world, name, docs, lang="English", index=None, leave_out=(), body=None, **more):
-    """A folder as README tells to make it: the page, the two scripts and the index."""
+BODY = '<body data-index="search_index.json">'
+ADDRESSES = '<body data-index="search_index.json" data-addresses="addresses.json">'
+
+
+def site(world, name, docs, lang="English", index=None, leave_out=(), edits=None, **more):
+    """A folder as README tells to make it, with edits of the page: what is there with the texts in its place."""
     folder = os.path.join(world.folder, name)
     os.makedirs(folder, exist_ok=True)
-    for source in [ELASTICLUNR, os.path.join(TOP, "browser/elasticlunr-languages.js"), os.path.join(TOP, "browser/search.html")]:
+    for source in [ELASTICLUNR, *(os.path.join(TOP, "browser", part) for part in PARTS)]:
         if os.path.basename(source) not in leave_out:
             shutil.copy(source, folder)
-    if body:
+    for old, new in (edits or {}).items():
         page = os.path.join(name, "search.html")
         with open(os.path.join(world.folder, page), encoding="utf-8") as file:
-            world.write(page, file.read().replace('<body data-index="search_index.json">', body))
+            text = file.read()
+        must(text.count(old) == 1, f"the page has not one {old}")
+        world.write(page, text.replace(old, new))
     if index is None:
         index = index_of({"fields": ["title", "body"], "docs": [list(doc) for doc in docs], "lang": lang, **more})
     if "search_index.json" not in leave_out:
         world.write(name + "/search_index.json", index)
     return name + "/search.html"
+
+
+ASK = """
+const [texts, done] = arguments, query = document.getElementById("query"), results = document.getElementById("results");
+const choice = document.querySelector("input[name=bool]:checked"), told = [];
+const isBusy = () => results.getAttribute("aria-busy") === "true";
+const drawn = () => new Promise((go) => new MutationObserver(() => isBusy() || go()).observe(results, { attributes: true }));
+(async () => {
+  for (const text of texts) {
+    query.value = text;
+    const begun = performance.now();
+    choice.dispatchEvent(new Event("change", { bubbles: true }));
+    if (isBusy()) await drawn();
+    results.getBoundingClientRect();
+    const milliseconds = performance.now() - begun, status = document.getElementById("status").textContent;
+    const refs = Array.from(results.querySelectorAll("small"), (small) => small.textContent);
+    told.push({ text, milliseconds, status, refs, marks: results.querySelectorAll("mark").length });
+  }
+  done(told);
+})();
+"""
 
 
 class Page:
@@ -43,17 +71,22 @@ class Page:
         self.keys = Keys
         self.by = By
         self.driver = world.open(page, url)
-        self.until(lambda: self.status() != "Loading the index …")
+        self.until(lambda: self.script("document.querySelector('#query:enabled, #status.bad') !== null"))
         if ready:
             must(self.query().is_enabled(), self.status())
 
     def until(self, holds):
         end = time.monotonic() + WAIT
         while not holds():
-            must(time.monotonic() < end, f"not so after {WAIT} seconds: {self.status()}")
-            time.sleep(0.05)
+            must(time.monotonic() < end, f"not so after {WAIT} seconds: {self.script('document.body.innerText')[:300]}")
+            time.sleep(0.02)
+
+    def settle(self):
+        """Waits until the page has drawn what was asked for last."""
+        self.until(lambda: self.script("document.querySelector('[aria-busy=true]') === null"))
 
     def all(self, what):
+        self.settle()
         return self.driver.find_elements(self.by.CSS_SELECTOR, what)
 
     def status(self):
@@ -66,6 +99,7 @@ class Page:
     def type(self, text):
         self.query().clear()
         self.query().send_keys(text)
+        self.settle()
 
     def press(self, key):
         self.driver.switch_to.active_element.send_keys(key)
@@ -81,6 +115,10 @@ class Page:
 
     def script(self, text):
         return self.driver.execute_script("return " + text)
+
+    def ask(self, texts):
+        """Asks for each text by the choice, which searches at once: what the page shows, and the milliseconds it took."""
+        return self.driver.execute_async_script(ASK, texts)
 
 
 def typing(world):
@@ -165,13 +203,115 @@ def enter_on_result(world):
     page.until(lambda: page.driver.current_url.endswith("/english/bread.html"))
 
 
+def composing(world):
+    """While a syllable is being composed, Escape, the arrow keys and Enter are the input method's."""
+    page = Page(world, site(world, "korean", SITES["Korean"], "Korean"))
+    command = page.driver.execute_cdp_cmd
+    world.write("korean/festival.html", "<title>festival</title>")
+    page.type("축")
+    command("Input.imeSetComposition", {"text": "제", "selectionStart": 1, "selectionEnd": 1})
+    page.script("(window.composed = [], addEventListener('keydown', (event) => composed.push([event.key, event.isComposing, event.defaultPrevented])))")
+    for name, code in [("Escape", 27), ("ArrowDown", 40), ("ArrowUp", 38), ("Enter", 13)]:
+        text = {"text": "\r"} if name == "Enter" else {}
+        command("Input.dispatchKeyEvent", {"type": "keyDown", "key": name, "code": name, "windowsVirtualKeyCode": code, **text})
+        command("Input.dispatchKeyEvent", {"type": "keyUp", "key": name, "code": name, "windowsVirtualKeyCode": code})
+        must(page.titles() == ["봄 축제"] and page.active() == page.query(), [name, page.driver.title, page.titles()])
+        must(page.query().get_attribute("value") == "축제", [name, page.query().get_attribute("value")])
+    must(page.script("composed") == [["Escape", True, True], ["ArrowDown", True, False], ["ArrowUp", True, False], ["Enter", True, True]], page.script("composed"))
+    command("Input.insertText", {"text": "제"})
+    # Where the composition ends before its last key comes, the key has the number 229.
+    for name in ["Escape", "Enter"]:
+        held = f"document.getElementById('query').dispatchEvent(new KeyboardEvent('keydown', {{ key: '{name}', keyCode: 229, bubbles: true, cancelable: true }}))"
+        must(page.script(held) is False and page.titles() == ["봄 축제"], name)
+    page.press(page.keys.ENTER)
+    page.until(lambda: page.driver.title == "festival")
+
+
+def rest_of_address(world):
+    """The page changes the query in its address and keeps the rest as it is written."""
+    page = Page(world, site(world, "english", SITES["English"]) + "?a=%20&q=ivy&flag&b=x+y&%71=two#part%201")
+    where = lambda: page.script("location.search + location.hash")
+    must(page.titles() == ["Notes on a Façade Garden"] and where() == "?a=%20&q=ivy&flag&b=x+y#part%201", where())
+    page.type("rye & flour")
+    must(where() == "?a=%20&q=rye%20%26%20flour&flag&b=x+y#part%201", where())
+    page.press(page.keys.ESCAPE)
+    must(where() == "?a=%20&flag&b=x+y#part%201", where())
+    page.type("ivy")
+    must(where() == "?a=%20&flag&b=x+y&q=ivy#part%201", where())
+    page = Page(world, site(world, "english", SITES["English"]) + "#part")
+    page.type("ivy")
+    must(where() == "?q=ivy#part", where())
+    page.press(page.keys.ESCAPE)
+    must(page.script("location.href").endswith("/english/search.html#part"), page.script("location.href"))
+
+
+def names_of_files(world):
+    """Names of files may hold what separates the parts of an address; what begins with a scheme is an address."""
+    names = [("100% #1?.json", "list #2.json"), ("sub folder/50%25/a&b=ü.json", "../named/+.json"), (world.url + "named/whole.json?v=1#x", world.url + "named/list%20%232.json")]
+    index = index_of({"fields": ["title", "body"], "docs": [["7", "Seven", "same"]]})
+    for file in [names[0][0], names[1][0], "whole.json"]:
+        world.write("named/" + file, index)
+    for file in [names[0][1], "+.json"]:
+        world.write("named/" + file, '{"7": "seven.html"}')
+    for data, addresses in names:
+        body = f'<body data-index="{html.escape(data)}" data-addresses="{html.escape(addresses)}">'
+        page = Page(world, site(world, "named", [], leave_out=["search_index.json"], edits={BODY: body}))
+        page.type("same")
+        must([small.text for small in page.all("#results small")] == ["seven.html"], [data, page.status()])
+    body = '<body data-index="no #1?.json">'
+    page = Page(world, site(world, "named", [], leave_out=["search_index.json"], edits={BODY: body}), ready=False)
+    must(page.status() == "The search index could not be loaded: no #1?.json (404)", page.status())
+
+
+def fails_once(world):
+    """What is thrown by a search is said, with no old results below it, and the next key press searches again."""
+    page = Page(world, site(world, "many", [[str(number), f"Page {number}", "the same words"] for number in range(45)]))
+    page.type("sam")
+    page.script("(window.search = elasticlunr.Index.prototype.search, elasticlunr.Index.prototype.search = () => { throw new Error('out of order'); }, 0)")
+    page.query().send_keys("e")
+    must(page.status() == "The search failed: out of order" and "bad" in page.all("#status")[0].get_attribute("class"), page.status())
+    must(not page.all("#results li") and not page.all("#more")[0].is_displayed(), "old results")
+    page.script("(elasticlunr.Index.prototype.search = window.search, 0)")
+    page.query().send_keys(" ")
+    must(page.status() == "45 pages" and len(page.titles()) == 20 and "bad" not in page.all("#status")[0].get_attribute("class"), page.status())
+
+
+def one_that_fails(world):
+    """A document that can't be drawn hides no other."""
+    docs = [["1", "One", "the same words"], ["2", "Two", "the same broken words"], ["3", "Broken", "the same words"], ["4", "Four", "the same words"]]
+    page = Page(world, site(world, "broken", docs))
+    page.script("""(() => {
+      const before = elasticlunr.tokenizer;
+      elasticlunr.tokenizer = (text) => { if (/broken/i.test(text)) throw new Error('no such word'); return before(text); };
+    })()""")
+    page.type("same")
+    must(page.status() == "4 pages" and sorted(page.titles()) == ["3", "Four", "One", "Two"], page.titles())
+    must([len(page.all("p.excerpt")), len(page.all("mark"))] == [2, 2], "another excerpt")
+    page.type("four")
+    must(page.titles() == ["Four"], page.titles())
+
+
+def spoken(world):
+    """What a screen reader says of the choice, the box and the list."""
+    page = Page(world, site(world, "english", SITES["English"]))
+    choice, query = page.all("fieldset")[0], page.query()
+    must((choice.aria_role, choice.accessible_name) == ("group", "Find pages with"), [choice.aria_role, choice.accessible_name])
+    must((query.aria_role, query.accessible_name) == ("searchbox", "Search"), [query.aria_role, query.accessible_name])
+    must([radio.accessible_name for radio in page.all("input[type=radio]")] == ["all words", "any word"], "the choices")
+    must(page.all("legend")[0].size["width"] <= 1, page.all("legend")[0].size)
+    page.type("ivy")
+    must(page.script("document.getElementById('results').ariaBusy") == "false", "busy")
+
+
 def more(world):
     docs = [[str(number), f"Page {number}", "the same words"] for number in range(45)]
     page = Page(world, site(world, "many", docs))
     page.type("same")
     must(len(page.titles()) == 20 and page.status() == "45 pages", page.status())
     page.all("#more")[0].click()
+    must(page.active() == page.all("#results a")[20], "not the first of the new results")
     page.all("#more")[0].click()
+    must(page.active() == page.all("#results a")[40], "not the first of the last results")
     must(len(page.titles()) == 45 and not page.all("#more")[0].is_displayed(), len(page.titles()))
 
 
@@ -184,15 +324,52 @@ def as_text(world):
     docs = [["javascript:alert(1)", "<b>bold</b> & <img src=x onerror=document.title='run'>", "<script>document.title='run'</script> letters"]]
     page = Page(world, site(world, "markup", docs))
     page.type("letters")
-    must(page.titles() == [docs[0][1]] and page.driver.title == "Search", page.titles())
-    must(not page.all("#results img") and not page.all("#results b"), "markup was taken for markup")
-    must("javascript" not in page.all("#results a")[0].get_attribute("href"), "a script as an address")
+    must([title.text for title in page.all("#results b")] == [docs[0][1]] and page.driver.title == "Search", page.titles())
+    must(not page.all("#results img") and not page.all("#results b b"), "markup was taken for markup")
+    must(not page.all("#results a"), "a script as an address")
+
+
+# What a browser takes for a script, though not written as `javascript:` at first sight, and what else no link may lead to.
+HOSTILE = [" javascript:", "java\nscript:", "java\tscript:", "java\rscript:", "\u0001javascript:", "javascript\t:", "\n \tJaVaScRiPt:", "JAVASCRIPT:",
+           "vbscript:", "data:text/html,", "blob:", "file:///", "view-source:javascript:", "feed:javascript:", "mailto:", "ftp://"]
+CONTROLS = [chr(code) for code in [*range(0x20), 0x7F, *range(0x80, 0xA0), 0xA0, 0x2028, 0xFEFF]]
+
+
+def hostile_references(world):
+    run = "document.title='run'"
+    hostile = [start + run for start in HOSTILE] + [control + "javascript:" + run for control in CONTROLS] + ["java" + control + "script:" + run for control in CONTROLS]
+    friendly = {"//host.invalid/there": "//host.invalid/there", "https://host.invalid/": "https://host.invalid/", "a page.html#part": "a%20page.html#part", "../up.html?x=1": "up.html?x=1"}
+    docs = [[ref, f"Page {number}", "the same words"] for number, ref in enumerate(dict.fromkeys([*hostile, *CONTROLS, *friendly]))]
+    name = site(world, "hostile", docs)
+    page = Page(world, name)
+    page.type("same")
+    while page.all("#more")[0].is_displayed():
+        page.all("#more")[0].click()
+    must(len(page.all("#results li")) == len(docs) > 200, len(page.all("#results li")))
+    allowed = ["http:", "https:"]
+    protocols = page.script("Array.from(document.querySelectorAll('#results a'), (link) => link.protocol)")
+    must(len(protocols) >= len(friendly) and set(protocols) <= set(allowed), sorted(set(protocols)))
+    links = page.script("Array.from(document.querySelectorAll('#results a'), (link) => link.href)")
+    must(all(any(link.endswith(end) for link in links) for end in friendly.values()), links)
+    must(not any("script:" in link and "%" not in link for link in links), [link for link in links if "script:" in link])
+    must("\u0001javascript:" + run in page.script("Array.from(document.querySelectorAll('#results small'), (small) => small.textContent)"), "not shown as text")
+    # Each title is clicked on, link or not; one that leads somewhere is stopped before the browser goes there.
+    page.script("(addEventListener('click', (event) => event.preventDefault()), document.querySelectorAll('#results b').forEach((title) => title.click()))")
+    must(page.driver.title == "Search", "a script was run")
+
+
+def hostile_addresses(world):
+    refs = [str(number) for number in range(len(HOSTILE))]
+    name = site(world, "hostile-addresses", [[ref, f"Page {ref}", "the same words"] for ref in refs], edits={BODY: ADDRESSES})
+    world.write("hostile-addresses/addresses.json", json.dumps(dict(zip(refs, [start + "alert(1)" for start in HOSTILE]))))
+    page = Page(world, name)
+    page.type("same")
+    must(len(page.all("#results li")) == len(HOSTILE) and not page.all("#results a"), len(page.all("#results a")))
 
 
 def addresses(world):
     sections = browser_book.book()
-    body = '<body data-index="search_index.json" data-addresses="addresses.json">'
-    name = site(world, "book", sections, body=body)
+    name = site(world, "book", sections, edits={BODY: ADDRESSES})
     world.write("book/addresses.json", json.dumps({number: f"part/{number}.html" for number, _, _ in sections}))
     page = Page(world, name)
     page.type(sections[7][1])
@@ -228,6 +405,27 @@ def phone(world):
         must(page.script("getComputedStyle(document.body).fontSize") == "16px", "small letters")
     finally:
         page.driver.execute_cdp_cmd("Emulation.clearDeviceMetricsOverride", {})
+
+
+SIDES = """Array.from(document.querySelectorAll('#results li'), (item) => {
+  const all = item.getBoundingClientRect();
+  return Array.from(item.querySelectorAll('a, p, bdi'), (part) => {
+    const range = document.createRange();
+    range.selectNodeContents(part);
+    const { left, right } = range.getBoundingClientRect();
+    return Math.abs(left - all.left) < 2 ? 'left' : Math.abs(right - all.right) < 2 ? 'right' : 'neither';
+  });
+})"""
+
+
+def right_to_left(world):
+    """Heading, excerpt and address of a result begin on one side, and the focus ring is as wide as the heading."""
+    docs = [["sea.html", "البحر في الصباح", "خرج الصيّادون"], ["guide.html", "Guide to البحر", "A text"], ["port.html", "دليل elasticlunr البحر", "ميناء"]]
+    page = Page(world, site(world, "sides", docs, "Arabic"))
+    page.type("البحر")
+    sides = dict(zip([small.text for small in page.all("#results small")], page.script(SIDES)))
+    must(sides == {"sea.html": ["right"] * 3, "port.html": ["right"] * 3, "guide.html": ["left"] * 3}, sides)
+    must(all(link.size["width"] < 300 for link in page.all("#results a")), [link.size for link in page.all("#results a")])
 
 
 def contrast(first, second):
@@ -268,16 +466,25 @@ def cases():
         ("page: all words or any word", switch),
         ("page: arrow keys, Enter and Escape", keyboard),
         ("page: Enter on a result", enter_on_result),
+        ("page: keys while a syllable is being composed", composing),
         ("page: more results", more),
         ("page: a query in the address", from_address),
+        ("page: the rest of the address", rest_of_address),
         ("page: markup in texts is shown as text", as_text),
+        ("page: references that would run a script", hostile_references),
+        ("page: addresses that would run a script", hostile_addresses),
         ("page: addresses beside the index", addresses),
         ("page: an index without texts", not_saved),
+        ("page: names of files with signs of addresses", names_of_files),
+        ("page: a search that fails", fails_once),
+        ("page: a document that can't be drawn", one_that_fails),
+        ("page: what a screen reader says", spoken),
         ("page: a missing index", says("missing", "could not be loaded: search_index.json (404)", leave_out=["search_index.json"])),
         ("page: an index that is not JSON", says("garbage", "could not be loaded", index="refused: not JSON\n")),
         ("page: a refused index", says("refused", "is refused: Cannot load un-registered function: stemmer-xx", index=UNKNOWN_STAGE)),
         ("page: a script that is not there", says("scriptless", "is refused: Cannot load un-registered function: trimmer-de", leave_out=["elasticlunr-languages.js"])),
         ("page: elasticlunr.min.js is not there", says("bare", "is refused: elasticlunr.min.js is not there", leave_out=["elasticlunr.min.js"])),
         ("page: on a phone", phone),
+        ("page: right to left", right_to_left),
         ("page: light and dark", dark),
     ]

@@ -13,9 +13,11 @@ INDEX = os.path.join(TOP, "crates/elasticlunr_index/out/elasticlunr_index")
 SCRIPT = os.path.join(TOP, "crates/elasticlunr_script/out/elasticlunr_script")
 FETCHED = os.path.join(TOP, "browser/out")
 ELASTICLUNR = os.path.join(FETCHED, "elasticlunr.min.js")
+PARTS = ["search.html", "search.css", "search.js", "elasticlunr-languages.js"]  # of the page, below browser/
 PACKAGES = {"chromium": "chromium", "chromedriver": "chromium-driver", "node": "nodejs"}
 SYSTEM_PYTHON = "/usr/bin/python3"
 SECONDS = 120
+POLICY = "policy.txt"  # of a served folder: the Content-Security-Policy of its files
 
 
 def has_selenium(python):
@@ -25,9 +27,10 @@ def has_selenium(python):
 
 
 def install(packages):
-    """Installs Debian's packages where apt is there and may."""
+    """Installs Debian's packages where apt is there and may, and says first which and why."""
     if not packages or not shutil.which("apt-get") or os.geteuid() != 0:
         return
+    print(f"browser_tools.py: installs {', '.join(packages)} by apt-get, to search in a browser and in node", file=sys.stderr, flush=True)
     quiet = {"stdout": subprocess.DEVNULL, "stderr": subprocess.DEVNULL, "env": dict(os.environ, DEBIAN_FRONTEND="noninteractive")}
     try:
         subprocess.run(["apt-get", "--quiet", "update"], timeout=SECONDS, **quiet)
@@ -73,6 +76,10 @@ class Quiet(http.server.SimpleHTTPRequestHandler):
 
     def end_headers(self):
         self.send_header("Cache-Control", "no-store")
+        policy = os.path.join(os.path.dirname(self.translate_path(self.path)), POLICY)
+        if os.path.exists(policy):
+            with open(policy, encoding="ascii") as file:
+                self.send_header("Content-Security-Policy", file.read())
         super().end_headers()
 
 
@@ -86,7 +93,7 @@ class World:
         if not lacking & {"elasticlunr.min.js"}:
             shutil.copy(ELASTICLUNR, folder)
         for name in os.listdir(os.path.join(TOP, "browser")):
-            if name.endswith((".js", ".html")):
+            if name.endswith((".js", ".css", ".html")):
                 shutil.copy(os.path.join(TOP, "browser", name), folder)
         shutil.copy(os.path.join(TOP, "bench/browser_compare.html"), folder)
         handler = functools.partial(Quiet, directory=folder)

@@ -18,8 +18,10 @@ import subprocess
 import sys
 import time
 from concurrent.futures import FIRST_COMPLETED, ThreadPoolExecutor, wait
+from typing import NamedTuple
 
 import room
+from running import say
 
 LOGS = os.path.join(room.TOP, "out")
 FIRST = {"elasticlunr_index": "10 to 22 minutes on four cores, by how fast they are"}  # what a build from nothing takes
@@ -32,41 +34,56 @@ def folder(crate):
     return os.path.join(room.TOP, "crates", crate)
 
 
-def files(name):
+def files_of_sources(name):
     for crate in room.below(name) + [name]:
         for part in room.PARTS:
             for at, folders, names in os.walk(os.path.join(folder(crate), part)):
                 folders.sort()
                 yield from (os.path.join(at, it) for it in sorted(names))
     yield os.path.join(room.TOP, "crates.txt")
-    yield os.path.join(folder(name), "out", name)
 
 
-def sum_of(name):
-    """A sum of the sources that a program is built from, of the kit, and of the program."""
-    found = hashlib.sha256(subprocess.run(["rt", "version"], stdout=subprocess.PIPE, check=True).stdout)
-    for path in files(name):
+def sum_of(paths):
+    found = hashlib.sha256()
+    for path in paths:
         with open(path, "rb") as file:
             found.update(os.path.relpath(path, room.TOP).encode() + hashlib.sha256(file.read()).digest())
     return found.hexdigest()
 
 
+class Sources(NamedTuple):
+    sum: str  # of the kit and of the sources that a program is built from
+    changed: int  # when one of these was changed last, also where it was changed back
+
+
+def sources_of(name):
+    kit = hashlib.sha256(subprocess.run(["rt", "version"], stdout=subprocess.PIPE, check=True).stdout).hexdigest()
+    changed = max(os.stat(path).st_ctime_ns for path in files_of_sources(name))
+    return Sources(kit + sum_of(files_of_sources(name)), changed)
+
+
+def built(name):
+    return os.path.join(folder(name), "out", name)
+
+
+def note_of(name):
+    return os.path.join(folder(name), "out", "sources")
+
+
 def is_built(name):
     try:
-        with open(os.path.join(folder(name), "out", "sources"), encoding="ascii") as file:
-            return file.read() == sum_of(name)
+        with open(note_of(name), encoding="ascii") as file:
+            return file.read() == sources_of(name).sum + sum_of([built(name)])
     except OSError:
         return False
 
 
-def note_built(name):
-    """Notes that the program that stands there was built, and proved, from the sources as they are."""
-    with open(os.path.join(folder(name), "out", "sources"), "w", encoding="ascii") as file:
-        file.write(sum_of(name))
-
-
-def say(text):
-    print(text, file=sys.stderr, flush=True)
+def note_built(name, sources):
+    """Notes that the program that stands there was built, and proved, from these sources, which were taken before the build.
+    Where one was changed since nobody knows which text the build has read: then nothing is noted."""
+    if sources == sources_of(name):
+        with open(note_of(name), "w", encoding="ascii") as file:
+            file.write(sources.sum + sum_of([built(name)]))
 
 
 def size(crate):
@@ -88,13 +105,19 @@ def heights(name):
     return found
 
 
+def processors():
+    return len(os.sched_getaffinity(0))
+
+
+def gigabytes():
+    return os.sysconf("SC_PHYS_PAGES") * os.sysconf("SC_PAGE_SIZE") / 2**30
+
+
 def share(is_first, others):
     """The jobs of a crate that is proved beside so many others, and the words that let it stand back behind the first."""
-    processors = len(os.sched_getaffinity(0))
-    gigabytes = os.sysconf("SC_PHYS_PAGES") * os.sysconf("SC_PAGE_SIZE") / 2**30
-    if gigabytes < GIGABYTES_OF_JOB * processors * (1 + others / 2):
-        return max(1, processors // (1 + others)), []
-    return (processors, []) if is_first else (max(1, processors // 2), ["nice", "-n", "10"])
+    if gigabytes() < GIGABYTES_OF_JOB * processors() * (1 + others / 2):
+        return max(1, processors() // (1 + others)), []
+    return (processors(), []) if is_first else (max(1, processors() // 2), ["nice", "-n", "10"])
 
 
 def rt(command, at, shared, log):
@@ -184,10 +207,11 @@ def main():
     say(f"Proving and building {name} and the crates below it: {' '.join(room.below(name))}.")
     say(f"The first time this takes {FIRST.get(name, 'minutes')}; later only what changed is proved again.")
     begun = time.monotonic()
+    sources = sources_of(name)
     if not build(name):
         return 1
-    note_built(name)
-    say(f"All is proved ({time.monotonic() - begun:.0f} s). The program is {os.path.relpath(folder(name), room.TOP)}/out/{name}")
+    note_built(name, sources)
+    say(f"All is proved ({time.monotonic() - begun:.0f} s). The program is {os.path.relpath(built(name), room.TOP)}")
     return 0
 
 

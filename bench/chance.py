@@ -1,4 +1,4 @@
-"""Makes jobs by chance, in all languages: texts, documents, settings, and damage to a job."""
+"""Makes random jobs, in all languages: texts, documents, settings, and damage to a job."""
 import json
 
 from model_tokens import LANGUAGES, LOWER, STEP_2, STEP_3, STEP_4, WHITE_SPACE, script_ranges, stop_words

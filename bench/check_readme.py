@@ -4,13 +4,15 @@
 usage: check_readme.py [README]
 
 - README gives lines of crates.txt, each of a crate that has one file of Rust. The blocks of Rust are
-  these files, in their order and letter for letter, and a block of proofs after one is the file of
+  these files, in their order and byte for byte, and a block of proofs after one is the file of
   that crate whose path it begins with: so `rt ci`, which proves every crate, has proved the blocks.
   Such a crate holds nothing else. A block of Rust that is a file of the crate of uses, letter for
   letter, is a use, and counts as none of these.
 - Each command of a block of shell is run at the top of the repository and must end well. `make test`,
   of which this is a part, and `make compare` are only looked up, by `make -n`, and so is `make try` for
   a README that is not the repository's own.
+- The logic that README names is that of the kit here (`rt version`), whose name differs from machine to
+  machine.
 - Each job in JSON must be answered by the built program as the definitions say (model.py).
 
 A block of another kind is for another check or none: it is named.
@@ -30,13 +32,17 @@ LONG = re.compile(r"make (test|compare)\b")
 ONCE = re.compile(r"make try\b")  # takes up to a minute: run for the page itself, and only looked up for another one
 FETCHES = re.compile(r"bench/fetch_")  # needs a network: tried by bench/browser.py
 MINUTES = 15  # that a command may take
+LOGIC = re.compile(r"`logic ([0-9a-f]{16})`")
 KINDS = ("rust", "antt", "console", "json", "text")
 
 
-def blocks(path):
-    """The kind, the first line's number and the text of each block."""
+def content(path):
     with open(path, encoding="utf-8") as file:
-        text = file.read()
+        return file.read()
+
+
+def blocks(text):
+    """The kind, the first line's number and the text of each block."""
     for block in re.finditer(r"^```(\S*)\n(.*?)^```$", text, re.DOTALL | re.MULTILINE):
         yield block[1], text.count("\n", 0, block.start()) + 2, block[2]
 
@@ -49,11 +55,7 @@ def crate_lines(found):
 
 def texts_of_uses():
     """What the files of the crate of uses hold."""
-    texts = []
-    for name in sorted(os.listdir(USES)):
-        with open(os.path.join(USES, name), encoding="utf-8") as file:
-            texts.append(file.read())
-    return texts
+    return [content(os.path.join(USES, name)) for name in sorted(os.listdir(USES))]
 
 
 def files_of_rust(found):
@@ -75,22 +77,28 @@ def files_of_crate(name):
     for part in room.PARTS:
         for folder, _, names in os.walk(os.path.join(at, part)):
             for path in (os.path.join(folder, it) for it in names):
-                with open(path, encoding="utf-8") as file:
-                    texts[os.path.relpath(path, at)] = file.read()
+                texts[os.path.relpath(path, at)] = content(path)
     return texts
 
 
 def why_not_a_crate(line_of_crate, texts):
     """Why these texts are not a crate of the repository, or None."""
     name = line_of_crate.partition(":")[0]
-    with open(os.path.join(TOP, "crates.txt"), encoding="utf-8") as file:
-        if line_of_crate not in file.read().splitlines():
-            return f"crates.txt has no line `{line_of_crate}`"
+    if line_of_crate not in content(os.path.join(TOP, "crates.txt")).splitlines():
+        return f"crates.txt has no line `{line_of_crate}`"
     held = files_of_crate(name)
     if set(held) != set(texts):
         return f"crates/{name} holds {sorted(held)} in place of {sorted(texts)}"
     other = [path for path in texts if texts[path] != held[path]]
     return f"crates/{name}/{other[0]} is another text" if other else None
+
+
+def why_not_the_kit(text):
+    named = set(LOGIC.findall(text))
+    if len(named) != 1:
+        return f"README names {len(named)}"
+    here = run(["rt", "version"]).out.decode().split()
+    return None if here[-2:] == ["logic", *named] else f"its logic is {here[-1:]}"
 
 
 def why_not_run(command, is_page):
@@ -117,7 +125,9 @@ def commands(text):
 
 def tried(path):
     """The name of each block, or of a part of one, and why it doesn't stand."""
-    found = list(blocks(path))
+    text = content(path)
+    found = list(blocks(text))
+    yield "the kit", why_not_the_kit(text)
     uses = texts_of_uses()
     for kind, line, text in found:
         if kind == "rust" and text in uses:

@@ -1,20 +1,23 @@
 #!/usr/bin/env python3
 """Runs the built command `elasticlunr` on the rows of a table, and on files and devices.
 
-usage: command.py [TABLE]
+usage: command.py [TABLE [CHECK ..]]
 
 A line of the table is an object: `name`, `args`, `files` (names and texts of files that lie in the
 folder that it runs in), `stdin`, and what must come of it: `out`, `err` and `status`. In place of `out`
 there may be `job`: the text that elasticlunr_index prints of this job. `before` and `after` stand around that
 text, and `in` names a file that has it in place of standard output. `err` is then `notes` and a last line
 with `documents`, the tokens of the index (or `tokens`, where some are in no index), the bytes of the text and
-the seconds. How many lines the table has stands beside it, in TABLE.rows.
+the seconds. How many lines the table has stands beside it, in TABLE.rows. After the table each function of CHECKS
+is run, or those that are named.
 """
 import json
 import os
+import pty
 import re
 import resource
 import shutil
+import stat
 import subprocess
 import sys
 import tempfile
@@ -33,6 +36,7 @@ MEGABYTES = 340  # that the lines of so many documents may take, most of them fo
 OTHERS = 200  # numbers in a member of each line that no field takes
 MORE = 4  # megabytes that they may take, in all lines
 LEAST = 20  # requests for memory that must have been refused
+SCRIPTS = ["window.search = ", "var x = {}; x.index = ", "if (a) {} i=", ""]  # what stands before an index
 
 JOB = {
     "fields": ["title", "body"],
@@ -48,6 +52,10 @@ FOUND = [
     (["foxes dogs"], ["1", "2"]),
     (["fox dog", "--all"], []),
     (["lazy dog", "--all"], ["2"]),
+    (["red quick", "--all"], ["1"]),
+    (["red quick", "--all", "--field", "title"], []),
+    (["red quick", "--all", "--field", "body"], []),
+    (["red lazy", "--all"], []),
     (["quick", "--field", "title"], []),
     (["quick", "--field", "body"], ["1"]),
     (["both"], ["3"]),
@@ -85,6 +93,10 @@ def tokens_of(text):
     return found
 
 
+def so_many(count, name):
+    return f"{count} {name}" if count == 1 else f"{count} {name}s"
+
+
 def ran(folder, args, given=b"", **options):
     return run([COMMAND, *args], given, cwd=folder, **options)
 
@@ -102,7 +114,7 @@ def check_row(row, counts):
             text = printed(row["job"])
             wanted = row.get("before", "").encode() + text + row.get("after", "").encode() + b"\n"
             tokens = row.get("tokens", len(tokens_of(text)))
-            counted = f"{row['documents']} documents, {tokens} tokens, {len(text) + 1} bytes"
+            counted = f"{so_many(row['documents'], 'document')}, {so_many(tokens, 'token')}, {len(text) + 1} bytes"
             err = f"{row['notes']}elasticlunr: {counted}, N.N s\n"
         out = ended.out
         if "in" in row:
@@ -150,9 +162,70 @@ def check_search(counts):
             ended = ran(folder, ["search", "index.json", *words])
             lines = "".join(it + "\n" for it in wanted).encode()
             counts.note(f"search {words}", ended == (lines, b"", 0), ended)
+        check_scripts(folder, given, counts)
         ended = ran(folder, ["search", "index.json", "fox", "--field", "titel"])
         wanted = (b"", b'index.json: no field "titel"; did you mean "title"?\n', 2)
         counts.note("search in no field", ended == wanted, ended)
+
+
+def check_scripts(folder, given, counts):
+    """An index is read in a script that `--js` wrote, and behind a byte order mark."""
+    for before in SCRIPTS:
+        for more in ([], ["--pretty"]):
+            ran(folder, ["build", "--fields", "title,body", "--js", before, "-o", "index.js", *more], given)
+            ended = ran(folder, ["search", "index.js", "foxes dogs"])
+            counts.note(f"search in a script, {before!r} {more}", ended == (b"1\n2\n", b"", 0), ended)
+    with open(os.path.join(folder, "index.json"), "rb") as file:
+        text = file.read()
+    files = {
+        "marked.json": (b"\xef\xbb\xbf" + text, (b"1\n2\n", b"", 0)),
+        "cut.json": (text[:40], (b"", b"cut.json:1:40: not JSON: it ends in the middle of a value\n", 2)),
+        "cut.js": (
+            b"i = " + text[:40] + b";\n",
+            (b"", b"cut.js: no index: what stands in the script is not JSON\n", 2),
+        ),
+        "none.js": (b"i = 5;\n", (b"", b"none.js:1:1: not JSON\n", 2)),
+    }
+    for name, (content, wanted) in files.items():
+        with open(os.path.join(folder, name), "wb") as file:
+            file.write(content)
+        ended = ran(folder, ["search", name, "foxes dogs"])
+        counts.note(f"search in {name}", ended == wanted, ended)
+
+
+def check_terminal(counts):
+    """A terminal gets no control character of a reference; a pipe gets each reference as it is."""
+    reference = "a\x1b[31m\x9b\x7f"
+    with tempfile.TemporaryDirectory() as folder:
+        given = json.dumps([{"id": reference, "a": "fox"}]).encode()
+        ran(folder, ["build", "-o", "index.json"], given)
+        ended = ran(folder, ["search", "index.json", "fox"])
+        counts.note("a reference in a pipe", ended == (reference.encode() + b"\n", b"", 0), ended)
+        ours, its = pty.openpty()
+        with os.fdopen(ours, "rb", buffering=0) as shown, os.fdopen(its, "wb", buffering=0) as terminal:
+            args = [COMMAND, "search", "index.json", "fox"]
+            status = subprocess.run(args, cwd=folder, stdout=terminal, stderr=subprocess.PIPE, timeout=20).returncode
+            text = shown.read(1000)
+        wanted = b"a\\u{1b}[31m\\u{9b}\\u{7f}\r\n"
+        counts.note("a reference on a terminal", (status, text) == (0, wanted), (status, text))
+
+
+def check_mode(folder, job, counts):
+    """A file that takes the place of another one has its mode, and a new one that of any new file."""
+    path = os.path.join(folder, "mode.json")
+    before = os.umask(0o027)
+    try:
+        ended = ran(folder, ["build", "-o", "mode.json"], job)
+        mode = stat.S_IMODE(os.stat(path).st_mode)
+        counts.note("the mode of a new file", (ended.status, mode) == (0, 0o640), oct(mode))
+        for wanted in (0o600, 0o666, 0o755, 0o444):
+            os.chmod(path, wanted)
+            ended = ran(folder, ["build", "-o", "mode.json"], job)
+            mode = stat.S_IMODE(os.stat(path).st_mode)
+            counts.note(f"the mode {wanted:o} stays", (ended.status, mode) == (0, wanted), oct(mode))
+    finally:
+        os.umask(before)
+    os.remove(path)
 
 
 def check_files(counts):
@@ -184,6 +257,7 @@ def check_files(counts):
         os.symlink("index.json", os.path.join(folder, "link.json"))
         ended = ran(folder, ["build", "-o", "link.json"], job)
         counts.note("through a link", ended.status == 0 and os.path.islink(os.path.join(folder, "link.json")), ended)
+        check_mode(folder, job, counts)
         ended = ran(folder, ["build", "-o", "."], job)
         counts.note("a folder in place of a file", ended.status == 1 and ended.err != b"", ended)
         ended = ran(folder, ["build", "-o", "none/index.json"], job)
@@ -283,15 +357,19 @@ def check_memory(counts):
         counts.note(f"memory refused in turn, {form}", wrong == 0 and refused >= LEAST, f"{refused} refused, {wrong} wrong")
 
 
+CHECKS = [check_forms, check_search, check_terminal, check_files, check_many, check_one_line, check_memory]
+
+
 def main():
     counts = Counts()
-    check_rows(sys.argv[1] if len(sys.argv) > 1 else TABLE, counts)
-    check_forms(counts)
-    check_search(counts)
-    check_files(counts)
-    check_many(counts)
-    check_one_line(counts)
-    check_memory(counts)
+    table, *names = sys.argv[1:] or [TABLE]
+    check_rows(table, counts)
+    for check in CHECKS:
+        if not names or check.__name__ in names:
+            try:
+                check(counts)
+            except (OSError, ValueError) as error:  # a file that should be there, a text that should be JSON
+                counts.note(check.__name__, False, repr(error))
     return told("command", counts.passed, counts.failed)
 
 

@@ -1,9 +1,9 @@
 #!/usr/bin/env python3
-"""Makes jobs by chance, a quarter of them damaged, and compares what the built program answers.
+"""Makes random jobs, a quarter of them damaged, and compares what the built program answers.
 
 usage: compare_by_chance.py [--jobs N] [--seed N]
 
-The answer to each is compared, letter for letter, with that of the model (model.py), which has the
+The answer to each is compared, byte for byte, with that of the model (model.py), which has the
 definitions and not the program. Of one job in twenty the laws between two runs of the program are
 tried, too: these stand whatever the model says. The same seed makes the same jobs; one that comes
 out otherwise is printed.
@@ -16,17 +16,17 @@ import sys
 
 import chance as make
 import model
-from running import program, run, told
+from running import printed, program, run, told
 
 PROGRAM = program("elasticlunr_index")
 SHOWN = 5  # jobs that are printed whole; the others are counted
 
 
-def printed(job):
-    ended = run([PROGRAM], json.dumps(job).encode())
-    if ended.status != 0 or ended.err:
-        raise ValueError(f"status {ended.status}")
-    return ended.out.decode()
+def text_of(job):
+    text = printed(job)
+    if text is None:
+        raise ValueError("no text")
+    return text
 
 
 def current(job):
@@ -48,20 +48,20 @@ def in_another_order(chance, docs):
 def laws(chance, job):
     """The name of each law, and whether the program keeps it for this job."""
     job = {key: job[key] for key in job if key not in ("pretty", "compact")}
-    text = printed(job)
+    text = text_of(job)
     value = json.loads(text)
-    yield "lists that agree print alike", printed(dict(job, docs=in_another_order(chance, job["docs"]))) == text
-    yield "a document that is added again changes nothing", printed(dict(job, docs=job["docs"] * 2)) == text
+    yield "lists that agree print alike", text_of(dict(job, docs=in_another_order(chance, job["docs"]))) == text
+    yield "a document that is added again changes nothing", text_of(dict(job, docs=job["docs"] * 2)) == text
     unknown = job.get("remove", []) + ["?"]
-    yield "a reference without a document is removed to no effect", printed(dict(job, remove=unknown)) == text
-    pretty = printed(dict(job, pretty=True))
+    yield "a reference without a document is removed to no effect", text_of(dict(job, remove=unknown)) == text
+    pretty = text_of(dict(job, pretty=True))
     yield "both texts hold one value", json.loads(pretty) == value and pretty.count("\n") > 1
     fresh = {key: job[key] for key in job if key != "remove"}
     fresh["docs"] = current(job)
     chance.shuffle(fresh["docs"])
-    once = printed(fresh)
-    yield "a compacted index is a new one", printed(dict(job, compact=True)) == once
-    yield "a new index is compact", printed(dict(fresh, compact=True)) == once
+    once = text_of(fresh)
+    yield "a compacted index is a new one", text_of(dict(job, compact=True)) == once
+    yield "a new index is compact", text_of(dict(fresh, compact=True)) == once
     yield "removals leave the store of a new index", value["documentStore"] == json.loads(once)["documentStore"]
 
 

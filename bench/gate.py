@@ -1,16 +1,19 @@
 #!/usr/bin/env python3
-"""Runs `rt ci` and, as soon as its programs stand, the checks of bench/ beside it, and says how both get on.
+"""Runs `rt ci` and, as soon as its programs stand, the checks of bench/ at the same time, and says how both get on.
 
 usage: gate.py LOG
 
-A crate has a line as it is proved, with the seconds since the beginning. `rt ci` keeps beside the kit
+A crate has a line as it is proved, with the seconds since the beginning. `rt ci` keeps next to the kit
 what it passed on this machine: it does not prove again what an earlier run proved of the very same
-files, nor try such a wrong body again. A crate of which that is so has a line that says so. Tests and
+files, nor try such a mutant again. A crate of which that is so has a line that says so. Tests and
 programs are run each time.
 
 All that `rt ci` says goes to the log. What it says of a crate that is not proved, of an edit that was
 not refused or of a test that failed is shown, too; then the checks count for nothing, and are ended.
 What they say (checks.py) is shown as it comes, and follows in the log.
+
+An edit that can't be applied, or that is refused only because a proof names what it took away, shows
+nothing of a contract. `rt ci` passes it; the gate names it, and counts how many there are.
 """
 import os
 import re
@@ -22,9 +25,9 @@ import threading
 import time
 
 import build
+from running import HERE, TOP
 
-BENCH = os.path.dirname(os.path.abspath(__file__))
-CRATES = os.path.join(os.path.dirname(BENCH), "crates")
+CRATES = os.path.join(TOP, "crates")
 WHOLE = 5  # seconds after which a program that is written into its place is there as a whole
 GIGABYTES_OF_ONE = 6  # that the greatest check was seen to take, and each one beside it
 GIGABYTES_OF_NEXT = 4
@@ -33,15 +36,16 @@ KEPT = re.compile(r"rt: (\w+) is kept: ")
 RAN = re.compile(r"rt: (\w+) ran\b.*")
 TRIED = re.compile(r"rt: \w+: (\d+) of its \d+ must-fail edits were tried by an earlier run")
 TRYING = re.compile(r"rt: (\w+): trying its must-fail edits \((\d+)\)$")
-REFUSED = re.compile(r"rt: must-fail \S+: refused, as it must be")
+REFUSED = re.compile(r"rt: must-fail \S+: refused, as it must be(?! \(only because)")
 BAD = re.compile(r"rt: .*(NOT PROVED|NOT REFUSED|BAD EDIT|FAILED|had not ended|stopped by signal|is not what|killed|only because)")
+# An edit that shows nothing of a contract, though `rt ci` passes it.
+EMPTY = re.compile(r"rt: .*(: BAD EDIT: |: refused, as it must be \(only because )")
 
 
 def environment():
     """As many checks at once as there are processors, where the machine's memory allows that; elsewhere rt decides."""
-    processors = len(os.sched_getaffinity(0))
-    gigabytes = os.sysconf("SC_PHYS_PAGES") * os.sysconf("SC_PAGE_SIZE") / 2**30
-    fits = gigabytes >= GIGABYTES_OF_ONE + GIGABYTES_OF_NEXT * (processors - 1)
+    processors = build.processors()
+    fits = build.gigabytes() >= GIGABYTES_OF_ONE + GIGABYTES_OF_NEXT * (processors - 1)
     return {**os.environ, "RT_JOBS": str(processors)} if fits and "RT_JOBS" not in os.environ else dict(os.environ)
 
 
@@ -55,11 +59,11 @@ def programs():
     return [os.path.join(CRATES, crate, "out", program) for crate, program in built]
 
 
-def note_programs():
-    """Notes that the programs that stand are built and proved: a `make run` of a check has nothing to do then."""
+def note_programs(sources):
+    """Notes which of the programs that stand were built, and proved, from these sources: a `make run` has nothing to do then."""
     for name in names_of_programs():
-        if os.path.isfile(os.path.join(CRATES, name, "out", name)):
-            build.note_built(name)
+        if os.path.isfile(build.built(name)):
+            build.note_built(name, sources[name])
 
 
 class Checks(threading.Thread):
@@ -70,6 +74,7 @@ class Checks(threading.Thread):
         self.log = log
         self.own = os.path.join(os.path.dirname(log), "checks.log")
         self.since = time.time()
+        self.sources = {name: build.sources_of(name) for name in names_of_programs()}
         self.gate_ended = threading.Event()
         self.turn = threading.Lock()
         self.is_dropped = False
@@ -83,9 +88,9 @@ class Checks(threading.Thread):
         with self.turn:
             if self.is_dropped:
                 return
-            note_programs()
+            note_programs(self.sources)
             open(self.own, "w", encoding="utf-8").close()
-            command = [sys.executable, os.path.join(BENCH, "checks.py"), self.own]
+            command = [sys.executable, os.path.join(HERE, "checks.py"), self.own]
             self.running = subprocess.Popen(command, start_new_session=True)
         self.status = self.running.wait()
 
@@ -116,12 +121,25 @@ def main():
     if not shutil.which("rt"):
         print("gate.py: there is no rt on the path: the Rattle kit has it")
         return 1
+    checks = Checks(sys.argv[1])
+    status, last, empty = prove(sys.argv[1])
+    if status:
+        checks.drop()
+        return status
+    print(last, flush=True)
+    status = checks.end()
+    if empty:
+        print(f"edits: {empty} show nothing of a contract: change a value and keep the calls and the names")
+    return status
+
+
+def prove(path):
+    """Runs `rt ci`: its status, its last line, and how many edits show nothing of a contract."""
     begun = time.monotonic()
-    refused = earlier = 0
+    refused = earlier = empty = 0
     said = []  # of the crate that is being told of, till it is known whether it is proved
     last = ""
-    checks = Checks(sys.argv[1])
-    with open(sys.argv[1], "a", encoding="utf-8") as log:
+    with open(path, "a", encoding="utf-8") as log:
         gate = subprocess.Popen(
             ["nice", "-n", "5", "rt", "ci"], env=environment(), stdout=subprocess.PIPE, stderr=subprocess.STDOUT, text=True, errors="replace"
         )
@@ -132,6 +150,7 @@ def main():
             seconds = f"({time.monotonic() - begun:.0f} s)"
             refused += bool(REFUSED.match(line))
             earlier += int(TRIED.match(line)[1]) if TRIED.match(line) else 0
+            empty += bool(EMPTY.match(line))
             if BAD.match(line):
                 print("\n".join(said[-30:] + [line]), flush=True)
                 said = []
@@ -145,14 +164,11 @@ def main():
             elif not REFUSED.match(line):
                 said.append(line)
     if refused:
-        print(f"  {refused} wrong bodies refused" + (f", {earlier} of them in an earlier run" if earlier else ""))
+        print(f"  {refused} mutants refused" + (f", {earlier} of them in an earlier run" if earlier else ""))
     status = gate.wait()
     if status:
-        checks.drop()
         print("\n".join(said[-30:]))
-        return status
-    print(last, flush=True)
-    return checks.end()
+    return status, last, empty
 
 
 if __name__ == "__main__":

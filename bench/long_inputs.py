@@ -1,9 +1,14 @@
 #!/usr/bin/env python3
-"""Runs the built program on long inputs, checks what it prints, and says time and memory.
+"""Runs the built programs on long inputs, checks what they print, and says time and memory.
+
+usage: long_inputs.py [WORD ..]
 
 The machine's stack is held to 256 KB, so that a depth of the input or of a trie that went over
-to the stack would end the program.
+to the stack would end the program. A search of a printed index may take TIMES the memory of its
+text: one that reads the text into a value of JSON first takes more. With words, only what has one
+of them in its name is run.
 """
+import json
 import math
 import os
 import sys
@@ -13,7 +18,11 @@ from measure import measured
 from running import program, told
 
 PROGRAM = program("elasticlunr_index")
+COMMAND = program("elasticlunr_command")
 STACK = 256 * 1024
+TIMES = 8
+LEAST = 4  # megabytes of the index that is searched
+PAGES, WORDS, DISTINCT = 400, 600, 30_000  # of the index that is searched
 POSTED = '{"df":1,"docs":{"1":{"tf":1000000}}}'
 
 
@@ -72,7 +81,27 @@ def run(job, folder):
         return file.read(), ended
 
 
+def check_search(folder):
+    """Whether a search of an index of some megabytes finds what it must, within its memory; and what there is to say."""
+    words = [[distinct(page * place % DISTINCT) for place in range(1, WORDS + 1)] for page in range(1, PAGES + 1)]
+    docs = [[f"page/{number:04}.html", " ".join(body)] for number, body in enumerate(words)]
+    _, ended = run(json.dumps({"fields": ["body"], "docs": docs}), folder)
+    index, lines = os.path.join(folder, "index.json"), os.path.join(folder, "found")
+    megabytes = os.path.getsize(index) / 1e6
+    if ended.status != 0 or megabytes < LEAST:
+        return False, f"no index of {LEAST} MB"
+    asked = words[-1][WORDS // 2]
+    wanted = "".join(f"{doc[0]}\n" for doc, body in zip(docs, words) if asked in body)
+    ended = measured([COMMAND, "search", index, asked], os.devnull, lines, stack=STACK)
+    with open(lines, encoding="utf-8", errors="replace") as file:
+        right = ended.status == 0 and file.read() == wanted
+    most = round(TIMES * megabytes)
+    said = f"{megabytes:.1f} MB of an index, {wanted.count('page')} found, {ended.seconds:.2f} s, {ended.megabytes} MB at most, and {most} are the most"
+    return right and ended.megabytes <= most, said if right else f"status {ended.status}, or another text"
+
+
 def main():
+    is_asked = lambda name: len(sys.argv) < 2 or any(word in name for word in sys.argv[1:])
     cases = [
         ("10 MB of one word", 0, one_word(2_000_000)),
         ("100,000 distinct words", 0, many_words(100_000)),
@@ -82,19 +111,27 @@ def main():
         ("50 MB of documents", 0, many_documents(3_000, 2_080)),
         ("1,000,000 brackets", 2, deep_text(500_000)),
     ]
-    passed = 0
+    passed = failed = 0
     folder = tempfile.TemporaryDirectory()
     for name, status, (job, is_right) in cases:
+        if not is_asked(name):
+            continue
         out, ended = run(job, folder.name)
         right = ended.status == status and is_right(out)
         passed += right
+        failed += not right
         print(
             f"long input, {name}: {len(job) / 1e6:.1f} MB in, {len(out) / 1e6:.1f} MB out, {ended.seconds:.2f} s,"
             f" {ended.megabytes} MB at most" + ("" if right else f": status {ended.status}, or another text"),
             flush=True,
         )
+    if is_asked("a search"):
+        good, said = check_search(folder.name)
+        passed += good
+        failed += not good
+        print(f"long input, a search: {said}", flush=True)
     folder.cleanup()
-    return told("long", passed, len(cases) - passed)
+    return told("long", passed, failed)
 
 
 if __name__ == "__main__":

@@ -10,7 +10,8 @@ import json
 import os
 from typing import NamedTuple
 
-HERE = os.path.dirname(os.path.abspath(__file__))
+from running import HERE
+
 STOP_WORDS = os.path.join(HERE, "../crates/elasticlunr_vectors/data/stopwords")
 
 # Words and their ends

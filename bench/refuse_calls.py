@@ -8,66 +8,50 @@ passes if
 - each call answers what the table says;
 - a call that promises to request no memory requests none, between its beginning and its end;
 - each other call, with its first, second and each later request refused, either does without it and gives its
-  whole answer, or answers want of memory, and then what stood before it stands after it; where it was
+  whole answer, or answers that memory is out, and then what stood before it stands after it; where it was
   `add_tokens`, the first of its two tokens may have its posting; where it was `add_doc` of an index, every
   call but `get_fields` then answers that the index has failed.
 
-And each call that may answer want of memory did so at least once. calls.py says what each call promises. With
+And each call that may run out of memory did so at least once. calls.py says what each call promises. With
 -v each call has a line.
 """
 import json
 import os
-import subprocess
 import sys
-import tempfile
 
 import calls
-from calls import FAILED, Row, fields_of, name_of, promise, rows_of, table
+import running
+from calls import FAILED, fields_of, name_of, promise, rows_of, table
+from refusing import Shim
 
-HERE = os.path.dirname(os.path.abspath(__file__))
-# The built test; FORGED_PROGRAM has the path of a program to be tried in its place (forgeries.py).
-PROGRAM = os.environ.get("FORGED_PROGRAM") or os.path.join(calls.TOP, "crates/elasticlunr_calls/out/elasticlunr_calls_tests")
+PROGRAM = running.program("elasticlunr_calls", "elasticlunr_calls_tests")
 TEST = "table::calls"
 PASSED = b"\n\ntest result: ok\n"  # what a test says at its end
-SECONDS = 20  # for each run of the program
 
 # What is called of an index that has failed, and its answers.
 ON_FAILED = [["add_doc", "1", "fox"], ["add_doc", "1", *["fox"] * 9], ["remove_doc", "1"], ["compact"], ["to_value"],
              ["to_json"], ["to_json_pretty"], ["document_store"], ["inverted_index", "body"]]
 
 
-class Program:
-    """Runs the program under the shim, which is built into a folder of its own."""
+class Program(Shim):
+    """Runs the program, and counts the requests of each call."""
 
-    def __enter__(self):
-        self.folder = tempfile.TemporaryDirectory()
-        self.shim = os.path.join(self.folder.name, "count_requests.so")
-        source = os.path.join(HERE, "count_requests.c")
-        subprocess.run(["cc", "-O1", "-shared", "-fPIC", "-o", self.shim, source, "-ldl"], check=True)
-        self.counts = os.path.join(self.folder.name, "counts")
-        return self
-
-    def __exit__(self, *_):
-        self.folder.cleanup()
+    source = "count_requests.c"
 
     def run(self, subject, listed, refused=0):
         """The row that is told, and the first and the last request of each call; or what went wrong."""
         environment = dict(os.environ, LD_PRELOAD=self.shim, REFUSE_REQUEST=str(refused), COUNT_FILE=self.counts)
         given = "\n".join([subject, *listed, "", ""])
-        try:
-            ended = subprocess.run([PROGRAM, TEST], input=given.encode(), stdout=subprocess.PIPE, stderr=subprocess.DEVNULL,
-                                   env=environment, timeout=SECONDS)
-        except subprocess.TimeoutExpired:
-            return f"no end after {SECONDS} seconds", []
-        if ended.returncode != 0:
-            return f"status {ended.returncode}", []
-        told = rows_of(ended.stdout.removesuffix(PASSED).decode(errors="replace"))
+        ended = running.run([PROGRAM, TEST], given.encode(), env=environment)
+        if ended.status != 0:
+            return f"status {ended.status}", []
+        made = rows_of(ended.out.removesuffix(PASSED).decode(errors="replace"))
         with open(self.counts) as file:
             counts = [tuple(map(int, line.split())) for line in file]
         os.remove(self.counts)
-        if len(told) != 1 or told[0].calls != listed or len(counts) != len(listed):
+        if len(made) != 1 or made[0].calls != listed or len(counts) != len(listed):
             return "told another row", []
-        return told[0], counts
+        return made[0], counts
 
 
 def after(row, number):
@@ -166,9 +150,8 @@ def main():
         for name, count in sorted(refused.items()):
             print(f"calls: {name}: {'requests none' if count is None else f'{count} times without memory'}")
     none = sum(count is None for count in refused.values())
-    print(f"calls: {sum(filter(None, refused.values()))} answers of want of memory; {none} kinds of calls request none")
-    print(f"calls: {len(rows) - min(failed, len(rows))} passed, {failed + len(never)} failed")
-    return 1 if failed or never else 0
+    print(f"calls: {sum(filter(None, refused.values()))} answers of being out of memory; {none} kinds of calls request none")
+    return running.told("calls", len(rows) - min(failed, len(rows)), failed + len(never))
 
 
 if __name__ == "__main__":

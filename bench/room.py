@@ -9,7 +9,8 @@ import os
 import shutil
 import tempfile
 
-TOP = os.path.dirname(os.path.dirname(os.path.abspath(__file__)))
+from running import TOP
+
 PARTS = ("src", "specs", "proofs")
 
 

@@ -13,7 +13,7 @@ import shutil
 import subprocess
 import sys
 
-from running import TOP, program
+from running import TOP, program, say
 
 CRATE = "elasticlunr_index"
 EXAMPLE = os.path.join(TOP, "examples", "job.json")
@@ -25,10 +25,6 @@ ENDED = "\nrun=ended "  # what `rt try` says where the program came to its end
 def content(path):
     with open(path, "rb") as file:
         return file.read()
-
-
-def say(text):
-    print(text, file=sys.stderr, flush=True)
 
 
 def tried(given):

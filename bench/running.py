@@ -1,10 +1,12 @@
-"""Runs a built program, and gives up on it after a time.
+"""What the scripts share: where the repository is, what they say, and how a built program is run.
 
-A run that crashes, does not end or can't be started is an answer as any other, with a status that
+A run is given up on after a time. One that crashes, does not end or can't be started is an answer as any other, with a status that
 no program has: the script that asked counts it as a failure and goes on.
 """
+import json
 import os
 import subprocess
+import sys
 from typing import NamedTuple
 
 HERE = os.path.dirname(os.path.abspath(__file__))
@@ -14,9 +16,12 @@ PATIENCE = 3  # runs without an answer; those after them are not even started
 late = []
 
 
-def program(crate):
-    """The built program of a crate; FORGED_PROGRAM has the path of one to be tried in its place (forgeries.py)."""
-    return os.environ.get("FORGED_PROGRAM") or os.path.join(TOP, "crates", crate, "out", crate)
+def program(crate, name=None):
+    """The built program of a crate, or its tests by their name. FORGED_PROGRAM has the path of a program to be tried in its
+    place, or in that of FORGED_CRATE alone (forgeries.py)."""
+    if "FORGED_PROGRAM" in os.environ and os.environ.get("FORGED_CRATE", crate) == crate:
+        return os.environ["FORGED_PROGRAM"]
+    return os.path.join(TOP, "crates", crate, "out", name or crate)
 
 
 class Ended(NamedTuple):
@@ -41,10 +46,20 @@ def run(command, given=b"", seconds=SECONDS, **options):
     return Ended(ended.stdout, ended.stderr, ended.returncode)
 
 
-def told(check, passed, failed):
+def printed(job):
+    """The text that elasticlunr_index prints of a job, with its line feed; None where it prints none, or says anything else."""
+    ended = run([program("elasticlunr_index")], json.dumps(job).encode())
+    return ended.out.decode() if ended.status == 0 and not ended.err else None
+
+
+def say(text):
+    print(text, file=sys.stderr, flush=True)
+
+
+def told(check, passed, failed, skipped=0):
     """Says how many passed, and gives the status of the script: no test at all is a failure."""
-    if passed + failed == 0:
+    if passed + failed + skipped == 0:
         print(f"{check}: nothing was tried")
         failed = 1
-    print(f"{check}: {passed} passed, {failed} failed", flush=True)
+    print(f"{check}: {passed} passed, {failed} failed" + (f", {skipped} skipped" if skipped else ""), flush=True)
     return 1 if failed else 0

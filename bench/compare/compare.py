@@ -3,7 +3,7 @@
 
 usage: compare.py [--jobs N] [--seed N] [--runs N] [--only replay|speed] ORIGINAL
 
-ORIGINAL is the program that fetch.sh builds. First documents made by chance are indexed by both, in
+ORIGINAL is the program that fetch.sh builds. First random documents are indexed by both, in
 English, Arabic and Korean, and each posting, length and text is compared by the differences that
 docs/DIFFERENCES.md declares:
 

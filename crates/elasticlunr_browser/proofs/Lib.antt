@@ -3,3 +3,4 @@ pub mod PairLemmas
 pub mod StageLemmas
 pub mod NameLemmas
 pub mod KindLemmas
+pub mod FloatLemmas

@@ -1,16 +1,22 @@
 -- The marks of a class, as far as a loop has come.
-use Rattle.std.proofs.Common.{◌≡◌, ◌≢◌, ℕ, ◌+◌, ◌<◌, ◌≤◌, inl, inr, nat_le, Bool, true, false, not, cond, List, [], ◌∷◌, ◌++◌, length, refl, sym, ap, subst, ◌∙◌, arith, length-append, below_more}
+use Rattle.std.proofs.Common.{◌≡◌, ◌≢◌, ◌⊎◌, ℕ, ◌+◌, ◌<◌, ◌≤◌, inl, inr, nat_le, Bool, true, false, not, cond, List, [], ◌∷◌, ◌++◌, length, get_or, refl, sym, ap, subst, ◌∙◌, arith, length-append, below_more}
 use Rattle.std.specs.List.{count_by}
+use Rattle.std.specs.List.Sorted.{IsStrictlyIncreasing}
 use Rattle.std.specs.Char.{InScalarRange}
+use Rattle.std.proofs.Math.ListN.{get_or-append}
+use Rattle.std.proofs.Math.Seq.{get_or-append_seam}
 use Rattle.std.proofs.lemmas.List.Sums.{sum_by-append}
+use Rattle.std.proofs.lemmas.Bool.{cases_order}
 use Rattle.std.proofs.lemmas.Bool.Decides.{nat_tests}
-use Rattle.elasticlunr_browser.specs.Marks.{is_odd, is_marked}
+use Rattle.elasticlunr_browser.specs.Marks.{is_odd, is_marked, Marks}
 
 -- the marks of the characters below n, the last of which is of the class or not
 pub record AreMarks (has : ℕ → Bool) (n : ℕ) (inside : Bool) (marks : List ℕ) : Type 0 where
   pub all : (c : ℕ) → n ≤ c + 1 → count_by (λ mark. nat_le mark c) marks ≡ length marks
   pub so_far : (c : ℕ) → c < n → InScalarRange c → is_marked marks c ≡ has c
   pub state : inside ≡ is_odd (length marks)
+  pub rise : IsStrictlyIncreasing marks
+  pub below : (k : ℕ) → k < length marks → get_or marks k 0 < n
 
 pub is_odd-add-one : (n : ℕ) → is_odd (n + 1) ≡ not (is_odd n)
 is_odd-add-one n = grind (arith, nat_tests)
@@ -29,6 +35,8 @@ none_at_all has = record {
   all = λ c h. refl;
   so_far = λ c h. absurd (omega (arith, h));
   state = refl;
+  rise = λ k h. absurd (omega (arith, h));
+  below = λ k h. absurd (omega (arith, h));
 }
 
 pub none_yet : (has : ℕ → Bool) (marks : List ℕ) → marks ≡ [] → AreMarks has 0 false marks
@@ -44,11 +52,33 @@ count-now c code marks h = count-push c code marks ∙ grind (arith, nat_tests, 
 length-push : (code : ℕ) (marks : List ℕ) → length (marks ++ code ∷ []) ≡ length marks + 1
 length-push code marks = length-append marks (code ∷ [])
 
+-- a mark above all others at their end
+last-mark : (code : ℕ) (marks : List ℕ) (k : ℕ) → k ≡ length marks → get_or (marks ++ code ∷ []) k 0 ≡ code
+last-mark code marks k e = ap (λ i. get_or (marks ++ code ∷ []) i 0) e ∙ get_or-append_seam marks code [] 0
+
+first-marks : (code : ℕ) (marks : List ℕ) (k : ℕ) → k < length marks → get_or (marks ++ code ∷ []) k 0 ≡ get_or marks k 0
+first-marks code marks k h = get_or-append marks (code ∷ []) 0 k h
+
+below-push : (code : ℕ) (marks : List ℕ) → ((k : ℕ) → k < length marks → get_or marks k 0 < code) → (k : ℕ) → k < length marks + 1 → get_or (marks ++ code ∷ []) k 0 < code + 1
+below-push code marks lower = below_more _ _
+    (λ k h. let one : get_or marks k 0 < code = lower k h in let same = first-marks code marks k h in omega arith)
+    (let same = last-mark code marks (length marks) refl in omega arith)
+
+rise-push : (code : ℕ) (marks : List ℕ) → IsStrictlyIncreasing marks → ((k : ℕ) → k < length marks → get_or marks k 0 < code) → (k : ℕ) → k < length marks → get_or (marks ++ code ∷ []) k 0 < get_or (marks ++ code ∷ []) (k + 1) 0
+rise-push code marks rise lower k h = next (cases_order (k + 1) (length marks))
+  where
+    next : (k + 1 ≡ length marks) ⊎ ((k + 1 < length marks) ⊎ (length marks < k + 1)) → get_or (marks ++ code ∷ []) k 0 < get_or (marks ++ code ∷ []) (k + 1) 0
+    next (inl e) = let here = first-marks code marks k h in let last = last-mark code marks (k + 1) e in let less : get_or marks k 0 < code = lower k h in omega arith
+    next (inr (inl lt)) = let here = first-marks code marks k h in let there = first-marks code marks (k + 1) lt in let less : get_or marks k 0 < get_or marks (k + 1) 0 = rise k lt in omega arith
+    next (inr (inr past)) = absurd (omega arith)
+
 pub step_same : (has : ℕ → Bool) (code : ℕ) (inside now : Bool) (marks : List ℕ) → AreMarks has code inside marks → (InScalarRange code → now ≡ has code) → now ≡ inside → AreMarks has (code + 1) now marks
 step_same has code inside now marks are is_now same = record {
   all = λ c h. are.all c (omega (arith, h));
   so_far = below_more _ _ are.so_far (λ scalar. ap is_odd (are.all code (omega arith)) ∙ sym are.state ∙ sym same ∙ is_now scalar);
   state = same ∙ are.state;
+  rise = are.rise;
+  below = λ k h. let lower = are.below k h in omega arith;
 }
 
 pub step_turn : (has : ℕ → Bool) (code : ℕ) (inside now : Bool) (marks : List ℕ) → AreMarks has code inside marks → (InScalarRange code → now ≡ has code) → now ≢ inside → AreMarks has (code + 1) now (marks ++ code ∷ [])
@@ -59,6 +89,8 @@ step_turn has code inside now marks are is_now differ =
       so_far = below_more _ _ (λ c h scalar. ap is_odd (count-later c code marks h) ∙ are.so_far c h scalar)
           (λ scalar. ap is_odd (count-now code code marks (omega arith) ∙ ap (λ n. n + 1) (are.all code (omega arith))) ∙ is_odd-add-one (length marks) ∙ sym turned ∙ is_now scalar);
       state = turned ∙ sym (is_odd-add-one (length marks)) ∙ ap is_odd (sym (length-push code marks));
+      rise = λ k h. rise-push code marks are.rise are.below k (let n = length-push code marks in omega (arith, h));
+      below = λ k h. below-push code marks are.below k (let n = length-push code marks in omega (arith, h));
     }
 
 pub step : (has : ℕ → Bool) (code : ℕ) (inside now : Bool) (marks marks' : List ℕ) → AreMarks has code inside marks → (InScalarRange code → now ≡ has code) → (now ≡ inside → marks' ≡ marks) → (now ≢ inside → marks' ≡ marks ++ code ∷ []) → AreMarks has (code + 1) now marks'
@@ -70,6 +102,9 @@ step has code false true marks marks' are is_now same turn =
     let differ : true ≢ false = λ e. cc in subst (AreMarks has (code + 1) true) (sym (turn differ)) (step_turn has code false true marks are is_now differ)
 
 -- all characters have numbers below this
-pub at_end : (has : ℕ → Bool) (n : ℕ) (inside : Bool) (marks : List ℕ) → AreMarks has n inside marks → 0x110000 ≤ n → (c : ℕ) → InScalarRange c → is_marked marks c ≡ has c
-at_end has n inside marks are whole c (inl low) = are.so_far c (omega (arith, low, whole)) (inl low)
-at_end has n inside marks are whole c (inr high) = are.so_far c (omega (arith, high.0, high.1, whole)) (inr high)
+at_all : (has : ℕ → Bool) (n : ℕ) (inside : Bool) (marks : List ℕ) → AreMarks has n inside marks → 0x110000 ≤ n → (c : ℕ) → InScalarRange c → is_marked marks c ≡ has c
+at_all has n inside marks are whole c (inl low) = are.so_far c (omega (arith, low, whole)) (inl low)
+at_all has n inside marks are whole c (inr high) = are.so_far c (omega (arith, high.0, high.1, whole)) (inr high)
+
+pub at_end : (has : ℕ → Bool) (n : ℕ) (inside : Bool) (marks : List ℕ) → AreMarks has n inside marks → 0x110000 ≤ n → Marks has marks
+at_end has n inside marks are whole = record { rise = are.rise; marked = at_all has n inside marks are whole }

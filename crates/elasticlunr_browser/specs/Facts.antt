@@ -1,10 +1,10 @@
 -- What a script knows of words, and its text.
-use Rattle.std.specs.Prelude.{◌≡◌, ℕ, false, List, ◌++◌, codes}
+use Rattle.std.specs.Prelude.{◌≡◌, ℕ, List, ◌++◌, codes}
 use Rattle.std.specs.declared.string.String.{String}
 use Rattle.std.specs.declared.alloc.Global.{Global}
 use Rattle.serde_json.specs.Data.{Data, array, object, member, no_members}
 use Rattle.serde_json.specs.View.{items_of}
-use Rattle.serde_json.specs.Written.{compact_text, has_float}
+use Rattle.serde_json.specs.Written.{compact_text}
 use Rattle.elasticlunr_text.specs.Text.{Bytes, texts_of, bytes_of}
 use Rattle.elasticlunr_lang.specs.Lower.{lower}
 use Rattle.elasticlunr_lang.specs.Words.{is_separator}
@@ -32,9 +32,9 @@ pub record IsFacts (stages : List Data) (d : Data) : Type 0 where
 abbrev pub script_text : Data → Bytes
 script_text facts = HEAD.now ++ compact_text facts ++ TAIL.now
 
--- the text is the script of these languages; no number in it is a float
+-- the text is the script of these languages
 abbrev pub IsScriptOf : List AnyLanguage → Bytes → Type 0
-IsScriptOf languages text = (stages : List Data) × (facts : Data) × HoldsLanguages languages stages × IsFacts stages facts × (has_float facts ≡ false → text ≡ script_text facts)
+IsScriptOf languages text = (stages : List Data) × (facts : Data) × HoldsLanguages languages stages × IsFacts stages facts × (text ≡ script_text facts)
 
 -- the text is the script of the languages that these lines name
 abbrev pub IsScriptFor : List Bytes → Bytes → Type 0

@@ -1,6 +1,7 @@
 -- A class of characters as the marks where it begins and where it ends, in turn.
 use Rattle.std.specs.Prelude.{◌≡◌, ℕ, ◌==◌, ◌%◌, nat_le, Bool, List}
 use Rattle.std.specs.List.{count_by}
+use Rattle.std.specs.List.Sorted.{IsStrictlyIncreasing}
 use Rattle.std.specs.Char.{InScalarRange}
 
 abbrev pub is_odd : ℕ → Bool
@@ -10,6 +11,7 @@ is_odd n = (n % 2) == 1
 abbrev pub is_marked : List ℕ → ℕ → Bool
 is_marked marks c = is_odd (count_by (λ mark. nat_le mark c) marks)
 
--- the marked characters are those of the class
-abbrev pub Marks : (ℕ → Bool) → List ℕ → Type 0
-Marks has marks = (c : ℕ) → InScalarRange c → is_marked marks c ≡ has c
+-- the marks rise, so that they can be looked up by binary search, and the marked characters are those of the class
+pub record Marks (has : ℕ → Bool) (marks : List ℕ) : Type 0 where
+  pub rise : IsStrictlyIncreasing marks
+  pub marked : (c : ℕ) → InScalarRange c → is_marked marks c ≡ has c

@@ -69,6 +69,13 @@ impl Answer {
         }
     }
 
+    pub fn listed(answer: Result<Vec<String>, IndexError>) -> Answer {
+        match answer {
+            Ok(texts) => Answer::Texts(texts),
+            Err(error) => Answer::Refused(error),
+        }
+    }
+
     pub fn postings(answer: Result<Option<BTreeMap<String, u64>>, IndexError>) -> Answer {
         match answer {
             Ok(postings) => Answer::Postings(postings),

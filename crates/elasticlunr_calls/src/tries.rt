@@ -89,6 +89,8 @@ pub fn looked_up(trie: &InvertedIndex, call: &Call<'_>) -> Answer {
     match call.name {
         "has_token" => Answer::Flag(trie.has_token(call.text(0))),
         "get_docs" => Answer::postings(trie.get_docs(call.text(0))),
+        "has_posting" => Answer::Flag(trie.has_posting(call.text(0), call.text(1))),
+        "references" => Answer::listed(trie.references(call.text(0))),
         "get_doc_frequency" => Answer::Number(trie.get_doc_frequency(call.text(0))),
         "get_term_frequency" => {
             Answer::Number(trie.get_term_frequency(call.text(0), call.text(1)))

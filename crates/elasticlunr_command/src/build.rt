@@ -2,14 +2,15 @@
 
 use crate::files::{Input, input_name, open_input, write_output};
 use crate::given::settings_given;
-use crate::tell::{failed, troubled, warn};
+use crate::tell::{failed, say, troubled, warn};
 use clap::ArgMatches;
-use elasticlunr_input::index::index_from;
+use elasticlunr_input::index::{Marked, index_from};
 use elasticlunr_input::notes::Notes;
 use elasticlunr_input::settings::Settings;
 use elasticlunr_message::ended::Ended;
 use elasticlunr_message::form::form_of;
 use elasticlunr_message::language::{language_name, unknown_language};
+use elasticlunr_message::message::counted;
 use elasticlunr_message::script::script_of;
 use std::io::{self, BufReader, IsTerminal, Read};
 use std::time::Instant;
@@ -97,7 +98,8 @@ pub(crate) fn build(rt: &HostRuntime, given: &ArgMatches<'_>, wanted: Use) -> io
         Some(name) => build_from(rt, &task, Some(name)),
         None => {
             let said = unknown_language(rt.alloc(), asked)?;
-            eprintln!(rt; "elasticlunr: --lang: {said}")?;
+            let line = format!(in rt.alloc(); "elasticlunr: --lang: {said}")?;
+            say(rt, line.as_str())?;
             Ok(Ended::Misused)
         }
     }
@@ -135,7 +137,7 @@ fn build_of(
         next: STEP,
         is_told: false,
     };
-    let mut reader = BufReader::with_capacity(rt.alloc(), BUFFER, watched)?;
+    let mut reader = BufReader::with_capacity(rt.alloc(), BUFFER, Marked::new(watched))?;
     match index_from(rt.alloc(), &mut reader, form, settings, &mut notes) {
         Ok(line) => {
             task.progress(rt, "made an index of", line.len())?;
@@ -170,6 +172,9 @@ fn write_index(
     notes: &Notes,
 ) -> io::Result<Ended> {
     let output = task.given.get_str("output");
+    // Made before anything is written, so that no memory is asked for after that.
+    let documents = counted(rt.alloc(), notes.documents, "document")?;
+    let tokens = counted(rt.alloc(), notes.token_count(), "token")?;
     let written = match task.given.get_str("js") {
         Some(before) => {
             let script = script_of(rt.alloc(), before, line)?;
@@ -179,11 +184,8 @@ fn write_index(
     };
     match written {
         Ok(()) => {
-            let (documents, tokens) = (notes.documents, notes.token_count());
             let (bytes, seconds) = (line.len(), task.seconds(rt)?);
-            eprintln!(rt;
-                "elasticlunr: {documents} documents, {tokens} tokens, {bytes} bytes, {seconds:.1} s"
-            )?;
+            eprintln!(rt; "elasticlunr: {documents}, {tokens}, {bytes} bytes, {seconds:.1} s")?;
             Ok(Ended::Done)
         }
         Err(e) => failed(rt, output.unwrap_or("standard output"), &e),

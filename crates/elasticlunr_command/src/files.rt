@@ -1,7 +1,8 @@
 //! Files, standard input and standard output.
 
-use std::fs::{File, OpenOptions};
+use std::fs::{File, OpenOptions, Permissions};
 use std::io::{ErrorKind, Read, Stdin, Write};
+use std::os::unix::fs::OpenOptionsExt;
 use std::{fs, io, process};
 
 /// What is read: standard input, or a file.
@@ -56,25 +57,25 @@ pub(crate) fn write_output(rt: &HostRuntime, file: Option<&str>, text: &str) -> 
     }
 }
 
-/// Writes a text to a file, whole or not at all. What is no plain file, as a device or a pipe, is
-/// written to as it stands.
+/// Writes a text to a file, whole or not at all; a file that was there before keeps its mode. What is
+/// no plain file, as a device or a pipe, is written to as it stands.
 fn write_file(rt: &HostRuntime, path: &str, text: &str) -> io::Result<()> {
     match fs::metadata(rt, path) {
         Ok(old) if old.is_file() => {
             let real = fs::canonicalize(rt, path)?;
-            replace(rt, real.as_str(), text)
+            replace(rt, real.as_str(), text, Some(old.permissions()))
         }
         Ok(_) => fs::write(rt, path, text),
-        Err(e) if e.kind() == ErrorKind::NotFound => replace(rt, path, text),
+        Err(e) if e.kind() == ErrorKind::NotFound => replace(rt, path, text, None),
         Err(e) => Err(e),
     }
 }
 
 /// Writes a text to a new file beside this one, and gives it the name of this one.
-fn replace(rt: &HostRuntime, path: &str, text: &str) -> io::Result<()> {
+fn replace(rt: &HostRuntime, path: &str, text: &str, mode: Option<Permissions>) -> io::Result<()> {
     let number = process::id(rt.process());
     let beside = format!(in rt.alloc(); "{path}.{number}.new")?;
-    write_new(rt, beside.as_str(), text)?;
+    write_new(rt, beside.as_str(), text, mode)?;
     match fs::rename(rt, beside.as_str(), path) {
         Ok(()) => Ok(()),
         Err(e) => remove_after(rt, beside.as_str(), e),
@@ -82,15 +83,31 @@ fn replace(rt: &HostRuntime, path: &str, text: &str) -> io::Result<()> {
 }
 
 /// Writes a text to a file that isn't there yet; after an error it isn't there.
-fn write_new(rt: &HostRuntime, path: &str, text: &str) -> io::Result<()> {
-    let mut file = OpenOptions::new()
-        .write(true)
-        .create_new(true)
-        .open(rt, path)?;
-    match file.write_all(text.as_bytes()) {
+fn write_new(
+    rt: &HostRuntime,
+    path: &str,
+    text: &str,
+    mode: Option<Permissions>,
+) -> io::Result<()> {
+    let mut options = OpenOptions::new();
+    options.write(true).create_new(true);
+    if mode.is_some() {
+        // Nobody else reads the text before the file has the mode of the old one.
+        options.mode(0o600);
+    }
+    let mut file = options.open(rt, path)?;
+    match fill(&mut file, text, mode) {
         Ok(()) => Ok(()),
         Err(e) => remove_after(rt, path, e),
     }
+}
+
+/// Gives a new file its mode and its text.
+fn fill(file: &mut File, text: &str, mode: Option<Permissions>) -> io::Result<()> {
+    if let Some(mode) = mode {
+        file.set_permissions(mode)?;
+    }
+    file.write_all(text.as_bytes())
 }
 
 /// Removes a file, and gives the error that came before.

@@ -1,21 +1,28 @@
 //! `search`: what a query finds in a printed index.
 ghost use Rattle.std.specs.Prelude.{◌≡◌, Some, IfOk, option_map, string_bytes};
+ghost use Rattle.elasticlunr_input.specs.Mark.{without_mark};
+ghost use Rattle.elasticlunr_message.specs.Script.{IsIndexIn};
 ghost use Rattle.elasticlunr_parse.specs.Reading.{reading};
 ghost use Rattle.elasticlunr_search.specs.Answers.{AreLinesFound};
+ghost use Rattle.elasticlunr_text.specs.Text.{Bytes};
 ghost use Rattle.serde_json.specs.Data.{Data};
 
 use crate::files::{input_name, read_input};
 use crate::tell::{failed, troubled};
 use clap::ArgMatches;
+use elasticlunr_input::mark::without_mark;
 use elasticlunr_message::ended::Ended;
 use elasticlunr_message::form::read_value;
 use elasticlunr_message::message::{Trouble, unplaced};
 use elasticlunr_message::nearest::nearest;
+use elasticlunr_message::script::index_in;
+use elasticlunr_message::shown::shown_lines;
 use elasticlunr_search::Join;
-use elasticlunr_search::answer::{Refusal, lines_at_once, lines_found};
+use elasticlunr_search::answer::{Refusal, lines_found};
 use serde_json::Value;
 use std::alloc::{AllocError, Global};
-use std::{io, str};
+use std::io::{self, IsTerminal};
+use std::str;
 
 /// What is searched for: a query in a field, or in each.
 #[derive(Drop)]
@@ -43,32 +50,53 @@ pub(crate) fn search(rt: &HostRuntime, given: &ArgMatches<'_>) -> io::Result<End
     };
     match found_lines(rt.alloc(), &bytes, &asked) {
         Ok(lines) => {
-            print!(rt; "{lines}")?;
+            print_lines(rt, lines.as_str())?;
             Ok(Ended::Done)
         }
         Err(trouble) => troubled(rt, input_name(file), trouble),
     }
 }
 
-/// The references that are found in the text of an index, each with a line feed after it.
-fn found_lines(alloc: Global, text: &[u8], asked: &Asked<'_>) -> Result<String, Trouble>
-    ensures { IfOk result (λ lines. (v : Data) × (reading text.now ≡ Some v)
+/// Prints lines: as they are, or to a terminal so that it takes none of them for a command.
+fn print_lines(rt: &HostRuntime, lines: &str) -> io::Result<()> {
+    if rt.stdout().is_terminal() {
+        let lines = shown_lines(rt.alloc(), lines)?;
+        print!(rt; "{lines}")
+    } else {
+        print!(rt; "{lines}")
+    }
+}
+
+/// The references that are found in an index, each with a line feed after it. A file has the index
+/// as it is or in a script, and maybe a byte order mark before it.
+fn found_lines(alloc: Global, file: &[u8], asked: &Asked<'_>) -> Result<String, Trouble>
+    ensures { IfOk result (λ lines. (index : Bytes) × (v : Data)
+        × IsIndexIn (without_mark file.now) index × (reading index ≡ Some v)
         × AreLinesFound v asked.now.join (option_map (λ f. f.now) asked.now.field) asked.now.query.now
         (string_bytes lines)) }
 {
-    if let Ok(text) = str::from_utf8(text) {
-        if let Some(lines) = lines_at_once(alloc, text, asked.join, asked.field, asked.query)? {
-            return Ok(lines);
-        }
-    }
-    let value = read_value(alloc, text)?;
-    match lines_found(alloc, &value, asked.join, asked.field, asked.query) {
+    let whole = without_mark(file);
+    let index = index_in(whole);
+    let Ok(text) = str::from_utf8(index) else {
+        return Err(unread(alloc, whole, index)?);
+    };
+    match lines_found(alloc, text, asked.join, asked.field, asked.query) {
         Ok(lines) => Ok(lines),
-        Err(Refusal::NoSuchField) => {
-            let fields = fields_of(alloc, &value)?;
-            Err(no_field(alloc, &fields, asked.field.unwrap_or(""))?)
-        }
+        Err(Refusal::NotRead) => Err(unread(alloc, whole, index)?),
+        Err(Refusal::NoSuchField) => Err(no_field(alloc, index, asked.field.unwrap_or(""))?),
         Err(refusal) => Err(not_searched(alloc, refusal)?),
+    }
+}
+
+/// Why the index that stands in a file is not read.
+fn unread(alloc: Global, whole: &[u8], index: &[u8]) -> Result<Trouble, AllocError> {
+    match read_value(alloc, index) {
+        Ok(_) => refused(alloc, "no index"),
+        // In a script the place would not be that in the file.
+        Err(Trouble::Refused(_)) if index.len() < whole.len() => {
+            refused(alloc, "no index: what stands in the script is not JSON")
+        }
+        Err(trouble) => Ok(trouble),
     }
 }
 
@@ -84,8 +112,13 @@ fn fields_of<'v>(alloc: Global, index: &'v Value) -> Result<Vec<&'v str>, AllocE
 }
 
 /// That an index has no such field.
-fn no_field(alloc: Global, fields: &[&str], field: &str) -> Result<Trouble, AllocError> {
-    let said = match nearest(alloc, field, fields)? {
+fn no_field(alloc: Global, text: &[u8], field: &str) -> Result<Trouble, AllocError> {
+    let index = match read_value(alloc, text) {
+        Ok(index) => index,
+        Err(trouble) => return Ok(trouble),
+    };
+    let fields = fields_of(alloc, &index)?;
+    let said = match nearest(alloc, field, &fields)? {
         Some(near) => format!(in alloc; "no field \"{field}\"; did you mean \"{near}\"?")?,
         None => format!(in alloc; "no field \"{field}\"")?,
     };
@@ -97,6 +130,7 @@ fn not_searched(alloc: Global, refusal: Refusal) -> Result<Trouble, AllocError> 
     match refusal {
         Refusal::Memory => Ok(Trouble::Memory),
         Refusal::UnknownLanguage => refused(alloc, "no index: it names no language"),
+        Refusal::OtherPipeline => refused(alloc, "other stages than its language has here"),
         Refusal::NoFields => refused(alloc, "no index: it has no list of fields"),
         Refusal::NoTries => refused(alloc, "no index: a field has no tokens"),
         Refusal::NoStore => refused(alloc, "no index: it has no store of documents"),

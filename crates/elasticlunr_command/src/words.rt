@@ -75,7 +75,11 @@ fn search_words<'a>(alloc: Global) -> Result<Command<'a>, AllocError> {
         required(alloc, "index", "INDEX", "The file of a printed index"),
         required(alloc, "query", "QUERY", "The words to find"),
         option(alloc, "field", "FIELD", "Finds in this field alone"),
-        flag(alloc, "all", "Finds what has every word in one field"),
+        flag(
+            alloc,
+            "all",
+            "Finds what has every word, each in some field"
+        ),
     ]?;
     Command::new(alloc, "search").about(about).args(arguments)
 }

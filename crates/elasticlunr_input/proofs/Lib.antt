@@ -6,3 +6,4 @@ pub mod Refusals
 pub mod FirstFaults
 pub mod HeadLemmas
 pub mod InputLemmas
+pub mod MarkLemmas

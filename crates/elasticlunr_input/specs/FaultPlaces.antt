@@ -1,5 +1,5 @@
 -- Where that stands for which an input is refused.
-use Rattle.std.specs.Prelude.{◌-◌, ◌⊎◌, ℕ, List, [], ◌∷◌, Bool, true, false, Some, None, slice_get, unwrap_or, codes, if◌then◌else◌}
+use Rattle.std.specs.Prelude.{◌≡◌, ◌-◌, ◌⊎◌, ℕ, List, [], ◌∷◌, Bool, true, false, Some, None, slice_get, unwrap_or, codes, if◌then◌else◌}
 use Rattle.serde_json.specs.Data.{Data}
 use Rattle.elasticlunr_text.specs.Text.{Bytes}
 use Rattle.elasticlunr_parse.specs.Job.{Job, IsJob}
@@ -11,21 +11,34 @@ use Rattle.elasticlunr_parse.specs.declared.objects.Problem.TheVariants as probl
 use Rattle.elasticlunr_parse.specs.declared.outcome.Refusal.{Refusal}
 use Rattle.elasticlunr_parse.specs.declared.outcome.Refusal.TheVariants.{UnknownLanguage, DuplicateField, TooManyValues}
 use Rattle.elasticlunr_input.specs.FirstFaults.{IsFirstTooLong, IsFirstTwice}
+use Rattle.elasticlunr_input.specs.Settled.{Settings, settled}
 use Rattle.elasticlunr_message.specs.FaultPaths.{fault_path}
 use Rattle.elasticlunr_place.specs.Members.{Move, item, under, IsPlaceOf}
 use Rattle.elasticlunr_place.specs.declared.place.Place.{Place}
 
--- the place is that of what a job fails a check for: its language, the second field of a name, the first document that is too long
-abbrev pub IsPlaceOfRefusal : Bytes → Job → Refusal → Place → Type 0
-IsPlaceOfRefusal text job UnknownLanguage place = IsPlaceOf None (under (codes "lang") ∷ []) text place
-IsPlaceOfRefusal text job DuplicateField place = (i : ℕ) × IsFirstTwice job.fields i × IsPlaceOf None (under (codes "fields") ∷ item i ∷ []) text place
-IsPlaceOfRefusal text job TooManyValues place = (i : ℕ) × IsFirstTooLong job.fields job.docs i × IsPlaceOf None (under (codes "docs") ∷ item i ∷ []) text place
-IsPlaceOfRefusal text job _ place = ⊥
+-- the place is that of the language of a job, which no setting names
+abbrev pub IsPlaceOfLanguage : Settings → Bytes → Place → Type 0
+IsPlaceOfLanguage settings text place = (settings.language ≡ None) × IsPlaceOf None (under (codes "lang") ∷ []) text place
 
--- the place is that of the first fault of a value that is no job, or of what its job fails a check for
-abbrev pub IsPlaceInJob : Bytes → Data → Refusal → Place → Type 0
-IsPlaceInJob text d refusal place = ((fault : Fault) × HasFirstFault d fault × IsPlaceOf None (fault_path fault) text place)
-    ⊎ ((job : Job) × IsJob d job × IsPlaceOfRefusal text job refusal place)
+-- of the second field of a name, where no setting names the fields
+abbrev pub IsPlaceOfField : Settings → Bytes → Job → Place → Type 0
+IsPlaceOfField settings text job place = (settings.fields ≡ None) × ((i : ℕ) × IsFirstTwice job.fields i × IsPlaceOf None (under (codes "fields") ∷ item i ∷ []) text place)
+
+-- of the first document that has more values than the job has fields
+abbrev pub IsPlaceOfTooLong : Bytes → Job → Place → Type 0
+IsPlaceOfTooLong text job place = (i : ℕ) × IsFirstTooLong job.fields job.docs i × IsPlaceOf None (under (codes "docs") ∷ item i ∷ []) text place
+
+-- the place is that of what a job with these settings fails a check for
+abbrev pub IsPlaceOfRefusal : Settings → Bytes → Job → Refusal → Place → Type 0
+IsPlaceOfRefusal settings text job UnknownLanguage place = IsPlaceOfLanguage settings text place
+IsPlaceOfRefusal settings text job DuplicateField place = IsPlaceOfField settings text job place
+IsPlaceOfRefusal settings text job TooManyValues place = IsPlaceOfTooLong text job place
+IsPlaceOfRefusal settings text job _ place = ⊥
+
+-- the place is that of the first fault of a value that is no job, or of what its job with these settings fails a check for
+abbrev pub IsPlaceInJob : Settings → Bytes → Data → Refusal → Place → Type 0
+IsPlaceInJob settings text d refusal place = ((fault : Fault) × HasFirstFault d fault × IsPlaceOf None (fault_path fault) text place)
+    ⊎ ((job : Job) × IsJob d job × IsPlaceOfRefusal settings text (settled settings job) refusal place)
 
 -- the problem is that of a member, and not of the object
 abbrev pub is_of_member : Problem → Bool

@@ -9,3 +9,4 @@ pub mod FirstFaults
 pub mod FaultPlaces
 pub mod RefusedPlaces
 pub mod RefusedRead
+pub mod Mark

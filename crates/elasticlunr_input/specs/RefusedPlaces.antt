@@ -20,7 +20,7 @@ use Rattle.elasticlunr_place.specs.declared.place.Place.{Place}
 
 -- it is that of what the value is refused for as a job with these settings
 abbrev pub IsJobPlace : Settings → Bytes → Data → Place → Type 0
-IsJobPlace settings text d place = (refusal : Refusal) × IsRefusedWith settings d refusal × IsPlaceInJob text d refusal place
+IsJobPlace settings text d place = (refusal : Refusal) × IsRefusedWith settings d refusal × IsPlaceInJob settings text d refusal place
 
 -- that of the value, which is no array, or of the first problem of what is in it
 abbrev pub IsArrayPlace : Settings → Bytes → Data → Place → Type 0

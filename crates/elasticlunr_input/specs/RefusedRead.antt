@@ -9,7 +9,7 @@ use Rattle.elasticlunr_input.specs.Settled.{Settings}
 use Rattle.elasticlunr_message.specs.declared.form.Form.{Form}
 use Rattle.elasticlunr_message.specs.declared.form.Form.TheVariants.{Lines}
 use Rattle.elasticlunr_message.specs.declared.message.Trouble.{Trouble}
-use Rattle.elasticlunr_message.specs.declared.message.Trouble.TheVariants.{Refused}
+use Rattle.elasticlunr_message.specs.declared.message.Trouble.TheVariants.{Refused, Device}
 
 -- the text begins with these lines
 abbrev pub BeginsWith : (text read : Bytes) → Type 0
@@ -30,3 +30,8 @@ IsRefusedFrom form settings text _ = ⊤
 abbrev pub AreRefusedFrom : Settings → Bytes → Trouble → Type 0
 AreRefusedFrom settings text (Refused message) = (read : Bytes) × BeginsWith text read × FailLines settings read × IfSome message.place (IsLinesPlace settings read)
 AreRefusedFrom settings text _ = ⊤
+
+-- where it is said that a read failed, this holds
+abbrev pub IfDevice : Type 0 → Trouble → Type 0
+IfDevice P (Device _) = P
+IfDevice P _ = ⊤

@@ -15,7 +15,9 @@ use crate::tokens::Tokens;
 use elasticlunr_job::outcome::Refusal;
 use elasticlunr_message::language::unknown_language;
 use elasticlunr_message::message::{Message, Trouble, kind_words, unplaced};
-use elasticlunr_objects::objects::{ObjectsError, Options, Problem, object_of, objects_line};
+use elasticlunr_objects::objects::{
+    AddError, ObjectsError, Options, Problem, object_of, objects_line,
+};
 use elasticlunr_place::member::{Step, place_of};
 use elasticlunr_place::place::Place;
 use serde_json::Value;
@@ -201,8 +203,9 @@ pub(crate) fn note_object(
     item: &Value,
     notes: &mut Notes,
 ) -> Result<(), AllocError> {
-    let Ok(object) = object_of(alloc, options, item) else {
-        return Err(AllocError);
-    };
-    notes.document(tokens, object.reference.as_str(), &object.values)
+    match object_of(alloc, options, item) {
+        Ok(object) => notes.object(tokens, &object),
+        Err(AddError::Memory) => Err(AllocError),
+        Err(AddError::Problem(_)) => Ok(()),
+    }
 }

@@ -1,5 +1,5 @@
 //! The index of an input, of each form.
-ghost use Rattle.std.specs.Prelude.{◌≡◌, ◌++◌, map, string_bytes, unwrap_or, IfOk, IfErr, IfSome};
+ghost use Rattle.std.specs.Prelude.{◌≡◌, ◌++◌, true, map, string_bytes, unwrap_or, IfOk, IfErr, IfSome};
 ghost use Rattle.elasticlunr_parse.specs.ObjectsTold.{options_told, texts_told};
 ghost use Rattle.elasticlunr_input.specs.Asked.{IsObjectsLineWith, options_of};
 ghost use Rattle.elasticlunr_input.specs.FaultPlaces.{IsPlaceInObjects};
@@ -8,32 +8,96 @@ ghost use Rattle.elasticlunr_message.specs.Forms.{asked_or_told};
 ghost use Rattle.elasticlunr_input.specs.Indexes.{IsIndexAs, IsIndexOf, IsPlacedIfNotJson, IsRefusedInput};
 ghost use Rattle.elasticlunr_input.specs.Inputs.{IsHeadOf};
 ghost use Rattle.elasticlunr_input.specs.Lines.{IsLinesLineWith};
+ghost use Rattle.elasticlunr_input.specs.Mark.{without_mark};
 ghost use Rattle.elasticlunr_input.specs.Refused.{IsRefusedObjects};
 ghost use Rattle.elasticlunr_message.specs.Messages.{IfPlaced};
 ghost use Rattle.elasticlunr_input.specs.RefusedPlaces.{IsInputPlace};
-ghost use Rattle.elasticlunr_input.specs.RefusedRead.{AreRefusedFrom, IsRefusedFrom};
+ghost use Rattle.elasticlunr_input.specs.RefusedRead.{AreRefusedFrom, IfDevice, IsRefusedFrom};
+ghost use Rattle.elasticlunr_input.specs.Settled as settled;
 ghost use Rattle.elasticlunr_input.specs.Settled.{settings_told};
+ghost use Rattle.elasticlunr_text.specs.Text.{Bytes};
 ghost use Rattle.elasticlunr_message.specs.declared.form.Form.TheVariants as form;
 ghost use Rattle.serde_json.specs.View.{view};
 
 use crate::documents::{first_fields, note_objects, objects_text};
 use crate::jobs::{job_refused, job_text, note_job};
 use crate::lines::{check_first, first_value, lines_text, read_head};
+use crate::mark::{read_start, without_mark};
 use crate::notes::Notes;
 use crate::settings::{Settings, text_or, texts_of};
 use elasticlunr_job::outcome::Stop;
 use elasticlunr_message::form::{Form, asked_or_told, read_value};
 use elasticlunr_message::message::{Trouble, wants};
 use elasticlunr_objects::lines::LastLine;
+pub use elasticlunr_objects::marked::{Marked, MarkedRead};
 use elasticlunr_objects::objects::Options;
 use serde_json::Value;
 use std::alloc::{AllocError, Global};
-use std::io::{BufRead, Read};
+use std::io::Read;
 
 /// The text of the index of an input, and a line feed; what is unwise goes to the notes, whose
-/// warnings are of no use after an error. Lines are read one by one, and the value of a line is let
-/// go before the next one is read; of an input in another form all is read, and held.
-pub fn index_from<R: BufRead>(
+/// warnings are of no use after an error. A byte order mark before the input is passed over, and no
+/// place counts it. Lines are read one by one, and the value of a line is let go before the next one
+/// is read; of an input in another form all is read, and held.
+pub fn index_from<R: MarkedRead>(
+    alloc: Global,
+    reader: &mut R,
+    asked: Option<Form>,
+    settings: &Settings,
+    notes: &mut Notes,
+) -> Result<String, Trouble>
+    ensures ok { IfOk result (λ line. IfSome (R.remaining reader.old) (λ text.
+        IsIndexOf asked (settings_told settings.now) (without_mark text) (string_bytes line))) }
+    ensures err { IfErr result (λ e. IfSome (R.remaining reader.old) (λ text.
+        IsRefusedFrom (asked_or_told asked (without_mark text)) (settings_told settings.now) (without_mark text) e)) }
+    ensures device { IfErr result (IfDevice (R.has_failed reader.new ≡ true)) }
+{
+    match index_of_input(alloc, reader, asked, settings, notes) {
+        Ok(line) => Ok(line),
+        Err(trouble) => Err(blamed(reader, trouble)),
+    }
+}
+
+/// The same trouble, but that the reader is to blame only where it has failed: what else keeps it
+/// from reading on is that there is no memory for what is read.
+fn blamed<R: MarkedRead>(reader: &R, trouble: Trouble) -> Trouble
+    ensures device { IfDevice (R.has_failed reader.now ≡ true) result }
+    ensures refused { (kind : Form) (asked : settled.Settings) (text : Bytes)
+        → IsRefusedFrom kind asked text trouble → IsRefusedFrom kind asked text result }
+{
+    match trouble {
+        Trouble::Refused(message) => Trouble::Refused(message),
+        Trouble::Device(e) => {
+            if reader.has_failed() {
+                Trouble::Device(e)
+            } else {
+                Trouble::Memory
+            }
+        }
+        Trouble::Memory => Trouble::Memory,
+    }
+}
+
+/// The text of the index of an input, as far as it is read.
+fn index_of_input<R: MarkedRead>(
+    alloc: Global,
+    reader: &mut R,
+    asked: Option<Form>,
+    settings: &Settings,
+    notes: &mut Notes,
+) -> Result<String, Trouble>
+    ensures ok { IfOk result (λ line. IfSome (R.remaining reader.old) (λ text.
+        IsIndexOf asked (settings_told settings.now) (without_mark text) (string_bytes line))) }
+    ensures err { IfErr result (λ e. IfSome (R.remaining reader.old) (λ text.
+        IsRefusedFrom (asked_or_told asked (without_mark text)) (settings_told settings.now) (without_mark text) e)) }
+{
+    let start = read_start(alloc, reader)?;
+    let mut all = without_mark(&start).chain(reader);
+    index_unmarked(alloc, &mut all, asked, settings, notes)
+}
+
+/// The same of an input that has no mark before it.
+fn index_unmarked<R: MarkedRead>(
     alloc: Global,
     reader: &mut R,
     asked: Option<Form>,
@@ -83,7 +147,7 @@ fn text_of_job(
         }
         Err(Stop::Memory) => Err(Trouble::Memory),
         Err(Stop::Refused(refusal)) => {
-            Err(Trouble::Refused(job_refused(alloc, text, &value, refusal)?))
+            Err(Trouble::Refused(job_refused(alloc, text, &value, settings, refusal)?))
         }
     }
 }
@@ -111,7 +175,7 @@ fn text_of_array(
 
 /// The text of the index of a line for each object, the first of which was read last and ends the
 /// head.
-fn text_of_lines<R: BufRead>(
+fn text_of_lines<R: MarkedRead>(
     alloc: Global,
     head: &[u8],
     last: &mut LastLine,
@@ -129,6 +193,7 @@ fn text_of_lines<R: BufRead>(
     let first = first_value(alloc, last)?;
     let options = options_of(alloc, settings, &first)?;
     check_first(alloc, &options, &first, last)?;
+    notes.begin(&options, settings)?;
     lines_text(alloc, &options, head, last, reader, notes)
 }
 
@@ -149,6 +214,7 @@ fn text_of_objects(
 {
     let options = options_of(alloc, settings, items)?;
     let line = objects_text(alloc, text, items, &options)?;
+    notes.begin(&options, settings)?;
     note_objects(alloc, &options, items, notes)?;
     Ok(line)
 }

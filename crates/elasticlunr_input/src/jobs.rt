@@ -4,7 +4,7 @@ ghost use Rattle.elasticlunr.specs.Fields.{all_differ, borrowed};
 ghost use Rattle.elasticlunr_parse.specs.JobTold.{job_told};
 ghost use Rattle.elasticlunr_parse.specs.Stop.{StopsWithReason};
 ghost use Rattle.elasticlunr_parse.specs.declared.outcome.Refusal.{Refusal};
-ghost use Rattle.elasticlunr_input.specs.FaultPlaces.{IsPlaceInJob, IsPlaceOfRefusal};
+ghost use Rattle.elasticlunr_input.specs.FaultPlaces.{IsPlaceInJob, IsPlaceOfField, IsPlaceOfLanguage, IsPlaceOfRefusal, IsPlaceOfTooLong};
 ghost use Rattle.elasticlunr_input.specs.FirstFaults.{AllFit, IsFirstTooLong, IsFirstTwice};
 ghost use Rattle.elasticlunr_input.specs.Settled.{IsLineWith, IsRefusedWith, settings_told};
 ghost use Rattle.serde_json.specs.View.{view};
@@ -18,7 +18,7 @@ use elasticlunr_job::job::{Document, Job, parse};
 use elasticlunr_job::outcome::{Refusal, Stop};
 use elasticlunr_message::job_fault::fault_message;
 use elasticlunr_message::language::unknown_language;
-use elasticlunr_message::message::{Message, Trouble, message_at, unplaced};
+use elasticlunr_message::message::{Message, Trouble, counted, message_at, unplaced};
 use elasticlunr_place::member::Step;
 use serde_json::Value;
 use std::alloc::{AllocError, Global};
@@ -37,53 +37,83 @@ pub(crate) fn job_text<'a>(
     job_line(alloc, &job)
 }
 
-/// The message of a refusal of a job.
+/// The message of a refusal of a job, in the place of whose members the settings stand.
 pub(crate) fn job_refused(
     alloc: Global,
     text: &[u8],
     value: &Value,
+    settings: &Settings,
     refusal: Refusal,
 ) -> Result<Message, AllocError>
-    ensures { IfOk result (λ message. IfSome message.place (IsPlaceInJob text.now (view value.now) refusal)) }
+    ensures { IfOk result (λ message. IfSome message.place
+        (IsPlaceInJob (settings_told settings.now) text.now (view value.now) refusal)) }
 {
     if let Some(fault) = first_fault(value) {
         return fault_message(alloc, text, value, fault);
     }
     match parse(alloc, value) {
-        Ok(job) => job_fault(alloc, text, &job, refusal),
-        Err(_) => Err(AllocError),
+        Ok(job) => {
+            let job = settle(alloc, job, settings)?;
+            job_fault(alloc, text, &job, settings, refusal)
+        }
+        Err(Stop::Memory) => Err(AllocError),
+        Err(Stop::Refused(_)) => Ok(unplaced(String::from_str(alloc, "not a job")?)),
     }
 }
 
-/// What is wrong with a job that was read.
+/// What is wrong with a job with these settings. What the settings say has no place in the text.
 fn job_fault(
     alloc: Global,
     text: &[u8],
     job: &Job<'_>,
+    settings: &Settings,
     refusal: Refusal,
 ) -> Result<Message, AllocError>
-    ensures { IfOk result (λ message.
-        IfSome message.place (IsPlaceOfRefusal text.now (job_told job.now) refusal)) }
+    ensures { IfOk result (λ message. IfSome message.place
+        (IsPlaceOfRefusal (settings_told settings.now) text.now (job_told job.now) refusal)) }
 {
     match refusal {
-        Refusal::UnknownLanguage => {
-            let said = unknown_language(alloc, job.language)?;
-            message_at(alloc, text, &[Step::Key("lang")], said)
-        }
-        Refusal::DuplicateField => {
-            let said = duplicate_field(alloc, &job.fields)?;
-            let Some(number) = second_of(&job.fields) else {
-                return Ok(unplaced(said));
-            };
-            message_at(
-                alloc,
-                text,
-                &[Step::Key("fields"), Step::Item(number)],
-                said,
-            )
-        }
+        Refusal::UnknownLanguage => unknown_in(alloc, text, job, settings),
+        Refusal::DuplicateField => field_twice(alloc, text, job, settings),
         Refusal::TooManyValues => too_many_values(alloc, text, job),
         _ => Ok(unplaced(String::from_str(alloc, "not a job")?)),
+    }
+}
+
+/// That the language of a job is unknown.
+fn unknown_in(
+    alloc: Global,
+    text: &[u8],
+    job: &Job<'_>,
+    settings: &Settings,
+) -> Result<Message, AllocError>
+    ensures { IfOk result (λ message. IfSome message.place
+        (IsPlaceOfLanguage (settings_told settings.now) text.now)) }
+{
+    let said = unknown_language(alloc, job.language)?;
+    match settings.language {
+        None => message_at(alloc, text, &[Step::Key("lang")], said),
+        Some(_) => Ok(unplaced(said)),
+    }
+}
+
+/// That a job has a field twice.
+fn field_twice(
+    alloc: Global,
+    text: &[u8],
+    job: &Job<'_>,
+    settings: &Settings,
+) -> Result<Message, AllocError>
+    ensures { IfOk result (λ message. IfSome message.place
+        (IsPlaceOfField (settings_told settings.now) text.now (job_told job.now))) }
+{
+    let said = duplicate_field(alloc, &job.fields)?;
+    match (&settings.fields, second_of(&job.fields)) {
+        (None, Some(number)) => {
+            let path = [Step::Key("fields"), Step::Item(number)];
+            message_at(alloc, text, &path, said)
+        }
+        _ => Ok(unplaced(said)),
     }
 }
 
@@ -129,7 +159,7 @@ fn first_too_long<'j, 'a>(job: &'j Job<'a>) -> Option<(usize, &'j Document<'a>)>
 /// The first document with more values than there are fields.
 fn too_many_values(alloc: Global, text: &[u8], job: &Job<'_>) -> Result<Message, AllocError>
     ensures { IfOk result (λ message.
-        IfSome message.place (IsPlaceOfRefusal text.now (job_told job.now) Refusal.TooManyValues)) }
+        IfSome message.place (IsPlaceOfTooLong text.now (job_told job.now))) }
 {
     let Some((number, doc)) = first_too_long(job) else {
         let said = "a document has more values than `--fields` has names";
@@ -137,9 +167,9 @@ fn too_many_values(alloc: Global, text: &[u8], job: &Job<'_>) -> Result<Message,
     };
     let (count, reference) = (number.saturating_add(1), doc.reference);
     let (values, most) = (doc.values.len(), job.fields.len());
-    let said = format!(in alloc;
-        "document {count} (\"{reference}\"): {values} values, where there are {most} fields"
-    )?;
+    let values = counted(alloc, values, "value")?;
+    let fields = counted(alloc, most, "field")?;
+    let said = format!(in alloc; "document {count} (\"{reference}\"): {values} for {fields}")?;
     message_at(alloc, text, &[Step::Key("docs"), Step::Item(number)], said)
 }
 
@@ -150,8 +180,10 @@ pub(crate) fn note_job(
     settings: &Settings,
     notes: &mut Notes,
 ) -> Result<(), AllocError> {
-    let Ok(job) = parse(alloc, value) else {
-        return Err(AllocError);
+    let job = match parse(alloc, value) {
+        Ok(job) => job,
+        Err(Stop::Memory) => return Err(AllocError),
+        Err(Stop::Refused(_)) => return Ok(()),
     };
     let job = settle(alloc, job, settings)?;
     let tokens = Tokens::of_language(alloc, job.language)?;

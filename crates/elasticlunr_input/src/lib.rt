@@ -9,6 +9,7 @@ mod documents;
 pub mod index;
 mod jobs;
 mod lines;
+pub mod mark;
 pub mod notes;
 pub mod settings;
 mod tokens;

@@ -22,12 +22,13 @@ use crate::notes::Notes;
 use crate::tokens::Tokens;
 use elasticlunr_message::message::{Message, Trouble, lowered, not_json, unplaced};
 use elasticlunr_objects::lines::{LastLine, LinesError, Watch, is_blank, lines_line, read_line};
+use elasticlunr_objects::marked::MarkedRead;
 use elasticlunr_objects::objects::{AddError, Object, Options, Problem, object_of};
 use elasticlunr_place::member::{Step, place_of};
 use elasticlunr_place::place::Place;
 use serde_json::{Error, Value};
 use std::alloc::{AllocError, Global};
-use std::io::{self, BufRead, ErrorKind, Read};
+use std::io::{BufRead, Read};
 
 /// Reads a text up to the end of its first line that isn't blank, or to its own end, and gives what
 /// it read. The line that it read last stays.
@@ -53,7 +54,7 @@ pub(crate) fn read_head<R: BufRead>(
             return Ok(head);
         }
     }
-    Err(Trouble::Device(io::Error::from(ErrorKind::Other)))
+    Err(Trouble::Memory)
 }
 
 /// What notes what is unwise in documents.
@@ -65,8 +66,7 @@ pub(crate) struct Watcher<'n> {
 
 impl Watch for Watcher<'_> {
     fn document(&mut self, object: &Object<'_>) -> Result<(), AllocError> {
-        self.notes
-            .document(&self.tokens, object.reference.as_str(), &object.values)
+        self.notes.object(&self.tokens, object)
     }
 }
 
@@ -224,7 +224,7 @@ fn trouble_of(
 
 /// The text of the index of the documents in lines, of which a head was read before, and a line
 /// feed; what is unwise goes to the notes.
-pub(crate) fn lines_text<R: BufRead>(
+pub(crate) fn lines_text<R: MarkedRead>(
     alloc: Global,
     options: &Options<'_>,
     head: &[u8],
@@ -247,7 +247,7 @@ pub(crate) fn lines_text<R: BufRead>(
 }
 
 /// The same text, while what is unwise in each document goes to the notes.
-fn watched_line<R: BufRead>(
+fn watched_line<R: MarkedRead>(
     alloc: Global,
     options: &Options<'_>,
     head: &[u8],

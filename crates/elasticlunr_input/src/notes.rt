@@ -1,6 +1,8 @@
 //! What is unwise in documents that are fine.
 
+use crate::settings::Settings;
 use crate::tokens::Tokens;
+use elasticlunr_objects::objects::{Object, Options};
 use std::alloc::{AllocError, Global};
 use std::collections::{BTreeMap, HashSet};
 
@@ -29,6 +31,8 @@ pub struct Notes {
     references: BTreeMap<String, usize>,
     /// Whether a field has a text, by its number.
     has_text: Vec<bool>,
+    /// The keys under which a text is no news, where the fields are those of the first object.
+    known: Option<HashSet<String>>,
     /// How many documents were taken.
     pub documents: usize,
     /// The tokens of all documents, each once.
@@ -44,6 +48,7 @@ impl Notes {
             alloc,
             references: BTreeMap::new(alloc),
             has_text: Vec::new(alloc),
+            known: None,
             documents: 0,
             tokens: HashSet::new(alloc),
             warnings: Vec::new(alloc),
@@ -54,6 +59,62 @@ impl Notes {
     /// takes, or that is removed, count as well.
     pub fn token_count(&self) -> usize {
         self.tokens.len()
+    }
+
+    /// Takes how objects are read, before the first one.
+    pub(crate) fn begin(
+        &mut self,
+        options: &Options<'_>,
+        settings: &Settings,
+    ) -> Result<(), AllocError> {
+        if settings.fields.is_some() {
+            return Ok(());
+        }
+        let mut known = HashSet::new(self.alloc);
+        known.insert(String::from_str(self.alloc, options.reference_key)?)?;
+        for field in &options.fields {
+            known.insert(String::from_str(self.alloc, field)?)?;
+        }
+        self.known = Some(known);
+        Ok(())
+    }
+
+    /// Takes the next document, as read of an object.
+    pub(crate) fn object(
+        &mut self,
+        tokens: &Tokens,
+        object: &Object<'_>,
+    ) -> Result<(), AllocError> {
+        let reference = object.reference.as_str();
+        self.document(tokens, reference, &object.values)?;
+        let Some(members) = object.value.as_object() else {
+            return Ok(());
+        };
+        for (key, member) in members.iter() {
+            if member.is_string() {
+                self.text_under(reference, key.as_str())?;
+            }
+        }
+        Ok(())
+    }
+
+    /// Takes the key of a text of the document that was taken last.
+    fn text_under(&mut self, reference: &str, key: &str) -> Result<(), AllocError> {
+        let number = self.documents;
+        let Some(known) = &mut self.known else {
+            return Ok(());
+        };
+        if known.contains(key) {
+            return Ok(());
+        }
+        known.insert(String::from_str(self.alloc, key)?)?;
+        let why =
+            "the first document has no text there, so it is no field; `--fields` names fields";
+        let said = format!(in self.alloc;
+            "document {number} (\"{reference}\"): the text \"{key}\" is not indexed: {why}"
+        )?;
+        self.warnings.push(said)?;
+        Ok(())
     }
 
     /// Takes the next document.
@@ -75,6 +136,12 @@ impl Notes {
         if let Some(before) = self.references.insert(key, number)? {
             let said = format!(in self.alloc;
                 "document {number} (\"{reference}\") takes the place of document {before}, which has its reference"
+            )?;
+            self.warnings.push(said)?;
+        }
+        if reference.contains('\n') {
+            let said = format!(in self.alloc;
+                "document {number} (\"{reference}\"): its reference has a line feed, so `search` prints it as several lines"
             )?;
             self.warnings.push(said)?;
         }

@@ -91,7 +91,7 @@ pub fn tokenize_whitespace(alloc: Global, text: &str) -> Result<Vec<String>, All
     Ok(tokens)
 }
 
-/// Puts what a pipeline leaves of the word of a run behind what it left of others, unless the run is
+/// Adds what a pipeline leaves of the word of a run to what it left of others, unless the run is
 /// empty.
 fn read_run(
     alloc: Global,

@@ -5,3 +5,4 @@ pub mod Forms
 pub mod FaultPaths
 pub mod Script
 pub mod Status
+pub mod Shown

@@ -85,7 +85,7 @@ fn begins_an_array(line: &[u8]) -> bool
 }
 
 /// The first byte that is no space.
-fn first_byte(line: &[u8]) -> Option<u8>
+pub(crate) fn first_byte(line: &[u8]) -> Option<u8>
     ensures { result ≡ find (λ b. not (is_space b)) line.now }
 {
     line.iter().copied().find(|byte| !is_space(*byte))

@@ -90,6 +90,12 @@ pub fn unplaced(said: String) -> Message
     }
 }
 
+/// So many things of this name, as `1 field` or `2 fields`.
+pub fn counted(alloc: Global, count: usize, name: &str) -> Result<String, AllocError> {
+    let ending = if count == 1 { "" } else { "s" };
+    format!(in alloc; "{count} {name}{ending}")
+}
+
 /// What a value is, in words.
 pub fn kind_words(kind: Kind) -> &'static str {
     match kind {

@@ -12,6 +12,7 @@ pub mod Letters
 pub mod Forest
 pub mod Tables
 pub mod Branches
+mod Counted
 pub mod Adding
 pub mod Settled
 pub mod Named

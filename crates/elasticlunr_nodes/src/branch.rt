@@ -7,14 +7,15 @@ ghost use Rattle.elasticlunr_nodes.specs.Trie.{children_at, step_of, IsTrie};
 ghost use Rattle.elasticlunr_nodes.specs.Starts.{IsStart};
 ghost use Rattle.elasticlunr_nodes.specs.Branch.{IsBranch, HasBranch, GainsChild, GainsNextChild, KeepsOtherChildren, IsLocated, SameTrie, Grows, IsPlace};
 
+use crate::child::Child;
 use crate::few::Few;
-use crate::nodes::{Node, Place, child, children_at, gap, short_number};
+use crate::nodes::{Node, Place, child, children_at, gap};
 use crate::postings::Postings;
 use crate::start::Start;
 use std::alloc::{AllocError, Global};
 
 /// Where the longest known beginning of a token leads, and what follows it, from a shorter one on.
-pub fn locate<'a>(root: &[(char, u32)], nodes: &[Node], start: Start<'a>) -> (Place, &'a str)
+pub fn locate<'a>(root: &[Child], nodes: &[Node], start: Start<'a>) -> (Place, &'a str)
     requires trie { IsTrie root.now nodes.now }
     requires start { IsStart (step_of root.now nodes.now) start }
     ensures at { IsLocated (step_of root.now nodes.now) (chars start.entry.token.now) result.0
@@ -49,9 +50,9 @@ pub fn new_branch(
 {
     let mut branch = Vec::with_capacity(alloc, text.len() + 1)?;
     for c in text.chars() {
-        let next = short_number(number + branch.len())?;
+        let next = Child::new(c, number + branch.len())?;
         branch.push(Node {
-            children: Few::one(alloc, (c, next)),
+            children: Few::one(alloc, next),
             postings: Postings::new(alloc),
         })?;
     }
@@ -66,7 +67,7 @@ pub fn new_branch(
 
 // Puts a branch below the root.
 fn attach_to_root(
-    root: &mut Vec<(char, u32)>,
+    root: &mut Vec<Child>,
     nodes: &mut Vec<Node>,
     c: char,
     branch: &mut Vec<Node>,
@@ -77,11 +78,11 @@ fn attach_to_root(
     ensures gains { OnOk result (GainsChild root.old.items root.new.items c (length nodes.old.items)) }
     ensures nodes { OnOk result (nodes.new.items ≡ nodes.old.items ++ branch.old.items) }
 {
-    let number = short_number(nodes.len())?;
+    let child = Child::new(c, nodes.len())?;
     root.reserve(1)?;
     nodes.append(branch)?;
     let at = gap(root, c);
-    root.insert(at, (c, number)).unwrap();
+    root.insert(at, child).unwrap();
     Ok(())
 }
 
@@ -100,17 +101,17 @@ fn attach_to_node(
     ensures others { OnOk result (KeepsOtherChildren nodes.old.items nodes.new.items k) }
     ensures nodes { OnOk result (HasBranch nodes.old.items nodes.new.items branch.old.items) }
 {
-    let number = short_number(nodes.len())?;
+    let child = Child::new(c, nodes.len())?;
     nodes.reserve(branch.len())?;
     let at = gap(nodes[k].children.as_slice(), c);
-    nodes[k].children.insert(at, (c, number))?;
+    nodes[k].children.insert(at, child)?;
     nodes.append(branch).unwrap();
     Ok(())
 }
 
 /// Puts a branch below a place.
 pub fn attach(
-    root: &mut Vec<(char, u32)>,
+    root: &mut Vec<Child>,
     nodes: &mut Vec<Node>,
     place: Place,
     c: char,

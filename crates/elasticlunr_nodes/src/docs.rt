@@ -9,6 +9,7 @@ ghost use Rattle.elasticlunr_nodes.specs.Trie.{look, IsTrie};
 ghost use Rattle.elasticlunr_nodes.specs.Copied.{copied_postings};
 ghost use Rattle.elasticlunr_nodes.specs.Table.{postings_of};
 
+use crate::child::Child;
 use crate::names::{NameTexts, Names};
 use crate::nodes::{Node, Place, find, postings_at};
 use crate::posting::Posting;
@@ -38,7 +39,7 @@ fn copy_postings(
 /// A copy of the postings of a token, if it is known.
 pub fn copy_docs(
     alloc: Global,
-    root: &[(char, u32)],
+    root: &[Child],
     nodes: &[Node],
     names: &Names,
     token: &str,

@@ -2,11 +2,13 @@
 #![tactic(auto)]
 
 pub mod branch;
+pub mod child;
 pub mod docs;
 pub mod few;
 pub mod lists;
 pub mod names;
 pub mod nodes;
+pub mod number;
 pub mod numbered;
 pub mod posting;
 pub mod postings;

@@ -3,7 +3,8 @@ ghost use Rattle.std.specs.Prelude.{◌≡◌, ◌≢◌, ◌<◌, ◌++◌, ◌
 ghost use Rattle.std.specs.FinMap.{get};
 ghost use Rattle.elasticlunr_nodes.specs.Nodes.{list_at, has, KeepsLists, KeepsOtherNodes, LosesOne, LosesNode};
 
-use crate::nodes::{Reference, short_number};
+use crate::nodes::Reference;
+use crate::number::Number;
 use crate::postings::Postings;
 use std::alloc::{AllocError, Global};
 
@@ -45,8 +46,8 @@ fn push_node(references: &mut Vec<Reference>, number: usize, k: usize) -> Result
     ensures err { OnErr result (list_at references.new.items number ≡ list_at references.old.items number) }
     ensures others { (n : ℕ) → n ≢ number → list_at references.new.items n ≡ list_at references.old.items n }
 {
-    let short = short_number(k)?;
-    references[number].nodes.push(short)?;
+    let node = Number::new(k as u64)?;
+    references[number].nodes.push(node)?;
     Ok(())
 }
 
@@ -83,14 +84,14 @@ pub fn list_node(
 }
 
 // Where a list has a node.
-fn place_in(list: &[u32], k: usize) -> Option<usize>
+fn place_in(list: &[Number], k: usize) -> Option<usize>
     ensures some { IfSome result (λ i. (i < length list.now) × (slice_index list.now i ≡ k)) }
     ensures none { IfNone result (IsFalse (has list.now k)) }
 {
     let mut i = list.len();
     while i > 0 {
         i -= 1;
-        if list[i] as usize == k {
+        if list[i].get() == k as u64 {
             return Some(i);
         }
     }
@@ -98,7 +99,7 @@ fn place_in(list: &[u32], k: usize) -> Option<usize>
 }
 
 // Takes a node out of a list, if it is there.
-fn forget(list: &mut Vec<u32>, k: usize)
+fn forget(list: &mut Vec<Number>, k: usize)
     ensures loses { LosesOne list.old.items list.new.items k }
     ensures keeps { (q : ℕ) → q ≢ k → IsTrue (has list.old.items q) → IsTrue (has list.new.items q) }
 {

@@ -8,14 +8,15 @@ ghost use Rattle.elasticlunr_nodes.specs.Trie.{children_at, step_of, table_of, w
 ghost use Rattle.elasticlunr_nodes.specs.Table.{posting};
 ghost use Rattle.elasticlunr_nodes.specs.NodeTables.{found_frequencies, ArePostingsAt};
 
+use crate::child::Child;
 use crate::few::Few;
 use crate::names::Names;
+use crate::number::Number;
 use crate::postings::Postings;
-use std::alloc::AllocError;
 use std::mem::size_of;
 
-/// The number of each child under its character. One alone stands in place: most nodes have one.
-pub type Children = Few<(char, u32)>;
+/// Children in the order of their characters. One alone stands in place: most nodes have one.
+pub type Children = Few<Child>;
 
 #[derive(Debug, Drop)]
 pub struct Node {
@@ -34,22 +35,11 @@ pub enum Place {
 /// What a trie keeps for the number of a reference: the nodes where it has a posting, and maybe others.
 #[derive(Debug, Drop)]
 pub struct Reference {
-    pub nodes: Vec<u32>,
-}
-
-/// The number of a node or a reference, as nodes keep it. Where it has more than 32 bits, memory is wanting.
-pub fn short_number(number: usize) -> Result<u32, AllocError>
-    ensures ok { IfOk result (λ short. short ≡ number) }
-    ensures err { IfErr result (λ _. u32.MAX < number) }
-{
-    match u32::try_from(number) {
-        Ok(short) => Ok(short),
-        Err(_) => Err(AllocError),
-    }
+    pub nodes: Vec<Number>,
 }
 
 /// The children of a node.
-pub fn children_of(nodes: &[Node], k: usize) -> &[(char, u32)]
+pub fn children_of(nodes: &[Node], k: usize) -> &[Child]
     ensures { result.now ≡ children_of (slice_get nodes.now k) }
 {
     match nodes.get(k) {
@@ -59,11 +49,7 @@ pub fn children_of(nodes: &[Node], k: usize) -> &[(char, u32)]
 }
 
 /// The children of a place.
-pub fn children_at<'a>(
-    root: &'a [(char, u32)],
-    nodes: &'a [Node],
-    place: Place,
-) -> &'a [(char, u32)]
+pub fn children_at<'a>(root: &'a [Child], nodes: &'a [Node], place: Place) -> &'a [Child]
     ensures { result.now ≡ children_at root.now nodes.now place }
 {
     match place {
@@ -72,42 +58,42 @@ pub fn children_at<'a>(
     }
 }
 
-// So many children are counted; more of them are searched by halves.
-const COUNTED: usize = 16;
+// So many children are scanned from the first; more of them are searched by binary search.
+const SCANNED: usize = 16;
 
-// How many children come before a character. At each half of a search the processor guesses which
-// it is, and waits where it guessed wrong; a count has no guesses.
-fn count_before(children: &[(char, u32)], c: char) -> usize
+// How many children come before a character. At each step of a binary search the processor guesses
+// where it goes on, and waits where it guessed wrong; a count has no guesses.
+fn count_before(children: &[Child], c: char) -> usize
     requires { IsStrictlySorted children.now }
     ensures { IsPlaceFor children.now c result }
 {
     let mut count = 0;
-    for &(k, _) in children {
-        count += usize::from(k < c);
+    for child in children {
+        count += usize::from(child.is_before(c));
     }
     count
 }
 
 // Where the child under a character is among many, or where it would go.
-fn search_by_halves(children: &[(char, u32)], c: char) -> Result<usize, usize>
+fn binary_search(children: &[Child], c: char) -> Result<usize, usize>
     requires { IsStrictlySorted children.now }
     ensures found { IfOk result (IsAt children.now c) }
     ensures absent { IfErr result (IsGapFor children.now c) }
 {
-    children.binary_search_by_key(&c, |&(k, _)| k)
+    children.binary_search_by_key(&c, |child| child.character())
 }
 
 // Where the child under a character is, or where it would go.
-fn search(children: &[(char, u32)], c: char) -> Result<usize, usize>
+fn search(children: &[Child], c: char) -> Result<usize, usize>
     requires { IsStrictlySorted children.now }
     ensures found { IfOk result (IsAt children.now c) }
     ensures absent { IfErr result (IsGapFor children.now c) }
 {
-    if children.len() > COUNTED {
-        return search_by_halves(children, c);
+    if children.len() > SCANNED {
+        return binary_search(children, c);
     }
     let at = count_before(children, c);
-    if at < children.len() && children[at].0 == c {
+    if at < children.len() && children[at].character() == c {
         Ok(at)
     } else {
         Err(at)
@@ -115,18 +101,18 @@ fn search(children: &[(char, u32)], c: char) -> Result<usize, usize>
 }
 
 /// The number of the child under a character.
-pub fn child(children: &[(char, u32)], c: char) -> Option<usize>
+pub fn child(children: &[Child], c: char) -> Option<usize>
     requires { IsStrictlySorted children.now }
     ensures { result ≡ value_of children.now c }
 {
     match search(children, c) {
-        Ok(at) => Some(children[at].1 as usize),
+        Ok(at) => Some(children[at].node()),
         Err(_) => None,
     }
 }
 
 /// Where the path of a token leads.
-pub fn find(root: &[(char, u32)], nodes: &[Node], token: &str) -> Option<Place>
+pub fn find(root: &[Child], nodes: &[Node], token: &str) -> Option<Place>
     requires { IsTrie root.now nodes.now }
     ensures { result ≡ walk (step_of root.now nodes.now) Place.Root (chars token.now) }
 {
@@ -138,7 +124,7 @@ pub fn find(root: &[(char, u32)], nodes: &[Node], token: &str) -> Option<Place>
 }
 
 /// Where the child under a new character goes.
-pub fn gap(children: &[(char, u32)], c: char) -> usize
+pub fn gap(children: &[Child], c: char) -> usize
     requires sorted { IsStrictlySorted children.now }
     requires free { value_of children.now c ≡ None }
     ensures { IsGapFor children.now c result }
@@ -167,7 +153,7 @@ pub fn frequency_of(names: &Names, postings: &Postings, doc_ref: &str) -> Option
 
 /// The frequency of a reference at a token, if it has a posting there.
 pub fn find_frequency(
-    root: &[(char, u32)],
+    root: &[Child],
     nodes: &[Node],
     names: &Names,
     token: &str,
@@ -184,11 +170,7 @@ pub fn find_frequency(
 }
 
 /// The postings of a token, none where it is unknown or empty.
-pub fn find_postings<'a>(
-    root: &[(char, u32)],
-    nodes: &'a [Node],
-    token: &str,
-) -> Option<&'a Postings>
+pub fn find_postings<'a>(root: &[Child], nodes: &'a [Node], token: &str) -> Option<&'a Postings>
     requires { IsTrie root.now nodes.now }
     ensures postings { ArePostingsAt root.now nodes.now (chars token.now) (found_frequencies result) }
     ensures numbered { (names : Names) → AreAllNumbered names nodes.now → IfSome result (λ p. AreNumbered names p.now) }

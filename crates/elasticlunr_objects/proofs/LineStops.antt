@@ -7,8 +7,8 @@ use Rattle.elasticlunr_text.specs.IndexError.{IndexError}
 use Rattle.elasticlunr_text.specs.IndexError.TheVariants as index
 use Rattle.elasticlunr.specs.Fields.{all_differ}
 use Rattle.elasticlunr_job.specs.Answer.{NamesLanguage}
-use Rattle.elasticlunr_objects.specs.Lines.{FailsLines, HasFitOptions, HasLineProblem, StopsAtLine}
-use Rattle.elasticlunr_objects.specs.LinesTold.{index_error_of, IsTaken, IsUnreadAfter, StopsFilling, StopsOn, StopsReading}
+use Rattle.elasticlunr_objects.specs.Lines.{FailsLines, HasFitOptions, HasLineProblem, IfDevice, StopsAtLine}
+use Rattle.elasticlunr_objects.specs.LinesTold.{index_error_of, IsTaken, IsUnread, IsUnreadAfter, StopsFilling, StopsOn, StopsReading}
 use Rattle.elasticlunr_parse.specs.Lines.{is_blank}
 use Rattle.elasticlunr_parse.specs.Objects.{Options, HasProblem}
 use Rattle.elasticlunr_parse.specs.Reading.{reading}
@@ -68,3 +68,22 @@ fails_lines options left last Memory fit on = tt
 fails_lines options left last (Device failed) fit on = tt
 fails_lines options left last (Refused refusal) fit on = absurd on
 fails_lines options left last (Document place problem) fit on = (fit, on)
+
+-- what stops on a line is no failure of the reader
+pub on_no_device : (P : Type 0) (number : ℕ) (Has : Problem → Type 0) (e : LinesError) → StopsOn number Has e → IfDevice P e
+on_no_device P number Has Memory stops = tt
+on_no_device P number Has (Document place problem) stops = tt
+on_no_device P number Has (Refused _) stops = absurd stops
+on_no_device P number Has (Device _) stops = absurd stops
+
+-- nor is a refusal of the builder
+pub index_no_device : (P : Type 0) (e : IndexError) → IfDevice P (index_error_of e)
+index_no_device P index.DuplicateField = tt
+index_no_device P _ = tt
+
+-- a line that was not read, at any number
+pub at_any_line : (number : ℕ) (Has : Problem → Type 0) (e : LinesError) → IsUnread e → StopsReading number Has e
+at_any_line number Has Memory is = tt
+at_any_line number Has (Device _) is = tt
+at_any_line number Has (Refused _) is = absurd is
+at_any_line number Has (Document place problem) is = absurd is

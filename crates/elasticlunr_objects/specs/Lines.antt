@@ -48,3 +48,8 @@ FailsLines options left last error.Memory = ⊤
 FailsLines options left last (error.Device _) = ⊤
 FailsLines options left last (error.Refused refusal) = FailsAt (job_of options []) refusal
 FailsLines options left last (error.Document number problem) = HasFitOptions options × StopsAtLine options left last number problem
+
+-- where it is said that a read failed, this holds
+abbrev pub IfDevice : Type 0 → LinesError → Type 0
+IfDevice P (error.Device _) = P
+IfDevice P _ = ⊤

@@ -36,6 +36,12 @@ IsValueOf line (Some d) = (is_blank line ≡ false) × (reading line ≡ Some d)
 abbrev pub IsUnreadAfter : (left now : Option Bytes) → Bytes → Problem → Type 0
 IsUnreadAfter left now line problem = (more : Bool) × IsTaken left now line more × (is_blank line ≡ false) × (reading line ≡ None) × (problem ≡ NotJson)
 
+-- a line was not read: the reader failed, or memory is wanting
+abbrev pub IsUnread : LinesError → Type 0
+IsUnread error.Memory = ⊤
+IsUnread (error.Device _) = ⊤
+IsUnread _ = ⊥
+
 -- the line of this number has a problem, or memory is wanting
 abbrev pub StopsOn : ℕ → (Problem → Type 0) → LinesError → Type 0
 StopsOn number Has error.Memory = ⊤

@@ -6,4 +6,5 @@
 #![tactic(auto)]
 
 pub mod lines;
+pub mod marked;
 pub mod objects;

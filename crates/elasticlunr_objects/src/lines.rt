@@ -3,7 +3,7 @@
 //! Lines are read one by one: a line and its value are let go before the next one is read. Lines of
 //! white space are passed over.
 
-ghost use Rattle.std.specs.Prelude.{◌≡◌, [], Some, None, option_map, string_bytes, IfOk, IfErr};
+ghost use Rattle.std.specs.Prelude.{◌≡◌, [], true, Some, None, option_map, string_bytes, IfOk, IfErr};
 ghost use Rattle.elasticlunr.specs.Index.{plan_of, IsDocument, StandsFor};
 ghost use Rattle.elasticlunr.specs.History.{Commands};
 ghost use Rattle.elasticlunr.specs.Printed.{IsTextAfter};
@@ -12,8 +12,8 @@ ghost use Rattle.elasticlunr_job.specs.Answer.{line, printed_text};
 ghost use Rattle.elasticlunr_text.specs.Text.{Bytes};
 ghost use Rattle.elasticlunr_job.specs.Commands.{language_tokens};
 ghost use Rattle.elasticlunr_job.specs.Filled.{IsBuiltFor};
-ghost use Rattle.elasticlunr_objects.specs.Lines.{FailsLines, IsLineOfLines};
-ghost use Rattle.elasticlunr_objects.specs.LinesTold.{IsFilledLine, IsTaken, IsUnreadAfter, IsValueOf, StopsFilling, StopsOn, StopsReading};
+ghost use Rattle.elasticlunr_objects.specs.Lines.{FailsLines, IfDevice, IsLineOfLines};
+ghost use Rattle.elasticlunr_objects.specs.LinesTold.{IsFilledLine, IsTaken, IsUnread, IsUnreadAfter, IsValueOf, StopsFilling, StopsOn, StopsReading};
 ghost use Rattle.elasticlunr_objects.specs.Objects.{job_of};
 ghost use Rattle.elasticlunr_parse.specs.LineRead.{AreAll};
 ghost use Rattle.elasticlunr_parse.specs.Objects.{HasProblem, IsDocumentOf};
@@ -21,6 +21,7 @@ ghost use Rattle.elasticlunr_parse.specs.ObjectsTold.{object_told, options_told}
 ghost use Rattle.elasticlunr_parse.specs.Reading.{reading};
 ghost use Rattle.serde_json.specs.View.{view};
 
+use crate::marked::MarkedRead;
 use crate::objects::{AddError, Object, Options, Problem, object_of};
 use elasticlunr::lang::{AnyLanguage, from_name};
 use elasticlunr::laws::calls::an_index_makes_what_its_language_makes;
@@ -32,7 +33,7 @@ use elasticlunr_parse::read::read_json;
 pub use elasticlunr_parse::reader::read_line;
 use serde_json::Value;
 use std::alloc::{AllocError, Global};
-use std::io::{self, BufRead, ErrorKind};
+use std::io;
 
 /// The line that was read last, without its line feed.
 #[derive(Drop)]
@@ -69,8 +70,9 @@ pub enum LinesError {
     /// The number of the first line that is no document, from 1 without the blank ones, and what is
     /// wrong with it.
     Document(usize, Problem),
-    /// The reader failed.
+    /// A read of the reader failed.
     Device(io::Error),
+    /// Out of memory, or more lines than a `usize` can number.
     Memory,
 }
 
@@ -82,17 +84,6 @@ impl From<AllocError> for LinesError {
 
     fn from(_refused: AllocError) -> LinesError {
         LinesError::Memory
-    }
-}
-
-impl From<io::Error> for LinesError {
-    ghost use Rattle.elasticlunr_objects.specs.declared.lines.LinesError.TheVariants.{Device};
-    ghost use Rattle.std.specs.Prelude.{◌≡◌};
-
-    ghost from_gives = { λ failed e. e ≡ Device failed };
-
-    fn from(failed: io::Error) -> LinesError {
-        LinesError::Device(failed)
     }
 }
 
@@ -122,9 +113,21 @@ fn value_on(alloc: Global, line: &[u8], number: usize) -> Result<Value, LinesErr
     }
 }
 
+/// Why a line was not read: the reader has failed, or else there was no memory for the line.
+fn unread<R: MarkedRead>(reader: &R, error: io::Error) -> LinesError
+    ensures err { IsUnread result }
+    ensures device { IfDevice (R.has_failed reader.now ≡ true) result }
+{
+    if reader.has_failed() {
+        LinesError::Device(error)
+    } else {
+        LinesError::Memory
+    }
+}
+
 /// Reads the next line, and its value where it isn't blank: it has this number then. Also whether a
 /// line feed was behind it.
-fn next_value<R: BufRead>(
+fn next_value<R: MarkedRead>(
     alloc: Global,
     reader: &mut R,
     line: &mut Vec<u8>,
@@ -135,8 +138,12 @@ fn next_value<R: BufRead>(
     ensures value { IfOk result (λ read. IsValueOf line.new.items (option_map view read.0)) }
     ensures err { IfErr result (StopsReading number
         (IsUnreadAfter (R.remaining reader.old) (R.remaining reader.new) line.new.items)) }
+    ensures device { IfErr result (IfDevice (R.has_failed reader.new ≡ true)) }
 {
-    let more = read_line(reader, line)?;
+    let more = match read_line(reader, line) {
+        Ok(more) => more,
+        Err(e) => return Err(unread(reader, e)),
+    };
     if is_blank(line) {
         return Ok((None, more));
     }
@@ -181,7 +188,7 @@ fn printed(index: &Index<AnyLanguage>, pretty: bool) -> Result<String, LinesErro
 }
 
 /// Adds the documents in the lines of a reader to a new index: its text then, and a line feed.
-fn fill_and_print<R: BufRead, W: Watch>(
+fn fill_and_print<R: MarkedRead, W: Watch>(
     alloc: Global,
     options: &Options<'_>,
     reader: &mut R,
@@ -195,6 +202,7 @@ fn fill_and_print<R: BufRead, W: Watch>(
         → (text : Bytes) × AreAll (R.remaining reader.old) text
         × IsFilledLine (options_told options.now) language text (string_bytes line)) }
     ensures err { IfErr result (StopsFilling (options_told options.now) (R.remaining reader.old) last.new) }
+    ensures device { IfErr result (IfDevice (R.has_failed reader.new ≡ true)) }
 {
     let mut number: usize = 0;
     'lines: for before in 0..usize::MAX {
@@ -216,13 +224,13 @@ fn fill_and_print<R: BufRead, W: Watch>(
             return printed(&index, options.pretty);
         }
     }
-    Err(LinesError::Device(io::Error::from(ErrorKind::Other)))
+    Err(LinesError::Memory)
 }
 
 /// The text of the index of the documents in the lines of a reader, and a line feed. It takes the
 /// memory of the index, of one line and of its value. The watch sees each document before it is
 /// added. After an error of a document its line is the one that was read last.
-pub fn lines_line<R: BufRead, W: Watch>(
+pub fn lines_line<R: MarkedRead, W: Watch>(
     alloc: Global,
     options: &Options<'_>,
     reader: &mut R,
@@ -232,6 +240,7 @@ pub fn lines_line<R: BufRead, W: Watch>(
     ensures ok { IfOk result (λ line. (text : Bytes) × AreAll (R.remaining reader.old) text
         × IsLineOfLines (options_told options.now) text (string_bytes line)) }
     ensures err { IfErr result (FailsLines (options_told options.now) (R.remaining reader.old) last.new) }
+    ensures device { IfErr result (IfDevice (R.has_failed reader.new ≡ true)) }
 {
     let Some(language) = from_name(options.language) else {
         return Err(LinesError::Refused(Refusal::UnknownLanguage));

@@ -67,11 +67,13 @@ impl<T: Drop> From<AllocFailed<T>> for AddError {
     }
 }
 
-/// A document, as read of an object: its reference, and its texts in the order of the fields.
+/// A document, as read of an object: its reference, its texts in the order of the fields, and the
+/// object itself.
 #[derive(Drop)]
 pub struct Object<'a> {
     pub reference: String,
     pub values: Vec<&'a str>,
+    pub value: &'a Value,
 }
 
 /// The reference that a member is, if it is one.
@@ -121,6 +123,7 @@ pub fn object_of<'a>(
     value: &'a Value,
 ) -> Result<Object<'a>, AddError>
     ensures ok { IfOk result (λ object. IsDocumentOf (options_told options.now) (view value.now) (object_told object)) }
+    ensures whole { IfOk result (λ object. object.value.now ≡ value.now) }
     ensures err { IfErr result (IsMemoryOr (HasProblem (options_told options.now) (view value.now))) }
 {
     if !value.is_object() {
@@ -133,5 +136,9 @@ pub fn object_of<'a>(
         return Err(AddError::Problem(Problem::NotAReference(kind_of(member))));
     };
     let values = values_of(alloc, &options.fields, value)?;
-    Ok(Object { reference, values })
+    Ok(Object {
+        reference,
+        values,
+        value,
+    })
 }

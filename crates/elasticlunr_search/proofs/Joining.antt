@@ -12,7 +12,7 @@ use Rattle.elasticlunr_search.proofs.FieldTries.{push}
 pub next_field : (names : List (Bor Bytes)) (i : ℕ) (other : Bor Bytes) → i < length names → borrowed (take (i + 1) names) ≡ borrowed (take i names) ++ (get_or names i other).now ∷ []
 next_field names i other lt = ap borrowed (take_more names i other lt) ∙ map-append (λ text. text.now) (take i names) (get_or names i other ∷ [])
 
-or_none : (b : Bool) → (b || false) ≡ b
+pub or_none : (b : Bool) → (b || false) ≡ b
 or_none true = refl
 or_none false = refl
 

@@ -11,15 +11,20 @@ use Rattle.serde_json.specs.Read.{read}
 use Rattle.serde_json.specs.View.{items_view}
 use Rattle.serde_json.specs.declared.value.Value.{Value}
 use Rattle.elasticlunr_text.specs.Text.{Bytes}
+use Rattle.elasticlunr_lang.specs.Known.{language_name, language_stages}
+use Rattle.elasticlunr_lang.specs.declared.any.AnyLanguage.{AnyLanguage}
 use Rattle.elasticlunr.specs.Fields.{has_name}
+use Rattle.elasticlunr.specs.Shape.{HasLanguage}
+use Rattle.elasticlunr_printed.proofs.Shapes.{one_language}
 use Rattle.elasticlunr_search.specs.Answers.{Asks, HasBelow, is_line_feed}
 use Rattle.elasticlunr_search.specs.Fields.{HasNoField, IsIndexWith}
-use Rattle.elasticlunr_search.specs.Unanswered.{IsNotSearched, IsRefusedBelow, refusal_of}
+use Rattle.elasticlunr_search.specs.Refusal.{Lacks, RefusesValue, StopsBy}
+use Rattle.elasticlunr_search.specs.Unanswered.{IsNotSearched, IsRefusedBelow, IsTextNotSearched, refusal_of}
 use Rattle.elasticlunr_search.specs.Words.{asked_fields}
 use Rattle.elasticlunr_search.specs.declared.answer.Refusal.{Refusal}
 use Rattle.elasticlunr_search.specs.declared.answer.Refusal.TheVariants as refusal
 use Rattle.elasticlunr_search.specs.declared.error.SearchError.{SearchError}
-use Rattle.elasticlunr_search.specs.declared.error.SearchError.TheVariants.{NoSuchField, Memory}
+use Rattle.elasticlunr_search.specs.declared.error.SearchError.TheVariants.{NotRead, OtherLanguage, OtherPipeline, BadFields, BadTries, BadStore, NoSuchField, Memory}
 use Rattle.elasticlunr_search.specs.declared.request.Request.{Request}
 
 -- what has three items has three values
@@ -29,13 +34,6 @@ three (x ∷ []) a b d is = absurd (cc)
 three (x ∷ y ∷ []) a b d is = absurd (cc)
 three (x ∷ y ∷ z ∷ []) a b d is = refl
 three (x ∷ y ∷ z ∷ w ∷ values) a b d is = absurd (cc)
-
--- a query that a searcher refuses is refused for its field, or memory is wanting
-pub not_found : {T : Type 0} (r : Result T Refusal) (v : Data) (field : Option Bytes) (e : SearchError) → IsErrAnd r (λ y. y ≡ refusal_of e)
-    → (e ≡ NoSuchField) ⊎ (e ≡ Memory) → (e ≡ NoSuchField → IsSomeAnd field (HasNoField v)) → IfErr r (IsNotSearched v field)
-not_found r v field e is only none =
-    let p = err_from_is_err_and r is in
-    rw (p.1, p.2) (elim only [ inl n ↦ rw n (none n) | inr m ↦ rw m tt ])
 
 -- one of the fields in which is searched is none of all fields only where one was asked for
 pub not_asked : (v : Data) (all : List Bytes) → IsIndexWith v all → (field : Option Bytes) → (name : Bytes) × Contains (asked_fields field all) name × (has_name name all ≡ false) → IsSomeAnd field (HasNoField v)
@@ -57,6 +55,7 @@ why_below : (input : Bytes) (request : Request) (v : Data) (e : Refusal) → Ask
 why_below input request v refusal.NotARequest asks below why = absurd why
 why_below input request v refusal.NotRead asks below why = absurd why
 why_below input request v refusal.UnknownLanguage asks below why = (request, asks, v, below, why)
+why_below input request v refusal.OtherPipeline asks below why = (request, asks, v, below, why)
 why_below input request v refusal.NoFields asks below why = (request, asks, v, below, why)
 why_below input request v refusal.NoTries asks below why = (request, asks, v, below, why)
 why_below input request v refusal.NoStore asks below why = (request, asks, v, below, why)
@@ -71,8 +70,50 @@ refused_below r input request v e is asks below why =
     rw (p.1, p.2) (why_below input request v e asks below why)
 
 -- below a request what is not JSON is refused
-pub unread_below : {T : Type 0} (r : Result T Refusal) (input text : Bytes) (request : Request) (e : Refusal) → IsErrAnd r (λ y. y ≡ e) → Asks input request → text ≡ after_first is_line_feed input
-    → (e ≡ refusal.Memory) ⊎ ((e ≡ refusal.NotRead) × (read text ≡ None)) → IfErr r (IsRefusedBelow input)
+pub unread_below : {T : Type 0} (r : Result T Refusal) (input text : Bytes) (request : Request) (e : SearchError) → IsErrAnd r (λ y. y ≡ refusal_of e) → Asks input request → text ≡ after_first is_line_feed input
+    → StopsBy NotRead (read text ≡ None) e → IfErr r (IsRefusedBelow input)
 unread_below r input text request e is asks at why =
     let p = err_from_is_err_and r is in
     rw (p.1, p.2) (elim why [ inl m ↦ rw m tt | inr n ↦ rw (n.0) (request, asks, ap read (sym at) ∙ n.1) ])
+
+-- and so is a text that is not JSON
+pub unread_text : {T : Type 0} (r : Result T Refusal) (text : Bytes) (field : Option Bytes) (e : SearchError) → IsErrAnd r (λ y. y ≡ refusal_of e)
+    → StopsBy NotRead (read text ≡ None) e → IfErr r (IsTextNotSearched text field)
+unread_text r text field e is why =
+    let p = err_from_is_err_and r is in
+    rw (p.1, p.2) (elim why [ inl m ↦ rw m tt | inr n ↦ rw (n.0) (n.1) ])
+
+-- what is not searched of a value refuses the text that it was read of
+pub why_text : (text : Bytes) (v : Data) (field : Option Bytes) (e : Refusal) → read text ≡ Some v → IsNotSearched v field e → IsTextNotSearched text field e
+why_text text v field refusal.NotARequest reads why = absurd why
+why_text text v field refusal.NotRead reads why = absurd why
+why_text text v field refusal.UnknownLanguage reads why = (v, reads, why)
+why_text text v field refusal.OtherPipeline reads why = (v, reads, why)
+why_text text v field refusal.NoFields reads why = (v, reads, why)
+why_text text v field refusal.NoTries reads why = (v, reads, why)
+why_text text v field refusal.NoStore reads why = (v, reads, why)
+why_text text v field refusal.NoSuchField reads why = (v, reads, why)
+why_text text v field refusal.Memory reads why = tt
+
+-- a query that a searcher refuses is refused for its field, or memory is wanting
+pub refused_for : (v : Data) (field : Option Bytes) (e : SearchError) → (e ≡ NoSuchField) ⊎ (e ≡ Memory) → (e ≡ NoSuchField → IsSomeAnd field (HasNoField v)) → IsNotSearched v field (refusal_of e)
+refused_for v field e only none = elim only [ inl n ↦ rw n (none n) | inr m ↦ rw m tt ]
+
+-- why a searcher by the language that a value names refuses the value
+pub not_opened : (v : Data) (field : Option Bytes) (language : AnyLanguage) → HasLanguage v (language_name language) → (e : SearchError) → RefusesValue (language_name language) (language_stages language) v e → IsNotSearched v field (refusal_of e)
+not_opened v field language named e refuses = elim refuses [
+  | inl other ↦ absurd (other.1.2 (one_language v other.1.0 (language_name language) other.1.1 named))
+  | inr more ↦ elim more [
+    | inl others ↦ subst (λ x. IsNotSearched v field (refusal_of x)) (sym others.0) (language, named, others.1)
+    | inr lacks ↦ lacking e lacks
+  ]
+] where
+  lacking : (x : SearchError) → Lacks v x → IsNotSearched v field (refusal_of x)
+  lacking NotRead lacks = absurd lacks
+  lacking OtherLanguage lacks = absurd lacks
+  lacking OtherPipeline lacks = absurd lacks
+  lacking BadFields lacks = lacks
+  lacking BadTries lacks = lacks
+  lacking BadStore lacks = lacks
+  lacking NoSuchField lacks = absurd lacks
+  lacking Memory lacks = tt

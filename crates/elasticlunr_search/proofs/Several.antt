@@ -9,15 +9,9 @@ use Rattle.elasticlunr.specs.Found.{AreThose}
 use Rattle.elasticlunr_search.specs.Tries.{FindsInTrie, FindsInTries}
 use Rattle.elasticlunr_search.specs.Words.{AreNumbersOf}
 use Rattle.elasticlunr_search.specs.declared.words.Join.{Join}
+use Rattle.elasticlunr_search.proofs.FieldTries.{each_weaker}
 use Rattle.elasticlunr_search.proofs.Joining.{AreJoined}
 use Rattle.elasticlunr_search.proofs.Those.{any_tells, are_those, listed}
-
--- what holds of each name and its list, and what follows from that
-each_weaker : (R Q : Bytes → List Bytes → Type 0) → ((name : Bytes) (part : List Bytes) → R name part → Q name part) → (names : List Bytes) (parts : List (List Bytes)) → AllZip R names parts → AllZip Q names parts
-each_weaker R Q f [] [] all = tt
-each_weaker R Q f [] (part ∷ parts) all = absurd all
-each_weaker R Q f (name ∷ names) [] all = absurd all
-each_weaker R Q f (name ∷ names) (part ∷ parts) all = (f name part all.0, each_weaker R Q f names parts all.1)
 
 -- where each list has those that are found in the trie of its field
 pub found_in_tries : (R : Bytes → List Bytes → Type 0) (reads : ℕ → Bytes → List Text → Type 0) (fields : List Bytes) (tables : List Table) (join : Join) (query : Bytes) → ((name : Bytes) (part : List Bytes) → R name part → FindsInTrie reads fields tables join name query part)
@@ -34,7 +28,7 @@ or_true : (b : Bool) → (b || true) ≡ true
 or_true true = refl
 or_true false = refl
 
-contains_cases : (x y : ℕ) (xs : List ℕ) (Q : Type 0) → (x ≡ y → Q) → (Contains xs y → Q) → Contains (x ∷ xs) y → Q
+pub contains_cases : {A : Type 0} (x y : A) (xs : List A) (Q : Type 0) → (x ≡ y → Q) → (Contains xs y → Q) → Contains (x ∷ xs) y → Q
 contains_cases x y xs Q here there c = by c.0 c.1 c.2 where
   by : (k : ℕ) → k < suc (length xs) → get_or (x ∷ xs) k y ≡ y → Q
   by zero lt is = here is

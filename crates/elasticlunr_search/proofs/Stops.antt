@@ -26,3 +26,9 @@ pub memory_exit : {T : Type 0} (r : Result T SearchError) (R : SearchError → T
 memory_exit r R is memory =
     let p = err_from_is_err_and r is in
     rw (p.1, p.2) memory
+
+-- the exit of a call by what its error is told as
+pub told_exit : {T E : Type 0} (r : Result T E) (P : E → Type 0) (e : E) → IsErrAnd r (λ y. y ≡ e) → P e → IfErr r P
+told_exit r P e is p =
+    let q = err_from_is_err_and r is in
+    rw (q.1, q.2) p

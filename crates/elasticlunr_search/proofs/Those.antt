@@ -31,7 +31,7 @@ are_those P p tells rs order has = record { sorted = order; exact = λ r. (λ c.
 pub any_tells : {A : Type 0} (p : A → Bool) (ts : List A) → (list_any p ts ≡ true) ↔ ((t : A) × Contains ts t × (p t ≡ true))
 any_tells p ts = (λ e. let a = Any-from_list_any p ts e in (a.1, (a.0, a.2, a.3), a.4), λ h. list_any_at p ts h.1.0 h.0 h.1.1 (ap p h.1.2 ∙ h.2))
 
-all_tells : (p : Text → Bool) (ts : List Text) → (list_all p ts ≡ true) ↔ ((t : Text) → Contains ts t → p t ≡ true)
+pub all_tells : (p : Text → Bool) (ts : List Text) → (list_all p ts ≡ true) ↔ ((t : Text) → Contains ts t → p t ≡ true)
 all_tells p ts = (
   λ e t c. All-contains (λ x. p x ≡ true) ts t (AllPass-from_list_all p ts e) c,
   λ h. list_all-from_AllPass p ts (All-weaker (Contains ts) (λ x. p x ≡ true) (λ x c. h x c) ts (All-contains_itself ts)),

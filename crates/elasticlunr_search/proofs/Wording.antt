@@ -22,17 +22,17 @@ kept (c ∷ x) xs = (
 
 module _ (reads : ℕ → Bytes → List Text → Type 0) (i : ℕ) (query : Bytes) (tokens : List Text) (are : AreTokensOf reads i query tokens) where
   -- the query asks for its tokens
-  asks : (token : Text) → Asks reads i query token ↔ Contains tokens token
+  pub asks : (token : Text) → Asks reads i query token ↔ Contains tokens token
   asks token = (
     λ a. subst (λ ts. Contains ts token) (sym are.are) ((kept token are.all).1 (a.0, subst (λ ts. Contains ts token) (are.no_other a.1.0 a.1.1) a.1.2)),
     λ c. let in_all = (kept token are.all).0 (subst (λ ts. Contains ts token) are.are c) in (in_all.0, (are.all, are.read, in_all.1)),
   )
 
-  some_token : (ts : List Text) → tokens ≡ ts → ts ≢ [] → (token : Text) × Asks reads i query token
+  pub some_token : (ts : List Text) → tokens ≡ ts → ts ≢ [] → (token : Text) × Asks reads i query token
   some_token [] is ne = absurd (ne refl)
   some_token (t ∷ ts) is ne = (t, (asks t).1 (subst (λ us. Contains us t) (sym is) (0, omega arith, refl)))
 
-  not_none : (token : Text) → Contains tokens token → tokens ≢ []
+  pub not_none : (token : Text) → Contains tokens token → tokens ≢ []
   not_none token c e = let none : Contains [] token = subst (λ ts. Contains ts token) e c in absurd (omega (arith, none.1))
 
   -- where documents have the tokens that were read of their values, what is found of the tokens is found of the query

@@ -14,8 +14,8 @@ use Rattle.elasticlunr.specs.Standing.{Plan}
 use Rattle.elasticlunr_search.specs.Fields.{IsIndexOf}
 use Rattle.elasticlunr_search.specs.Lines.{lines}
 use Rattle.elasticlunr_search.specs.Requests.{IsRequest}
-use Rattle.elasticlunr_search.specs.Tries.{FindsInTrie, FindsInTries}
-use Rattle.elasticlunr_search.specs.Words.{asked_fields, FindsInField, FindsInFields}
+use Rattle.elasticlunr_search.specs.Tries.{FindsInTrie, FindsWithin}
+use Rattle.elasticlunr_search.specs.Words.{asked_fields, FindsInField, FindsWithinFields}
 use Rattle.elasticlunr_search.specs.declared.request.Request.{Request}
 use Rattle.elasticlunr_search.specs.declared.words.Join.{Join}
 use Rattle.serde_json.specs.Data.{Data, string}
@@ -39,12 +39,12 @@ pub record AreFoundOf (v : Data) (request : Request) (found : List Bytes) : Type
   pub in_trie : FindsInTrie (KeptReads language) fields tables request.join request.field.now request.query.now found
   pub are_found : AreFoundBy language v request found
 
--- whatever printed text the value is of, these references are found of the query in one or more of the fields, where this language read the documents
-abbrev pub AreFoundInFieldsBy : AnyLanguage → Data → Join → (fields : List Bytes) → (query : Bytes) → (found : List Bytes) → Type 0
-AreFoundInFieldsBy language v join fields query found = (plan : Plan) (commands : Commands) (text : List ℕ) → read text ≡ Some v → IsPrintOf plan commands text
-    → FindsInFields (KeptReads language) join plan commands fields query found
+-- whatever printed text the value is of, these references have in one or more of the fields a token of the query, or each, where this language read the documents
+abbrev pub AreFoundWithinBy : AnyLanguage → Data → Join → (fields : List Bytes) → (query : Bytes) → (found : List Bytes) → Type 0
+AreFoundWithinBy language v join fields query found = (plan : Plan) (commands : Commands) (text : List ℕ) → read text ≡ Some v → IsPrintOf plan commands text
+    → FindsWithinFields (KeptReads language) join plan commands fields query found
 
--- the value is that of an index, and the text has the lines of what is found by the language that it names, in the trie of the field of this name or else in one or more of all
+-- the value is that of an index, and the text has the lines of those that have, by the language that it names, a token of the query, or each, in the field of this name or else in one or more of all
 pub record AreLinesFound (v : Data) (join : Join) (field : Option Bytes) (query text : Bytes) : Type 0 where
   pub fields : List Bytes
   pub tables : List Table
@@ -54,8 +54,8 @@ pub record AreLinesFound (v : Data) (join : Join) (field : Option Bytes) (query 
   pub language : AnyLanguage
   pub named : get (codes "lang") v ≡ Some (string (language_name language))
   pub found : List Bytes
-  pub in_tries : FindsInTries (KeptReads language) fields tables join (asked_fields field fields) query found
-  pub are_found : AreFoundInFieldsBy language v join (asked_fields field fields) query found
+  pub in_tries : FindsWithin (KeptReads language) fields tables join (asked_fields field fields) query found
+  pub are_found : AreFoundWithinBy language v join (asked_fields field fields) query found
   pub are_lines : text ≡ lines found
 
 abbrev pub is_line_feed : ℕ → Bool

@@ -1,4 +1,5 @@
 pub mod Refusal
+pub mod Whole
 pub mod Fields
 pub mod Tries
 pub mod Query
@@ -9,4 +10,5 @@ pub mod Lines
 pub mod Answers
 pub mod Unanswered
 pub mod SameText
+pub mod Source
 pub mod Anew

@@ -2,13 +2,14 @@
 use Rattle.std.specs.Prelude.{◌≡◌, ◌≢◌, ◌⊎◌, Option, Some, None, IsSomeAnd, All, codes}
 use Rattle.std.specs.List.{before_first, after_first}
 use Rattle.elasticlunr_text.specs.Text.{Bytes}
-use Rattle.elasticlunr_lang.specs.Known.{all_languages, language_name}
+use Rattle.elasticlunr_lang.specs.Known.{all_languages, language_name, language_stages}
+use Rattle.elasticlunr_lang.specs.declared.any.AnyLanguage.{AnyLanguage}
 use Rattle.elasticlunr_search.specs.Answers.{is_line_feed, Asks, HasBelow}
-use Rattle.elasticlunr_search.specs.Fields.{HasNoField}
+use Rattle.elasticlunr_search.specs.Fields.{HasNoField, HasStages}
 use Rattle.elasticlunr_search.specs.Refusal.{Lacks}
 use Rattle.elasticlunr_search.specs.Requests.{IsNoRequest}
 use Rattle.elasticlunr_search.specs.declared.answer.Refusal.{Refusal}
-use Rattle.elasticlunr_search.specs.declared.answer.Refusal.TheVariants.{NotARequest, NotRead, UnknownLanguage, NoFields, NoTries, NoStore, NoSuchField, Memory}
+use Rattle.elasticlunr_search.specs.declared.answer.Refusal.TheVariants.{NotARequest, NotRead, UnknownLanguage, OtherPipeline, NoFields, NoTries, NoStore, NoSuchField, Memory}
 use Rattle.elasticlunr_search.specs.declared.error.SearchError.{SearchError}
 use Rattle.elasticlunr_search.specs.declared.error.SearchError.TheVariants as error
 use Rattle.elasticlunr_search.specs.declared.request.Request.{Request}
@@ -21,6 +22,7 @@ abbrev pub refusal_text : Refusal → Bytes
 refusal_text NotARequest = codes "not a request"
 refusal_text NotRead = codes "not JSON"
 refusal_text UnknownLanguage = codes "unknown language"
+refusal_text OtherPipeline = codes "other stages than its language has"
 refusal_text NoFields = codes "no fields"
 refusal_text NoTries = codes "no trie of a field"
 refusal_text NoStore = codes "no document store"
@@ -31,6 +33,7 @@ refusal_text Memory = codes "out of memory"
 abbrev pub refusal_of : SearchError → Refusal
 refusal_of error.NotRead = NotRead
 refusal_of error.OtherLanguage = UnknownLanguage
+refusal_of error.OtherPipeline = OtherPipeline
 refusal_of error.BadFields = NoFields
 refusal_of error.BadTries = NoTries
 refusal_of error.BadStore = NoStore
@@ -49,16 +52,27 @@ AsksNothing input = (asked : Data) → read (before_first is_line_feed input) �
 abbrev pub NamesNone : Data → Type 0
 NamesNone v = All (λ language. get (codes "lang") v ≢ Some (string (language_name language))) all_languages
 
--- why the value is not searched in the field of this name, or else in all, want of memory aside
+-- its stages are not those of the language that it names
+abbrev pub HasOtherStages : Data → Type 0
+HasOtherStages v = (language : AnyLanguage) × (get (codes "lang") v ≡ Some (string (language_name language))) × ¬ HasStages v (language_stages language)
+
+-- why the value is not searched in the field of this name, or else in all, out of memory aside
 abbrev pub IsNotSearched : Data → Option Bytes → Refusal → Type 0
 IsNotSearched v field NotARequest = ⊥
 IsNotSearched v field NotRead = ⊥
 IsNotSearched v field UnknownLanguage = NamesNone v
+IsNotSearched v field OtherPipeline = HasOtherStages v
 IsNotSearched v field NoFields = Lacks v error.BadFields
 IsNotSearched v field NoTries = Lacks v error.BadTries
 IsNotSearched v field NoStore = Lacks v error.BadStore
 IsNotSearched v field NoSuchField = IsSomeAnd field (HasNoField v)
 IsNotSearched v field Memory = Unit {0}
+
+-- why the text of an index is not searched so: it is not JSON, or its value is not searched
+abbrev pub IsTextNotSearched : Bytes → Option Bytes → Refusal → Type 0
+IsTextNotSearched text field NotRead = read text ≡ None
+IsTextNotSearched text field Memory = Unit {0}
+IsTextNotSearched text field refusal = (v : Data) × (read text ≡ Some v) × IsNotSearched v field refusal
 
 -- why nothing is searched for the text: there is no request above a line feed; what stands below it is not JSON; or its value is not searched
 abbrev pub IsRefusedBelow : Bytes → Refusal → Type 0

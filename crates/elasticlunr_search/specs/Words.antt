@@ -2,7 +2,7 @@
 use Rattle.std.specs.Prelude.{◌≡◌, ◌≢◌, ℕ, List, [], ◌∷◌, Option, Some, None, Contains, slice_get}
 use Rattle.std.specs.List.{AllZip}
 use Rattle.elasticlunr_text.specs.Text.{Text, Bytes}
-use Rattle.elasticlunr.specs.Found.{AreThose}
+use Rattle.elasticlunr.specs.Found.{AreThose, FindsAny, FindsAll}
 use Rattle.elasticlunr.specs.History.{Commands}
 use Rattle.elasticlunr.specs.ReadDocuments.{AreRead, HasReadToken}
 use Rattle.elasticlunr.specs.Standing.{Plan}
@@ -17,6 +17,11 @@ AreNumbersOf fields names numbers = AllZip (λ name i. slice_get fields i ≡ So
 abbrev pub asked_fields : Option Bytes → (all : List Bytes) → List Bytes
 asked_fields None all = all
 asked_fields (Some field) all = field ∷ []
+
+-- `FindsAny` or `FindsAll`, as the join says
+abbrev pub FindsJoined : Join → Commands → ℕ → List Text → List Bytes → Type 0
+FindsJoined Any = FindsAny
+FindsJoined All = FindsAll
 
 -- In each definition `reads` relates the number of a field and a text to the tokens that a language reads of it.
 module _ (reads : ℕ → Bytes → List Text → Type 0) where
@@ -42,3 +47,18 @@ module _ (reads : ℕ → Bytes → List Text → Type 0) where
   abbrev pub FindsInFields : Join → Plan → Commands → (names : List Bytes) → (query : Bytes) → List Bytes → Type 0
   FindsInFields join plan commands names query found = AreRead reads plan.fields plan.reference_field commands
       → (numbers : List ℕ) × AreNumbersOf plan.fields names numbers × AreThose (λ r. (i : ℕ) × Contains numbers i × IsFoundFor join commands i query r) found
+
+  -- the query has a token, and each token that it has the reference's current document has in one or more of the fields of these numbers
+  abbrev pub IsFoundAcross : Commands → List ℕ → (query reference : Bytes) → Type 0
+  IsFoundAcross commands numbers query r = ((i : ℕ) × Contains numbers i × ((token : Text) × Asks i query token))
+      × ((i : ℕ) (token : Text) → Contains numbers i → Asks i query token → (j : ℕ) × Contains numbers j × HasReadToken reads commands j r token)
+
+  -- where the documents were read so, these references have each token of the query in one or more of the fields of these names
+  abbrev pub FindsAcrossFields : Plan → Commands → (names : List Bytes) → (query : Bytes) → List Bytes → Type 0
+  FindsAcrossFields plan commands names query found = AreRead reads plan.fields plan.reference_field commands
+      → (numbers : List ℕ) × AreNumbersOf plan.fields names numbers × AreThose (IsFoundAcross commands numbers query) found
+
+  -- in one or more of the fields of these names they have a token of the query, or each, as the join says
+  abbrev pub FindsWithinFields : Join → Plan → Commands → (names : List Bytes) → (query : Bytes) → List Bytes → Type 0
+  FindsWithinFields Any = FindsInFields Any
+  FindsWithinFields All = FindsAcrossFields

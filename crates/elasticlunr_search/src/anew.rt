@@ -26,10 +26,11 @@ use std::alloc::{AllocError, Global};
 /// How many fields are looked for one by one.
 const MANY_FIELDS: usize = 16;
 
-/// The parts of an index, and the name of its language.
+/// The parts of an index, and the names of its language and its stages.
 #[derive(Drop)]
 pub(crate) struct Anew {
     pub language: String,
+    pub stages: Vec<String>,
     pub printed: Printed,
 }
 
@@ -93,6 +94,7 @@ fn judged(alloc: Global, text: &str, rebuilt: Rebuilt<'_>) -> Result<Option<Anew
     }
     Ok(Some(Anew {
         language: String::from_str(alloc, language)?,
+        stages,
         printed: Printed {
             fields,
             tries,

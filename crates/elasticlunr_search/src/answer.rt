@@ -4,17 +4,18 @@ ghost use Rattle.elasticlunr_text.specs.Text.{bytes_of};
 ghost use Rattle.elasticlunr_lang.specs.Known.{language_name};
 ghost use Rattle.elasticlunr_search.specs.Answers.{AreFoundOf, AreLinesFound, IsFoundBelow};
 ghost use Rattle.elasticlunr_search.specs.Lines.{lines};
-ghost use Rattle.elasticlunr_search.specs.Unanswered.{IsNotSearched, IsRefusedBelow, NamesNone, refusal_text};
-ghost use Rattle.elasticlunr_search.specs.declared.answer.Refusal.TheVariants.{UnknownLanguage, Memory};
+ghost use Rattle.elasticlunr_search.specs.Source.{IsSource};
+ghost use Rattle.elasticlunr_search.specs.Unanswered.{IsNotSearched, IsRefusedBelow, IsTextNotSearched, NamesNone, refusal_text};
+ghost use Rattle.elasticlunr_search.specs.declared.answer.Refusal.TheVariants.{NotARequest, UnknownLanguage, Memory};
 ghost use Rattle.serde_json.specs.Data.{Data, string};
 ghost use Rattle.serde_json.specs.Find.{get};
 ghost use Rattle.serde_json.specs.Read.{read};
 ghost use Rattle.serde_json.specs.View.{view};
 
-use crate::anew::make_anew;
 use crate::error::SearchError;
 use crate::request::{Request, request_of};
 use crate::searcher::Searcher;
+use crate::source::Source;
 use crate::words::Join;
 use elasticlunr::laws::values::printed_texts_have_their_parts;
 use elasticlunr_lang::{AnyLanguage, Language, from_name};
@@ -27,6 +28,7 @@ pub enum Refusal {
     NotARequest,
     NotRead,
     UnknownLanguage,
+    OtherPipeline,
     NoFields,
     NoTries,
     NoStore,
@@ -66,6 +68,7 @@ impl From<SearchError> for Refusal {
         match error {
             SearchError::NotRead => Refusal::NotRead,
             SearchError::OtherLanguage => Refusal::UnknownLanguage,
+            SearchError::OtherPipeline => Refusal::OtherPipeline,
             SearchError::BadFields => Refusal::NoFields,
             SearchError::BadTries => Refusal::NoTries,
             SearchError::BadStore => Refusal::NoStore,
@@ -83,6 +86,7 @@ pub fn reason(refusal: Refusal) -> &'static str
         Refusal::NotARequest => "not a request",
         Refusal::NotRead => "not JSON",
         Refusal::UnknownLanguage => "unknown language",
+        Refusal::OtherPipeline => "other stages than its language has",
         Refusal::NoFields => "no fields",
         Refusal::NoTries => "no trie of a field",
         Refusal::NoStore => "no document store",
@@ -100,127 +104,69 @@ pub fn answer(alloc: Global, input: &str) -> Result<String, Refusal>
     let Some((line, text)) = input.split_once('\n') else {
         return Err(Refusal::NotARequest);
     };
-    let line = json(alloc, line, Refusal::NotARequest)?;
+    let line = json(alloc, line)?;
     let Some(request) = request_of(&line) else {
         return Err(Refusal::NotARequest);
     };
-    if let Some(references) = find_at_once(alloc, &request, text)? {
-        return Ok(lines_of(alloc, &references)?);
-    }
-    let index = json(alloc, text, Refusal::NotRead)?;
-    let found = find_in(alloc, &request, &index)?;
+    let source = Source::of_text(alloc, text)?;
+    let found = find_in(alloc, &request, source)?;
     Ok(lines_of(alloc, &found)?)
 }
 
-/// The JSON value of a text, or else this refusal.
-fn json(alloc: Global, text: &str, unread: Refusal) -> Result<Value, Refusal>
-    ensures ok { IfOk result (λ value. read text.now ≡ Some (view value)) }
-    ensures err { IfErr result (λ e. (e ≡ Memory) ⊎ ((e ≡ unread) × (read text.now ≡ None))) }
+/// The value of a line.
+fn json(alloc: Global, line: &str) -> Result<Value, Refusal>
+    ensures ok { IfOk result (λ value. read line.now ≡ Some (view value)) }
+    ensures err { IfErr result (λ e. (e ≡ Memory) ⊎ ((e ≡ NotARequest) × (read line.now ≡ None))) }
 {
-    match Value::from_str(alloc, text) {
+    match Value::from_str(alloc, line) {
         Ok(value) => Ok(value),
         Err(e) if e.is_memory() => Err(Refusal::Memory),
-        Err(_) => Err(unread),
+        Err(_) => Err(Refusal::NotARequest),
     }
 }
 
-/// The references that are found in the value of this text, without the value, where the text is that
-/// of an index and has the field.
-fn find_at_once(
-    alloc: Global,
-    request: &Request<'_>,
-    text: &str,
-) -> Result<Option<Vec<String>>, AllocError>
-    ensures { IfOk result (λ o. IfSome o (λ found. (v : Data) × (read text.now ≡ Some v)
-        × AreFoundOf v request.now (bytes_of found.items))) }
+/// The references that are found in an index, by the language that it names.
+fn find_in(alloc: Global, request: &Request<'_>, source: Source) -> Result<Vec<String>, Refusal>
+    ensures found { IfOk result (λ found. (v : Data) → IsSource source v → AreFoundOf v request.now (bytes_of found.items)) }
+    ensures refused { IfErr result (λ e. (v : Data) → IsSource source v
+        → IsNotSearched v (Some request.now.field.now) e) }
 {
     printed_texts_have_their_parts();
-    let Some(index) = make_anew(alloc, text)? else {
-        return Ok(None);
-    };
-    let Some(language) = from_name(index.language.as_str()) else {
-        return Ok(None);
-    };
-    let Ok(searcher) = Searcher::of_printed(alloc, language, index.printed) else {
-        return Err(AllocError);
-    };
-    match searcher.find(request.join, request.field, request.query) {
-        Ok(found) => Ok(Some(found)),
-        Err(SearchError::Memory) => Err(AllocError),
-        Err(_) => Ok(None),
-    }
-}
-
-/// The references that are found in the value of a printed index, by the language that it names.
-fn find_in(alloc: Global, request: &Request<'_>, index: &Value) -> Result<Vec<String>, Refusal>
-    ensures found { IfOk result (λ found. AreFoundOf (view index.now) request.now (bytes_of found.items)) }
-    ensures refused { IfErr result (IsNotSearched (view index.now) (Some request.now.field.now)) }
-{
-    let language = language_of(index)?;
-    let searcher = Searcher::from_value(alloc, language, index)?;
+    let language = language_of(&source)?;
+    let searcher = Searcher::from_source(alloc, language, source)?;
     let found = searcher.find(request.join, request.field, request.query)?;
     Ok(found)
 }
 
-/// The lines of the references that are found in the value of a printed index, by the language that
-/// it names: in the field of this name, or else in one or more of all.
+/// The lines of the references that are found in the text of an index, by the language that it
+/// names: that have one of the query's tokens, or each, in the field of this name, or else in one or
+/// more of all.
 pub fn lines_found(
-    alloc: Global,
-    index: &Value,
-    join: Join,
-    field: Option<&str>,
-    query: &str,
-) -> Result<String, Refusal>
-    ensures found { IfOk result (λ text. AreLinesFound (view index.now) join
-        (option_map (λ f. f.now) field.entry) query.now (string_bytes text)) }
-    ensures refused { IfErr result (IsNotSearched (view index.now) (option_map (λ f. f.now) field.entry)) }
-{
-    let language = language_of(index)?;
-    let searcher = Searcher::from_value(alloc, language, index)?;
-    let found = searcher.find_within(join, field, query)?;
-    Ok(lines_of(alloc, &found)?)
-}
-
-/// The lines that [`lines_found`] finds in the value of this text, without the value: where the text
-/// is printed as an index is, in any layout. `None` where it isn't, where no field has the name, and
-/// where the index can't be made anew from its tokens alone; its value then tells more.
-pub fn lines_at_once(
     alloc: Global,
     text: &str,
     join: Join,
     field: Option<&str>,
     query: &str,
-) -> Result<Option<String>, AllocError>
-    ensures { IfOk result (λ o. IfSome o (λ lines. (v : Data) × (read text.now ≡ Some v)
-        × AreLinesFound v join (option_map (λ f. f.now) field.entry) query.now (string_bytes lines))) }
+) -> Result<String, Refusal>
+    ensures found { IfOk result (λ lines. (v : Data) × (read text.now ≡ Some v)
+        × AreLinesFound v join (option_map (λ f. f.now) field.entry) query.now (string_bytes lines)) }
+    ensures refused { IfErr result (IsTextNotSearched text.now (option_map (λ f. f.now) field.entry)) }
 {
     printed_texts_have_their_parts();
-    let Some(index) = make_anew(alloc, text)? else {
-        return Ok(None);
-    };
-    let Some(language) = from_name(index.language.as_str()) else {
-        return Ok(None);
-    };
-    let Ok(searcher) = Searcher::of_printed(alloc, language, index.printed) else {
-        return Err(AllocError);
-    };
-    match searcher.find_within(join, field, query) {
-        Ok(found) => Ok(Some(lines_of(alloc, &found)?)),
-        Err(SearchError::Memory) => Err(AllocError),
-        Err(_) => Ok(None),
-    }
+    let source = Source::of_text(alloc, text)?;
+    let language = language_of(&source)?;
+    let searcher = Searcher::from_source(alloc, language, source)?;
+    let found = searcher.find_within(join, field, query)?;
+    Ok(lines_of(alloc, &found)?)
 }
 
-/// The language that the value of a printed index names.
-fn language_of(index: &Value) -> Result<AnyLanguage, Refusal>
-    ensures named { IfOk result (λ language.
-        get (codes "lang") (view index.now) ≡ Some (string (language_name language))) }
-    ensures none { IfErr result (λ e. (e ≡ UnknownLanguage) × NamesNone (view index.now)) }
+/// The language that an index names.
+fn language_of(source: &Source) -> Result<AnyLanguage, Refusal>
+    ensures named { IfOk result (λ language. (v : Data) → IsSource source.now v
+        → get (codes "lang") v ≡ Some (string (language_name language))) }
+    ensures none { IfErr result (λ e. (e ≡ UnknownLanguage) × ((v : Data) → IsSource source.now v → NamesNone v)) }
 {
-    let Some(lang) = index.get("lang") else {
-        return Err(Refusal::UnknownLanguage);
-    };
-    let Some(name) = lang.as_str() else {
+    let Some(name) = source.language() else {
         return Err(Refusal::UnknownLanguage);
     };
     match from_name(name) {

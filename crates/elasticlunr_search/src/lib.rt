@@ -13,8 +13,10 @@ mod parts;
 mod printed;
 mod rebuild;
 mod request;
+mod rounding;
 mod same_text;
 mod searcher;
+mod source;
 mod tries;
 mod words;
 

@@ -1,22 +1,26 @@
 //! The parts of a printed index, out of its value.
-ghost use Rattle.std.specs.Prelude.{◌≡◌, ◌≢◌, ◌↔◌, List, IsTrue, Some, None, IfOk, IfErr};
+ghost use Rattle.std.specs.Prelude.{◌≡◌, ◌≢◌, ◌↔◌, List, IsTrue, Some, None, IfOk, IfErr, IfSome, IsNone};
 ghost use Rattle.elasticlunr_text.specs.Text.{Bytes, bytes_of};
-ghost use Rattle.elasticlunr_trie.specs.Table.{Table};
+ghost use Rattle.elasticlunr_trie.specs.Table.{Table, IsTable};
+ghost use Rattle.elasticlunr_trie.specs.Tree.{IsTrieValue};
 ghost use Rattle.elasticlunr_store.specs.Contents.{Contents, IsConsistent};
 ghost use Rattle.elasticlunr.specs.Printed.{texts};
-ghost use Rattle.elasticlunr.specs.Shape.{HasFields, HasTrie, HasTries, HasStore};
+ghost use Rattle.elasticlunr.specs.Shape.{HasFields, HasLanguage, HasStore};
+ghost use Rattle.elasticlunr_search.specs.Fields.{HasStages, HasWholeTrie, HasWholeTries};
 ghost use Rattle.elasticlunr_search.specs.Refusal.{NamesOther, StopsBy};
+ghost use Rattle.elasticlunr_search.specs.Whole.{with_ones};
 ghost use Rattle.elasticlunr_search.specs.declared.error.SearchError.TheVariants.{NotRead, BadFields, BadTries, BadStore};
 ghost use Rattle.serde_json.specs.Data.{array};
 ghost use Rattle.serde_json.specs.Read.{read};
 ghost use Rattle.serde_json.specs.View.{view};
 
 use crate::error::SearchError;
+use crate::rounding::round;
 use elasticlunr_store::DocumentStore;
 use elasticlunr_text::IndexError;
 use elasticlunr_trie::InvertedIndex;
 use serde_json::Value;
-use std::alloc::Global;
+use std::alloc::{AllocError, Global};
 
 /// The JSON value that the text is.
 pub(crate) fn value_of(alloc: Global, text: &str) -> Result<Value, SearchError>
@@ -34,13 +38,43 @@ pub(crate) fn value_of(alloc: Global, text: &str) -> Result<Value, SearchError>
 pub(crate) fn names_other(language: &str, value: &Value) -> bool
     ensures { IsTrue result ↔ NamesOther language.now (view value.now) }
 {
-    let Some(lang) = value.get("lang") else {
-        return false;
-    };
-    match lang.as_str() {
+    match language_of(value) {
         Some(name) => name != language,
         None => false,
     }
+}
+
+/// The name of the language that the value names, if it names one.
+pub(crate) fn language_of(value: &Value) -> Option<&str>
+    ensures named { IfSome result (λ name. HasLanguage (view value.now) name.now) }
+    ensures none { IsNone result → (name : Bytes) → ¬ HasLanguage (view value.now) name }
+{
+    value.get("lang")?.as_str()
+}
+
+/// Whether these are the names of stages under `pipeline`, in order.
+pub(crate) fn has_stages(
+    alloc: Global,
+    stages: &[String],
+    value: &Value,
+) -> Result<bool, AllocError>
+    ensures { IfOk result (λ has. IsTrue has ↔ HasStages (view value.now) (bytes_of stages.now)) }
+{
+    let Some(pipeline) = value.get("pipeline") else {
+        return Ok(false);
+    };
+    match names_of(alloc, pipeline) {
+        Ok(names) => Ok(are_same(&names, stages)),
+        Err(SearchError::Memory) => Err(AllocError),
+        Err(_) => Ok(false),
+    }
+}
+
+/// Whether the one names are the others, in order.
+pub(crate) fn are_same(names: &[String], others: &[String]) -> bool
+    ensures { IsTrue result ↔ (bytes_of names.now ≡ bytes_of others.now) }
+{
+    names == others
 }
 
 /// The names of the fields, in order.
@@ -78,9 +112,9 @@ pub(crate) fn tries_of(
     names: &[String],
     value: &Value,
 ) -> Result<Vec<InvertedIndex>, SearchError>
-    ensures ok { IfOk result (λ tries. HasTries (view value.now) (bytes_of names.now) tries.items) }
+    ensures ok { IfOk result (λ tries. HasWholeTries (view value.now) (bytes_of names.now) tries.items) }
     ensures err { IfErr result (StopsBy BadTries ((tables : List Table)
-        → ¬ HasTries (view value.now) (bytes_of names.now) tables)) }
+        → ¬ HasWholeTries (view value.now) (bytes_of names.now) tables)) }
 {
     let Some(index) = value.get("index") else {
         return Err(SearchError::BadTries);
@@ -94,13 +128,28 @@ pub(crate) fn tries_of(
 
 /// The trie under a name.
 fn trie_of(alloc: Global, name: &str, index: &Value) -> Result<InvertedIndex, SearchError>
-    ensures ok { IfOk result (HasTrie (view index.now) name.now) }
-    ensures err { IfErr result (StopsBy BadTries ((table : Table) → ¬ HasTrie (view index.now) name.now table)) }
+    ensures ok { IfOk result (HasWholeTrie (view index.now) name.now) }
+    ensures err { IfErr result (StopsBy BadTries ((table : Table) → ¬ HasWholeTrie (view index.now) name.now table)) }
 {
     let Some(value) = index.get(name) else {
         return Err(SearchError::BadTries);
     };
     match InvertedIndex::from_value(alloc, value) {
+        Ok(trie) => Ok(trie),
+        Err(IndexError::Memory) => Err(SearchError::Memory),
+        Err(_) => rounded_trie(alloc, value),
+    }
+}
+
+/// The trie that the value is with 1 in place of each fraction, as frequencies of others are.
+fn rounded_trie(alloc: Global, value: &Value) -> Result<InvertedIndex, SearchError>
+    ensures ok { IfOk result (λ trie. IsTrieValue trie (with_ones (view value.now))) }
+    ensures table { IfOk result (λ trie. IsTable trie) }
+    ensures err { IfErr result (StopsBy BadTries ((table : Table)
+        → IsTable table → ¬ IsTrieValue table (with_ones (view value.now)))) }
+{
+    let rounded = round(alloc, value)?;
+    match InvertedIndex::from_value(alloc, &rounded) {
         Ok(trie) => Ok(trie),
         Err(IndexError::Memory) => Err(SearchError::Memory),
         Err(_) => Err(SearchError::BadTries),

@@ -1,6 +1,6 @@
 //! Searches of a printed index, by a query in its language.
 ghost use Rattle.std.specs.Prelude.{◌≡◌, ◌<◌, ◌⊎◌, ◌↔◌, ℕ, List, false, Some, Err, IfOk, IfErr, OnOk, IfSome, IsSome, IsTrue, length, option_map, slice_get};
-ghost use Rattle.elasticlunr_text.specs.Stages.{LeavesBy};
+ghost use Rattle.elasticlunr_text.specs.Stages.{IsRunBy, LeavesBy, names_by};
 ghost use Rattle.elasticlunr_text.specs.Text.{bytes_of, texts_of};
 ghost use Rattle.elasticlunr_store.specs.Contents.{text_map};
 ghost use Rattle.elasticlunr.specs.Fields.{has_name, borrowed};
@@ -9,24 +9,27 @@ ghost use Rattle.elasticlunr.specs.History.{Commands, now};
 ghost use Rattle.elasticlunr.specs.Printed.{IsPrintOf};
 ghost use Rattle.elasticlunr.specs.Reading.{LanguageReads};
 ghost use Rattle.elasticlunr.specs.Standing.{Plan, stored};
-ghost use Rattle.elasticlunr_search.specs.Query.{AreTokensOf};
+ghost use Rattle.elasticlunr_search.specs.Query.{AreTokensOf, RunReads};
+ghost use Rattle.elasticlunr_search.specs.Tries.{tables_of};
 ghost use Rattle.elasticlunr_search.specs.Words.{asked_fields};
-ghost use Rattle.elasticlunr_search.specs.Refusal.{NamesOther, Refuses, RefusesPrint, RefusesValue};
-ghost use Rattle.elasticlunr_search.specs.declared.error.SearchError.TheVariants.{OtherLanguage, NoSuchField, Memory};
+ghost use Rattle.elasticlunr_search.specs.Refusal.{Refuses, RefusesOthers, RefusesPrint, RefusesValue};
+ghost use Rattle.elasticlunr_search.specs.Source.{IsSource};
+ghost use Rattle.elasticlunr_search.specs.declared.error.SearchError.TheVariants.{NoSuchField, Memory};
 ghost use Rattle.serde_json.specs.Data.{Data};
 ghost use Rattle.serde_json.specs.Read.{read};
 ghost use Rattle.serde_json.specs.View.{view};
 
-use crate::anew::make_anew;
 use crate::error::SearchError;
-use crate::parts::{names_other, value_of};
+use crate::parts::{has_stages, names_other};
 use crate::printed::Printed;
-use crate::tries::{find_all_in, find_any_in};
+use crate::source::Source;
+use crate::tries::{find_all_among, find_all_in, find_any_in};
 use crate::words::Join;
 use elasticlunr::laws::found::{documents_have_the_tokens_of_their_values, postings_tell_tokens};
 use elasticlunr::laws::reading::a_language_reads_what_its_pipeline_leaves;
 use elasticlunr::laws::values::{a_value_has_its_parts_once, printed_texts_have_their_parts};
 use elasticlunr_lang::Language;
+use elasticlunr_text::laws::a_run_has_one_answer;
 use elasticlunr_text::pipeline::Pipeline;
 use elasticlunr_trie::InvertedIndex;
 use serde_json::Value;
@@ -47,68 +50,125 @@ pub struct Searcher<L> {
 }
 
 impl<L: Language> Searcher<L> {
-    ghost use Rattle.elasticlunr_search.specs.Standing.{fields_of, kept_texts, AreFound, AreFoundInFields, AreFoundInTexts, AreFoundInTrie, AreFoundInTries, HasFieldsOf, HasPartsOf, LacksFieldOf, Speaks, StandsFor};
+    ghost use Rattle.elasticlunr_search.specs.Standing.{fields_of, kept_texts, AreFound, AreFoundAsChosen, AreFoundInFields, AreFoundInTexts, AreFoundInTrie, AreFoundInTries, AreFoundOfTokens, AreFoundWithinFields, AreFoundWithinTries, AreTriesOf, FindsTokens, HasFieldsOf, HasPartsOf, IsChosen, LacksFieldOf, Searches, Speaks, StandsFor};
 
     /// Reads the printed text of an index, in any layout, once. The index must have been built with
-    /// this language: a text that names another one is refused, and one that names none is read.
+    /// this language and its pipeline: a text that names another language or other stages is refused,
+    /// and one that names no language is read.
     pub fn read(alloc: Global, language: L, text: &str) -> Result<Searcher<L>, SearchError>
         ensures stands { IfOk result (λ s. (plan : Plan) (commands : Commands)
             → IsPrintOf plan commands text.now
             → StandsFor L.leaves_of leaves s language plan commands) }
         ensures speaks { IfOk result (λ s. Speaks L.leaves_of leaves s language) }
         ensures parts { IfOk result (λ s. (v : Data) × (read text.now ≡ Some v) × HasPartsOf v s) }
-        ensures refused { IfErr result (Refuses (L.name_of language) text.now) }
-        ensures accepted { IfErr result (RefusesPrint (L.name_of language) text.now) }
-        ensures other { (v : Data) → read text.now ≡ Some v → NamesOther (L.name_of language) v
-            → (result ≡ Err OtherLanguage) ⊎ (result ≡ Err Memory) }
+        ensures refused { IfErr result (Refuses (L.name_of language) (L.stages_of language) text.now) }
+        ensures accepted { IfErr result (RefusesPrint (L.name_of language) (L.stages_of language) text.now) }
+        ensures other { (v : Data) → read text.now ≡ Some v
+            → RefusesOthers (L.name_of language) (L.stages_of language) v result }
+    {
+        let empty = Pipeline {
+            queue: Vec::new(alloc),
+        };
+        let pipeline = language.make_pipeline(alloc, empty)?;
+        Searcher::with_pipeline(alloc, language, pipeline, text)
+    }
+
+    /// The same by this pipeline in place of the language's, with which the index must have been
+    /// built (`IndexBuilder::with_pipeline`): a text that names other stages is refused.
+    pub fn with_pipeline(
+        alloc: Global,
+        language: L,
+        pipeline: Pipeline,
+        text: &str,
+    ) -> Result<Searcher<L>, SearchError>
+        ensures stands { IfOk result (λ s. (plan : Plan) (commands : Commands)
+            → IsPrintOf plan commands text.now → Searches s plan commands) }
+        ensures chosen { IfOk result (λ s. IsChosen s language pipeline) }
+        ensures parts { IfOk result (λ s. (v : Data) × (read text.now ≡ Some v) × HasPartsOf v s) }
+        ensures refused { IfErr result (Refuses (L.name_of language) (names_by name_text pipeline) text.now) }
+        ensures accepted { IfErr result (RefusesPrint (L.name_of language) (names_by name_text pipeline) text.now) }
+        ensures other { (v : Data) → read text.now ≡ Some v
+            → RefusesOthers (L.name_of language) (names_by name_text pipeline) v result }
     {
         a_value_has_its_parts_once();
         printed_texts_have_their_parts();
-        let name = language.name(alloc)?;
-        if let Some(index) = make_anew(alloc, text)? {
-            if index.language == name {
-                return Searcher::of_printed(alloc, language, index.printed);
-            }
-            return Err(SearchError::OtherLanguage);
-        }
-        let value = value_of(alloc, text)?;
-        Searcher::from_value(alloc, language, &value)
+        let source = Source::of_text(alloc, text)?;
+        Searcher::of_source(alloc, language, pipeline, source)
     }
 
-    /// The same from the value of the text.
+    /// The same as `read` from the value of the text.
     pub fn from_value(alloc: Global, language: L, value: &Value) -> Result<Searcher<L>, SearchError>
         ensures stands { IfOk result (λ s. (plan : Plan) (commands : Commands) (text : List ℕ)
             → read text ≡ Some (view value.now) → IsPrintOf plan commands text
             → StandsFor L.leaves_of leaves s language plan commands) }
         ensures speaks { IfOk result (λ s. Speaks L.leaves_of leaves s language) }
         ensures parts { IfOk result (HasPartsOf (view value.now)) }
-        ensures refused { IfErr result (RefusesValue (L.name_of language) (view value.now)) }
-        ensures other { NamesOther (L.name_of language) (view value.now)
-            → (result ≡ Err OtherLanguage) ⊎ (result ≡ Err Memory) }
+        ensures refused { IfErr result (RefusesValue (L.name_of language) (L.stages_of language) (view value.now)) }
+        ensures other { RefusesOthers (L.name_of language) (L.stages_of language) (view value.now) result }
     {
         printed_texts_have_their_parts();
         let name = language.name(alloc)?;
         if names_other(name.as_str(), value) {
             return Err(SearchError::OtherLanguage);
         }
-        let printed = Printed::of_value(alloc, value)?;
-        Searcher::of_printed(alloc, language, printed)
-    }
-
-    /// A searcher of these parts.
-    pub(crate) fn of_printed(
-        alloc: Global,
-        language: L,
-        printed: Printed,
-    ) -> Result<Searcher<L>, SearchError>
-        ensures printed { IfOk result (λ s. s.printed ≡ printed) }
-        ensures speaks { IfOk result (λ s. Speaks L.leaves_of leaves s language) }
-        ensures memory { IfErr result (λ e. e ≡ Memory) }
-    {
-        let empty = Pipeline {
+        let bare = Pipeline {
             queue: Vec::new(alloc),
         };
-        let pipeline = language.make_pipeline(alloc, empty)?;
+        let pipeline = language.make_pipeline(alloc, bare)?;
+        let stages = pipeline.names(alloc)?;
+        if !has_stages(alloc, &stages, value)? {
+            return Err(SearchError::OtherPipeline);
+        }
+        let printed = Printed::of_value(alloc, value)?;
+        Ok(Searcher {
+            alloc,
+            language,
+            pipeline,
+            printed,
+        })
+    }
+
+    /// A searcher of an index that was read, by its language and its language's pipeline.
+    pub(crate) fn from_source(
+        alloc: Global,
+        language: L,
+        source: Source,
+    ) -> Result<Searcher<L>, SearchError>
+        ensures speaks { IfOk result (λ s. Speaks L.leaves_of leaves s language) }
+        ensures parts { IfOk result (λ s. (v : Data) → IsSource source v → HasPartsOf v s) }
+        ensures refused { IfErr result (λ e. (v : Data) → IsSource source v
+            → RefusesValue (L.name_of language) (L.stages_of language) v e) }
+    {
+        let blank = Pipeline {
+            queue: Vec::new(alloc),
+        };
+        let pipeline = language.make_pipeline(alloc, blank)?;
+        Searcher::of_source(alloc, language, pipeline, source)
+    }
+
+    /// A searcher of an index that was read, by this language and this pipeline.
+    fn of_source(
+        alloc: Global,
+        language: L,
+        pipeline: Pipeline,
+        source: Source,
+    ) -> Result<Searcher<L>, SearchError>
+        ensures chosen { IfOk result (λ s. IsChosen s language pipeline) }
+        ensures parts { IfOk result (λ s. (v : Data) → IsSource source v → HasPartsOf v s) }
+        ensures refused { IfErr result (λ e. (v : Data) → IsSource source v
+            → RefusesValue (L.name_of language) (names_by name_text pipeline) v e) }
+        ensures other { (v : Data) → IsSource source v
+            → RefusesOthers (L.name_of language) (names_by name_text pipeline) v result }
+    {
+        let name = language.name(alloc)?;
+        if source.names_other(name.as_str()) {
+            return Err(SearchError::OtherLanguage);
+        }
+        let stages = pipeline.names(alloc)?;
+        if !source.has_stages(alloc, &stages)? {
+            return Err(SearchError::OtherPipeline);
+        }
+        let printed = source.into_printed(alloc)?;
         Ok(Searcher {
             alloc,
             language,
@@ -132,6 +192,8 @@ impl<L: Language> Searcher<L> {
         ensures found { IfOk result (λ found. AreFoundInTexts L.tokens_of L.leaves_of leaves self.now
             join field.now query.now (bytes_of found.items)) }
         ensures in_trie { IfOk result (λ found. AreFoundInTrie L.tokens_of L.leaves_of leaves self.now
+            join field.now query.now (bytes_of found.items)) }
+        ensures as_chosen { IfOk result (λ found. AreFoundAsChosen L.tokens_of L.leaves_of leaves self.now
             join field.now query.now (bytes_of found.items)) }
     {
         documents_have_the_tokens_of_their_values::<L>();
@@ -166,7 +228,29 @@ impl<L: Language> Searcher<L> {
         Ok(found)
     }
 
-    /// `find_in` of the field of this name, or else of all fields.
+    /// The references whose current document has each of the query's tokens, of which there is one
+    /// at least, in one or more of these fields: one token in a title and another one in a body, too.
+    /// Each once, in the order of their bytes. It costs the postings of the first token in each of
+    /// the fields, and for each of these the look-ups of the others.
+    pub fn find_across(&self, fields: &[&str], query: &str) -> Result<Vec<String>, SearchError>
+        ensures no_field { result ≡ Err NoSuchField → LacksFieldOf self.now (borrowed fields.now) }
+        ensures has_fields { OnOk result (HasFieldsOf self.now (borrowed fields.now)) }
+        ensures errors { IfErr result (λ e. (e ≡ NoSuchField) ⊎ (e ≡ Memory)) }
+        ensures found { IfOk result (λ found. AreFoundWithinFields L.tokens_of L.leaves_of leaves self.now
+            Join.All (borrowed fields.now) query.now (bytes_of found.items)) }
+        ensures in_tries { IfOk result (λ found. AreFoundWithinTries L.tokens_of L.leaves_of leaves self.now
+            Join.All (borrowed fields.now) query.now (bytes_of found.items)) }
+    {
+        postings_tell_tokens();
+        documents_have_the_tokens_of_their_values::<L>();
+        let tries = self.tries(fields)?;
+        let tokens = self.tokens(query)?;
+        let found = find_all_among(self.alloc, &tries, &tokens)?;
+        Ok(found)
+    }
+
+    /// What has one of the query's tokens, or each, in the field of this name, or else in one or
+    /// more of all fields.
     pub(crate) fn find_within(
         &self,
         join: Join,
@@ -178,19 +262,40 @@ impl<L: Language> Searcher<L> {
         ensures has_fields { OnOk result
             (HasFieldsOf self.now (asked_fields (option_map (λ f. f.now) field.entry) (fields_of self.now))) }
         ensures errors { IfErr result (λ e. (e ≡ NoSuchField) ⊎ (e ≡ Memory)) }
-        ensures found { IfOk result (λ found. AreFoundInFields L.tokens_of L.leaves_of leaves self.now
+        ensures found { IfOk result (λ found. AreFoundWithinFields L.tokens_of L.leaves_of leaves self.now
             join (asked_fields (option_map (λ f. f.now) field.entry) (fields_of self.now)) query.now
             (bytes_of found.items)) }
-        ensures in_tries { IfOk result (λ found. AreFoundInTries L.tokens_of L.leaves_of leaves self.now
+        ensures in_tries { IfOk result (λ found. AreFoundWithinTries L.tokens_of L.leaves_of leaves self.now
             join (asked_fields (option_map (λ f. f.now) field.entry) (fields_of self.now)) query.now
             (bytes_of found.items)) }
     {
         match field {
-            Some(field) => self.find_in(join, &[field], query),
+            Some(field) => self.find_joined(join, &[field], query),
             None => {
                 let names = texts_of(self.alloc, self.fields())?;
-                self.find_in(join, &names, query)
+                self.find_joined(join, &names, query)
             }
+        }
+    }
+
+    /// What has one of the query's tokens, or each, in one or more of these fields.
+    fn find_joined(
+        &self,
+        join: Join,
+        fields: &[&str],
+        query: &str,
+    ) -> Result<Vec<String>, SearchError>
+        ensures no_field { result ≡ Err NoSuchField → LacksFieldOf self.now (borrowed fields.now) }
+        ensures has_fields { OnOk result (HasFieldsOf self.now (borrowed fields.now)) }
+        ensures errors { IfErr result (λ e. (e ≡ NoSuchField) ⊎ (e ≡ Memory)) }
+        ensures found { IfOk result (λ found. AreFoundWithinFields L.tokens_of L.leaves_of leaves self.now
+            join (borrowed fields.now) query.now (bytes_of found.items)) }
+        ensures in_tries { IfOk result (λ found. AreFoundWithinTries L.tokens_of L.leaves_of leaves self.now
+            join (borrowed fields.now) query.now (bytes_of found.items)) }
+    {
+        match join {
+            Join::Any => self.find_in(join, fields, query),
+            Join::All => self.find_across(fields, query),
         }
     }
 
@@ -202,6 +307,8 @@ impl<L: Language> Searcher<L> {
         ensures found { IfOk result (λ found. AreFound L.tokens_of L.leaves_of leaves self.now FindsAny
             field.now query.now (bytes_of found.items)) }
         ensures in_trie { IfOk result (λ found. AreFoundInTrie L.tokens_of L.leaves_of leaves self.now Join.Any
+            field.now query.now (bytes_of found.items)) }
+        ensures as_chosen { IfOk result (λ found. AreFoundAsChosen L.tokens_of L.leaves_of leaves self.now Join.Any
             field.now query.now (bytes_of found.items)) }
     {
         postings_tell_tokens();
@@ -223,6 +330,8 @@ impl<L: Language> Searcher<L> {
             field.now query.now (bytes_of found.items)) }
         ensures in_trie { IfOk result (λ found. AreFoundInTrie L.tokens_of L.leaves_of leaves self.now Join.All
             field.now query.now (bytes_of found.items)) }
+        ensures as_chosen { IfOk result (λ found. AreFoundAsChosen L.tokens_of L.leaves_of leaves self.now Join.All
+            field.now query.now (bytes_of found.items)) }
     {
         postings_tell_tokens();
         let Some(trie) = self.trie(field) else {
@@ -231,6 +340,32 @@ impl<L: Language> Searcher<L> {
         let tokens = self.tokens(query)?;
         let found = find_all_in(self.alloc, trie, &tokens)?;
         Ok(found)
+    }
+
+    /// What `find` finds of tokens that the caller made of a query, by the tokenizer and the pipeline
+    /// that the field was built with. They are looked up as they stand. An empty token has no
+    /// posting, so with one `All` finds nothing.
+    pub fn find_tokens(
+        &self,
+        join: Join,
+        field: &str,
+        tokens: &[String],
+    ) -> Result<Vec<String>, SearchError>
+        ensures no_field { (result ≡ Err NoSuchField) ↔ (has_name field.now (fields_of self.now) ≡ false) }
+        ensures errors { IfErr result (λ e. (e ≡ NoSuchField) ⊎ (e ≡ Memory)) }
+        ensures found { IfOk result (λ found. AreFoundOfTokens self.now join field.now (texts_of tokens.now)
+            (bytes_of found.items)) }
+        ensures in_trie { IfOk result (λ found. FindsTokens self.now join field.now (texts_of tokens.now)
+            (bytes_of found.items)) }
+    {
+        postings_tell_tokens();
+        let Some(trie) = self.trie(field) else {
+            return Err(SearchError::NoSuchField);
+        };
+        match join {
+            Join::Any => Ok(find_any_in(self.alloc, trie, tokens)?),
+            Join::All => Ok(find_all_in(self.alloc, trie, tokens)?),
+        }
     }
 
     /// A copy of what is stored of the reference's current document: from the names of fields to
@@ -249,6 +384,23 @@ impl<L: Language> Searcher<L> {
         }
     }
 
+    /// The tries of the fields of these names, in order.
+    fn tries(&self, fields: &[&str]) -> Result<Vec<&InvertedIndex>, SearchError>
+        ensures no_field { result ≡ Err NoSuchField → LacksFieldOf self.now (borrowed fields.now) }
+        ensures has_fields { OnOk result (HasFieldsOf self.now (borrowed fields.now)) }
+        ensures errors { IfErr result (λ e. (e ≡ NoSuchField) ⊎ (e ≡ Memory)) }
+        ensures tries { IfOk result (λ tries. AreTriesOf self.now (borrowed fields.now) (tables_of tries.items)) }
+    {
+        let mut tries = Vec::new(self.alloc);
+        for field in fields {
+            let Some(trie) = self.trie(field) else {
+                return Err(SearchError::NoSuchField);
+            };
+            tries.push(trie)?;
+        }
+        Ok(tries)
+    }
+
     /// The trie of a field.
     fn trie(&self, field: &str) -> Option<&InvertedIndex>
         ensures there { IsSome result ↔ IsTrue (has_name field.now (fields_of self.now)) }
@@ -263,12 +415,16 @@ impl<L: Language> Searcher<L> {
 
     /// The tokens of a query.
     fn tokens(&self, query: &str) -> Result<Vec<String>, AllocError>
-        ensures { IfOk result (λ tokens. (i : ℕ)
+        ensures read { IfOk result (λ tokens. (i : ℕ)
             → LeavesBy leaves self.now.pipeline (L.leaves_of self.now.language)
             → AreTokensOf (LanguageReads (L.tokens_of self.now.language) (L.leaves_of self.now.language))
             i query.now (texts_of tokens.items)) }
+        ensures run { IfOk result (λ tokens. (i : ℕ)
+            → AreTokensOf (RunReads (L.tokens_of self.now.language) (IsRunBy leaves self.now.pipeline))
+            i query.now (texts_of tokens.items)) }
     {
         a_language_reads_what_its_pipeline_leaves(&self.language, &self.pipeline);
+        a_run_has_one_answer(&self.pipeline);
         let made = self.language.tokenize(self.alloc, query)?;
         let mut tokens = self.pipeline.run(self.alloc, made)?;
         tokens.retain(|token| !token.is_empty());

@@ -13,4 +13,6 @@ mod own_language;
 #[cfg(test)]
 mod pipelines;
 #[cfg(test)]
+mod search;
+#[cfg(test)]
 mod texts;

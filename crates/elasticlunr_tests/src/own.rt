@@ -9,7 +9,7 @@ use elasticlunr::lang::English;
 use elasticlunr::pipeline::{FnWrapper, Pipeline, PipelineFn, Stage};
 use elasticlunr::{ELASTICLUNR_VERSION, IndexBuilder, IndexError};
 use elasticlunr_own::{Tokenize, index_of_words, index_with_tokenizer, whole};
-use elasticlunr_site::search_index;
+use elasticlunr_site::{Page, search_index};
 use std::alloc::{AllocError, Global};
 use std::process::Abort;
 use std::test::Fail;
@@ -194,7 +194,11 @@ fn a_stage_and_a_language_work_together(rt: HostRuntime) -> Result<(), Fail> {
 
 #[test]
 fn a_version_stands_in_each_text(rt: HostRuntime) -> Result<(), Fail> {
-    let text = search_index(rt.alloc())?;
+    let page = Page {
+        address: "page.html",
+        texts: &["Titel", "Text"],
+    };
+    let text = search_index(rt.alloc(), &[page], &["draft.html"])?;
     assert_eq!(rt; ELASTICLUNR_VERSION, "0.9.5");
     assert!(rt; text.as_str().ends_with(r#","version":"0.9.5"}"#));
     Ok(())

@@ -63,14 +63,19 @@ module _ {f x p calls : _} (leaves : DynBox x Global p → List ℕ → Option (
       last (Some u) = refl
 
   -- one token more, of which a text is left
-  pub MayRun-kept : (stages : List (Stage f x p calls)) (tokens : List (List ℕ)) (kept more : List (String Global)) (t : List ℕ) (u : String Global) → MayRun leaves stages tokens (texts_of kept) → MayLeaveAll leaves stages t (Some (text_of u)) → more ≡ kept ++ u ∷ [] → MayRun leaves stages (tokens ++ t ∷ []) (texts_of more)
+  MayRun-kept : (stages : List (Stage f x p calls)) (tokens : List (List ℕ)) (kept more : List (String Global)) (t : List ℕ) (u : String Global) → MayRun leaves stages tokens (texts_of kept) → MayLeaveAll leaves stages t (Some (text_of u)) → more ≡ kept ++ u ∷ [] → MayRun leaves stages (tokens ++ t ∷ []) (texts_of more)
   MayRun-kept stages tokens kept more t u all one e =
       rw (e, map-append text_of kept (u ∷ [])) (MayRun-snoc stages tokens (texts_of kept) t (Some (text_of u)) all one)
 
   -- one token more, which is dropped
-  pub MayRun-dropped : (stages : List (Stage f x p calls)) (tokens : List (List ℕ)) (kept : List (String Global)) (t : List ℕ) → MayRun leaves stages tokens (texts_of kept) → MayLeaveAll leaves stages t None → MayRun leaves stages (tokens ++ t ∷ []) (texts_of kept)
+  MayRun-dropped : (stages : List (Stage f x p calls)) (tokens : List (List ℕ)) (kept : List (String Global)) (t : List ℕ) → MayRun leaves stages tokens (texts_of kept) → MayLeaveAll leaves stages t None → MayRun leaves stages (tokens ++ t ∷ []) (texts_of kept)
   MayRun-dropped stages tokens kept t all one =
       rw (← (append-nil (texts_of kept))) (MayRun-snoc stages tokens (texts_of kept) t None all one)
+
+  -- one token more, of which this is kept
+  pub MayRun-on : (stages : List (Stage f x p calls)) (tokens : List (List ℕ)) (kept more : List (String Global)) (t : List ℕ) (left : Option (String Global)) → MayRun leaves stages tokens (texts_of kept) → MayLeaveAll leaves stages t (option_map text_of left) → more ≡ kept ++ option_to_list left → MayRun leaves stages (tokens ++ t ∷ []) (texts_of more)
+  MayRun-on stages tokens kept more t (Some u) all one e = MayRun-kept stages tokens kept more t u all one e
+  MayRun-on stages tokens kept more t None all one e = rw (e, append-nil kept) (MayRun-dropped stages tokens kept t all one)
 
   -- the texts of one string more
   pub MayRun-strings : (stages : List (Stage f x p calls)) (tokens : List (String Global)) (t : String Global) (texts : List (List ℕ)) → MayRun leaves stages (texts_of tokens ++ text_of t ∷ []) texts → MayRun leaves stages (texts_of (tokens ++ t ∷ [])) texts

@@ -2,7 +2,7 @@
 use Rattle.elasticlunr_nodes.specs.Pairs.{key_at, IsStrictlySorted}
 use Rattle.elasticlunr_nodes.specs.Names.{Names}
 use Rattle.elasticlunr_trie.specs.Children.{Children, child}
-use Rattle.elasticlunr_nodes.specs.Nodes.{entries_of}
+use Rattle.elasticlunr_nodes.specs.Nodes.{entries_of, postings_at}
 use Rattle.elasticlunr_nodes.specs.Trie.{named, rank, children_at, step_of, walk, entries_at, IsTrie, table_of}
 use Rattle.std.proofs.Common.{◌≡◌, ◌≢◌, inl, inr, ℕ, zero, suc, ◌<◌, ◌≤◌, cond, true, false, Bool, ◌↔◌, List, [], ◌∷◌, length, map, get_or, Option, Some, None, IsSome, is_some, option_map, option_and_then, refl, sym, ap, subst, ◌∙◌, arith, eqb, ne_eqb}
 use mathlib.Core.Bool.{false≢true}
@@ -189,3 +189,15 @@ pub one_answer : (a b : Bool) (P : Type 0) → Decides a P → Decides b P → a
 one_answer true b P one two = sym (two.1 (one.0 refl))
 one_answer false true P one two = one.1 (two.0 refl)
 one_answer false false P one two = refl
+
+-- two children have the same character and the same postings
+abbrev pub IsSameChild : Names → List Node → Names → List Node → ℕ × ℕ → ℕ × ℕ → Type 0
+IsSameChild names nodes names2 nodes2 e e2 = (e.0 ≡ e2.0) × (named names (postings_at nodes e.1) ≡ named names2 (postings_at nodes2 e2.1))
+
+module _ (names : Names) (nodes : List Node) (names2 : Names) (nodes2 : List Node) where
+  pub moved_child : (a b a2 b2 : ℕ × ℕ) → a ≡ b → a2 ≡ b2 → IsSameChild names nodes names2 nodes2 a a2 → IsSameChild names nodes names2 nodes2 b b2
+  moved_child a b a2 b2 e e2 same = subst (λ x. IsSameChild names nodes names2 nodes2 x b2) e (subst (λ x. IsSameChild names nodes names2 nodes2 a x) e2 same)
+
+module _ (names : Names) (root : Children) (nodes : List Node) (names2 : Names) (root2 : Children) (nodes2 : List Node) where
+  pub moved_below : (k m k2 m2 : ℕ) → k ≡ m → k2 ≡ m2 → IsSameBelow names root nodes (At k) names2 root2 nodes2 (At k2) → IsSameBelow names root nodes (At m) names2 root2 nodes2 (At m2)
+  moved_below k m k2 m2 e e2 same = subst (λ x. IsSameBelow names root nodes (At x) names2 root2 nodes2 (At m2)) e (subst (λ x. IsSameBelow names root nodes (At k) names2 root2 nodes2 (At x)) e2 same)

@@ -1,5 +1,5 @@
 -- On the texts in a set, and those of postings.
-use Rattle.std.proofs.Common.{◌≡◌, ℕ, ◌+◌, ◌<◌, Bool, true, false, true≢false, cond, List, [], ◌∷◌, ◌++◌, ◌||◌, length, take, get_or, map, is_some, Option, Some, refl, sym, ap, ◌∙◌, bytes_eq, Less}
+use Rattle.std.proofs.Common.{◌≡◌, ℕ, zero, suc, ◌+◌, ◌<◌, Bool, true, false, true≢false, cond, List, [], ◌∷◌, ◌++◌, ◌||◌, length, take, get_or, map, is_some, Option, Some, Result, Ok, Err, OnErr, refl, sym, ap, ◌∙◌, bytes_eq, Less}
 use Rattle.std.proofs.lemmas.List.{map-append}
 use Rattle.std.proofs.lemmas.Slice.Eq.{bytes_eq-Decides}
 use Rattle.std.specs.Borrow.{Bor}
@@ -97,6 +97,31 @@ listed_found (e ∷ es) r = ap (λ b. b || is_listed r (map (λ e. e.0) es)) (sy
 
 pub names_posted : (names : Names) → AreNames names → (pairs : Pairs) → ArePostings names pairs → (r : Bytes) → is_listed r (names_among names pairs) ≡ is_some (get (named_pairs names pairs) r)
 names_posted names are pairs postings r = listed_found (under_names names pairs) r ∙ ap is_some (sym (get_pairs_named names are pairs postings r))
+
+-- the names of the first postings are among those of all
+pub among_all : (names : Names) (pairs : Pairs) (i : ℕ) (r : Bytes) → is_listed r (names_among names (take i pairs)) ≡ true → is_listed r (names_among names pairs) ≡ true
+among_all names pairs zero r h = absurd (true≢false (sym h))
+among_all names [] (suc i) r h = absurd (true≢false (sym h))
+among_all names (e ∷ pairs) (suc i) r h = by (bytes_eq r (get_or names e.0 [])) _ _ (among_all names pairs i r) h
+  where
+    by : (b a c : Bool) → (a ≡ true → c ≡ true) → (b || a) ≡ true → (b || c) ≡ true
+    by true a c f h = refl
+    by false a c f h = f h
+
+-- a fact holds where there is an error
+pub on_err : {T E : Type 0} (r : Result T E) (P : Type 0) → P → OnErr r P
+on_err (Ok x) P p = tt
+on_err (Err e) P p = p
+
+-- what is listed of a is listed
+pub or_keeps : (a b c : Bool) → c ≡ (a || b) → a ≡ true → c ≡ true
+or_keeps true b c e h = e
+or_keeps false b c e h = absurd (true≢false (sym h))
+
+-- what is listed is of a, or of what b is of
+pub or_more : (a b c d : Bool) → c ≡ (a || b) → (b ≡ true → d ≡ true) → c ≡ true → (a || d) ≡ true
+or_more true b c d e f h = refl
+or_more false b c d e f h = f (sym e ∙ h)
 
 -- nothing more is listed
 pub or_none : (a : Bool) → a ≡ (a || false)

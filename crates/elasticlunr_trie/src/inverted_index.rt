@@ -26,6 +26,7 @@ mod write;
 use add::add_posting;
 use elasticlunr_error::IndexError;
 use elasticlunr_json::set_member;
+use elasticlunr_nodes::child::Child;
 use elasticlunr_nodes::docs::copy_docs;
 use elasticlunr_nodes::names::Names;
 use elasticlunr_nodes::nodes::{Node, Place, Reference, find, find_frequency, find_postings};
@@ -51,19 +52,19 @@ use value::tree_value;
 /// when their postings go, until the trie is compacted.
 ///
 /// The nodes stand in one vector, and name their children by number. Each is the child of exactly
-/// one: of the root, or of a node of a lower number. So a trie is dropped without recursion, and a
-/// text is looked up by halves at each of its characters. A reference has a number, under which its
-/// postings stand; its name is kept once. A name may stay when its postings go, until the trie is
-/// compacted; no call shows it.
+/// one: of the root, or of a node of a lower number. So a trie is dropped without recursion. At each
+/// character of a text up to 16 children are scanned from the first, and more of them are searched
+/// by binary search. A reference has a number, under which its postings stand; its name is kept
+/// once. A name may stay when its postings go, until the trie is compacted; no call shows it.
 ///
 /// A node takes 32 bytes, and more where it has several children or several postings. A token of up
 /// to 27 bytes that came when it was known already, for the second time or as the beginning of
 /// another one, is remembered with its node, if a slot is free for it: a slot takes 32 bytes, and at
-/// most three of four are taken. A number of a node or of a reference has 32 bits: a call that would
-/// make more of them fails as where memory is wanting.
+/// most three of four are taken. There are numbers for 2^43 nodes and 2^48 references, more than
+/// memory has room for: a call that would make more of them fails as where memory is refused.
 #[derive(Drop)]
 pub struct InvertedIndex {
-    root: Vec<(char, u32)>,
+    root: Vec<Child>,
     nodes: Vec<Node>,
     names: Names,
     references: Vec<Reference>,
@@ -108,9 +109,11 @@ impl InvertedIndex {
     /// Sets the posting of a token, which makes its beginnings known. The empty token changes
     /// nothing.
     ///
-    /// Where memory is wanting, the table stays as it was. The work is in proportion to the token;
-    /// the reference is looked up among all names unless it is the newest one, and by halves among
-    /// the postings of the token.
+    /// Where memory is refused, the table stays as it was. What changes then is shown by no call:
+    /// the reference may have a number, or a node in its list, without a posting, and no token is
+    /// remembered. The work is in proportion to the token; the reference is looked up among all
+    /// names unless it is the one that was entered last, and by binary search among the postings of
+    /// the token unless it is newer than all of them.
     pub fn add_token(
         &mut self,
         doc_ref: &str,

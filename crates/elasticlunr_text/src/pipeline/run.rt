@@ -1,6 +1,6 @@
 //! Pipelines of stages.
-ghost use Rattle.std.specs.Prelude.{◌≡◌, ◌++◌, ◌∷◌, [], List, IfOk, OnOk, option_map};
-ghost use Rattle.elasticlunr_text.specs.Text.{Text, text_of, texts_of, bytes_of};
+ghost use Rattle.std.specs.Prelude.{◌≡◌, IfOk, OnOk, OnErr, option_map};
+ghost use Rattle.elasticlunr_text.specs.Text.{text_of, texts_of, bytes_of};
 
 use super::stage::Stage;
 use std::alloc::{AllocError, Global};
@@ -13,7 +13,7 @@ pub struct Pipeline {
 }
 
 impl Pipeline {
-    ghost use Rattle.elasticlunr_text.specs.Stages.{IsRun, names_of};
+    ghost use Rattle.elasticlunr_text.specs.Stages.{IsRun, IsRunOn, names_of};
     ghost use Rattle.elasticlunr_text.specs.Filtered.{MayFilterTo};
 
     /// The names of the stages, in order, as a printed index lists them.
@@ -41,16 +41,16 @@ impl Pipeline {
         Ok(Some(token))
     }
 
-    /// Puts what the stages leave of one more token behind what they left of others. A token that a
-    /// stage drops is gone; one that a stage empties stays.
+    /// Puts what the stages leave of one more token after what was kept of others. A token that a
+    /// stage drops adds nothing; one that a stage empties is added.
     pub fn run_on(
         &self,
         alloc: Global,
         token: String,
         kept: &mut Vec<String>,
     ) -> Result<(), AllocError>
-        ensures { OnOk result ((tokens : List Text) → IsRun leaves self.now tokens (texts_of kept.old.items)
-            → IsRun leaves self.now (tokens ++ text_of token ∷ []) (texts_of kept.new.items)) }
+        ensures ok { OnOk result (IsRunOn leaves self.now (text_of token) kept.old.items kept.new.items) }
+        ensures err { OnErr result (kept.new.items ≡ kept.old.items) }
     {
         if let Some(left) = self.filter(alloc, token)? {
             kept.push(left)?;

@@ -11,6 +11,7 @@ ghost use Rattle.elasticlunr_nodes.specs.NodeTables.{node_table, AddsBelow};
 ghost use Rattle.elasticlunr_nodes.specs.Starts.{IsStart, KeepsPaths};
 
 use elasticlunr_nodes::branch::{attach, locate, new_branch};
+use elasticlunr_nodes::child::Child;
 use elasticlunr_nodes::lists::{list_new, list_node};
 use elasticlunr_nodes::names::Names;
 use elasticlunr_nodes::nodes::{Node, Place, Reference, postings_at};
@@ -57,7 +58,7 @@ fn set_posting(
 // Puts a path below a place, whose end has a posting.
 fn grow(
     alloc: Global,
-    root: &mut Vec<(char, u32)>,
+    root: &mut Vec<Child>,
     nodes: &mut Vec<Node>,
     names: &mut Names,
     references: &mut Vec<Reference>,
@@ -89,7 +90,7 @@ fn grow(
 // Sets the posting of a token. The paths that were there stay.
 pub(super) fn add_posting(
     alloc: Global,
-    root: &mut Vec<(char, u32)>,
+    root: &mut Vec<Child>,
     nodes: &mut Vec<Node>,
     names: &mut Names,
     references: &mut Vec<Reference>,

@@ -14,9 +14,10 @@ ghost use Rattle.elasticlunr_trie.specs.Compact.{AreNumbers, kept_children, HasF
 use super::InvertedIndex;
 use super::ends::Ends;
 use elasticlunr_error::IndexError;
+use elasticlunr_nodes::child::Child;
 use elasticlunr_nodes::few::Few;
 use elasticlunr_nodes::names::Names;
-use elasticlunr_nodes::nodes::{Children, Node, Reference, short_number};
+use elasticlunr_nodes::nodes::{Children, Node, Reference};
 use elasticlunr_nodes::numbered::renumber;
 use std::alloc::{AllocError, Global};
 
@@ -51,10 +52,10 @@ impl InvertedIndex {
 // The children and the nodes from which a posting is reached, numbered anew, with the names that their postings have.
 fn compact(
     alloc: Global,
-    root: &[(char, u32)],
+    root: &[Child],
     nodes: &[Node],
     names: &Names,
-) -> Result<(Vec<(char, u32)>, Vec<Node>, Names, Vec<Reference>), AllocError>
+) -> Result<(Vec<Child>, Vec<Node>, Names, Vec<Reference>), AllocError>
     requires trie { IsTrie root.now nodes.now }
     requires parents { HaveOneParent (step_of root.now nodes.now) (length nodes.now) }
     requires names { AreNames names.now }
@@ -125,13 +126,14 @@ fn bears_posting(node: &Node, marks: &[bool]) -> bool
 }
 
 // Is one of the children marked?
-fn has_marked(children: &[(char, u32)], marks: &[bool]) -> bool
+fn has_marked(children: &[Child], marks: &[bool]) -> bool
     requires sorted { IsStrictlySorted children.now }
     requires in_range { (c : ℕ) (k : ℕ) → child children.now c ≡ Some k → k < length marks.now }
     ensures { IsTrue result ↔ HasMarked marks.now children.now }
 {
-    for &(_, k) in children {
-        if marks[k as usize] {
+    for child in children {
+        let k = child.node();
+        if marks[k] {
             return true;
         }
     }
@@ -156,7 +158,7 @@ fn new_numbers(alloc: Global, marks: &[bool]) -> Result<Vec<usize>, AllocError>
 // The marked children, under their new numbers.
 fn keep_children(
     alloc: Global,
-    children: &[(char, u32)],
+    children: &[Child],
     marks: &[bool],
     numbers: &[usize],
 ) -> Result<Children, AllocError>
@@ -166,11 +168,13 @@ fn keep_children(
     ensures { IfOk result (λ kept. kept.items ≡ kept_children marks.now children.now) }
 {
     let mut kept = Few::new(alloc);
-    for &(c, k) in children {
-        if !marks[k as usize] {
+    for child in children {
+        let k = child.node();
+        if !marks[k] {
             continue;
         }
-        kept.push((c, short_number(numbers[k as usize])?))?;
+        let renumbered = Child::new(child.character(), numbers[k])?;
+        kept.push(renumbered)?;
     }
     Ok(kept)
 }

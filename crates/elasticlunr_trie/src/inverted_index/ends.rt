@@ -7,7 +7,8 @@ ghost use Rattle.elasticlunr_nodes.specs.Trie.{Step, step_of, walk};
 ghost use Rattle.elasticlunr_nodes.specs.declared.nodes.Place.TheVariants.{Root, At};
 ghost use Rattle.elasticlunr_trie.specs.Ends.{AreEnds, IsEnd};
 
-use elasticlunr_nodes::nodes::{Node, Place, short_number};
+use elasticlunr_nodes::child::Child;
+use elasticlunr_nodes::nodes::{Node, Place};
 use elasticlunr_nodes::start::Start;
 use std::alloc::{AllocError, Global};
 
@@ -175,7 +176,7 @@ fn twice_as_many(alloc: Global, slots: &[End]) -> Result<Vec<End>, AllocError>
 
 // A token at its end, where that is remembered, and else at the root.
 pub(super) fn begin<'a>(
-    root: &[(char, u32)],
+    root: &[Child],
     nodes: &[Node],
     ends: &Ends,
     token: &'a str,
@@ -196,10 +197,10 @@ pub(super) fn begin<'a>(
     }
 }
 
-// Remembers where a token leads, if it is known.
+// Remembers where a token leads, if it is known and the number of the node has 32 bits.
 pub(super) fn remember(
     alloc: Global,
-    root: &[(char, u32)],
+    root: &[Child],
     nodes: &[Node],
     ends: &mut Ends,
     start: Start<'_>,
@@ -211,8 +212,11 @@ pub(super) fn remember(
     if !start.rest.is_empty() {
         return Ok(());
     }
-    if let Place::At(k) = start.place {
-        ends.put(alloc, start.token, short_number(k)?)?;
-    }
-    Ok(())
+    let Place::At(k) = start.place else {
+        return Ok(());
+    };
+    let Ok(node) = u32::try_from(k) else {
+        return Ok(());
+    };
+    ends.put(alloc, start.token, node)
 }

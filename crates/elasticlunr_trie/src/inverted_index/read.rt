@@ -13,9 +13,10 @@ ghost use Rattle.std.specs.Str.{all_scalars};
 ghost use Rattle.elasticlunr_nodes.specs.Trie.{IsIndex, table_of};
 
 use elasticlunr_error::IndexError;
+use elasticlunr_nodes::child::Child;
 use elasticlunr_nodes::few::Few;
 use elasticlunr_nodes::names::Names;
-use elasticlunr_nodes::nodes::{Children, Node, Reference, short_number};
+use elasticlunr_nodes::nodes::{Children, Node, Reference};
 use elasticlunr_nodes::numbered::number_docs;
 use serde_json::{Map, Value};
 use std::alloc::Global;
@@ -100,7 +101,8 @@ fn read_children<'a>(
         let Some(c) = only_char(key.as_str()) else {
             return Err(IndexError::ForeignValue);
         };
-        children.push((c, short_number(waiting.len())?))?;
+        let child = Child::new(c, waiting.len())?;
+        children.push(child)?;
         waiting.push(value)?;
     }
     Ok(children)
@@ -146,7 +148,7 @@ pub(super) fn read_nodes(
     value: &Value,
     names: &mut Names,
     references: &mut Vec<Reference>,
-) -> Result<(Vec<(char, u32)>, Vec<Node>), IndexError>
+) -> Result<(Vec<Child>, Vec<Node>), IndexError>
     requires { names.old ≡ [] }
     ensures index { IfOk result (λ t. IsIndex t.0.items t.1.items names.new references.new.items) }
     ensures tree { IfOk result (λ t. IsTree (table_of t.0.items t.1.items names.new) [] (view value.now)) }

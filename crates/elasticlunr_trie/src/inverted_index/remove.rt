@@ -5,9 +5,11 @@ ghost use Rattle.std.specs.FinMap.{get};
 ghost use Rattle.elasticlunr_nodes.specs.Nodes.{postings_at, has, AreListed, ClearsNumber, LosesNumber, LosesReference};
 ghost use Rattle.elasticlunr_nodes.specs.Trie.{IsTrie, RemovesPosting};
 
+use elasticlunr_nodes::child::Child;
 use elasticlunr_nodes::lists::unlist;
 use elasticlunr_nodes::names::Names;
 use elasticlunr_nodes::nodes::{Node, Place, Reference, find};
+use elasticlunr_nodes::number::Number;
 use std::alloc::Global;
 use std::mem;
 
@@ -20,13 +22,14 @@ fn clear_number(nodes: &mut Vec<Node>, k: usize, number: usize)
 }
 
 // Takes the postings of a reference away, at the nodes that it lists.
-fn remove_number(nodes: &mut Vec<Node>, list: &[u32], number: usize)
+fn remove_number(nodes: &mut Vec<Node>, list: &[Number], number: usize)
     requires { (k f : ℕ) → get (postings_at nodes.old.items k) number ≡ Some f → IsTrue (has list.now k) }
     ensures { LosesNumber nodes.old.items nodes.new.items number }
 {
-    for k in list {
-        if (*k as usize) < nodes.len() {
-            clear_number(nodes, *k as usize, number);
+    for node in list {
+        let at = node.get() as usize;
+        if at < nodes.len() {
+            clear_number(nodes, at, number);
         }
     }
 }
@@ -55,7 +58,7 @@ pub(super) fn remove_postings(
 
 // Takes the posting of a token away.
 pub(super) fn remove_posting(
-    root: &[(char, u32)],
+    root: &[Child],
     names: &Names,
     references: &mut Vec<Reference>,
     nodes: &mut Vec<Node>,

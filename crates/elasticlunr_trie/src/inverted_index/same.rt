@@ -7,6 +7,7 @@ ghost use Rattle.elasticlunr_nodes.specs.Nodes.{postings_at, AreAllNumbered};
 ghost use Rattle.elasticlunr_nodes.specs.Trie.{named, IsTrie};
 ghost use Rattle.elasticlunr_trie.specs.Same.{IsSameBelow};
 
+use elasticlunr_nodes::child::Child;
 use elasticlunr_nodes::names::Names;
 use elasticlunr_nodes::nodes::{Node, Place, children_at, frequency_of, postings_at};
 use elasticlunr_nodes::posting::Posting;
@@ -64,10 +65,10 @@ fn same_postings(names: &Names, postings: &Postings, names2: &Names, postings2: 
 fn same_child(
     names: &Names,
     nodes: &[Node],
-    child: (char, u32),
+    child: Child,
     names2: &Names,
     nodes2: &[Node],
-    child2: (char, u32),
+    child2: Child,
 ) -> bool
     requires names { AreNames names.now }
     requires numbered { AreAllNumbered names.now nodes.now }
@@ -78,14 +79,14 @@ fn same_child(
     ensures { IsTrue result ↔ ((child.0 ≡ child2.0)
         × (named names.now (postings_at nodes.now child.1) ≡ named names2.now (postings_at nodes2.now child2.1))) }
 {
-    if child.0 != child2.0 {
+    if child.character() != child2.character() {
         return false;
     }
     same_postings(
         names,
-        postings_at(nodes, child.1 as usize),
+        postings_at(nodes, child.node()),
         names2,
-        postings_at(nodes2, child2.1 as usize),
+        postings_at(nodes2, child2.node()),
     )
 }
 
@@ -93,11 +94,11 @@ fn same_child(
 // children, and comes back to the others, so a path without branches needs no stack.
 pub(super) fn same_below(
     names: &Names,
-    root: &[(char, u32)],
+    root: &[Child],
     nodes: &[Node],
     place: Place,
     names2: &Names,
-    root2: &[(char, u32)],
+    root2: &[Child],
     nodes2: &[Node],
     place2: Place,
 ) -> bool
@@ -122,26 +123,23 @@ pub(super) fn same_below(
         }
         let last = children.len() - 1;
         for i in 0..last {
-            if !same_child(names, nodes, children[i], names2, nodes2, children2[i]) {
+            let child = children[i];
+            let child2 = children2[i];
+            if !same_child(names, nodes, child, names2, nodes2, child2) {
                 return false;
             }
-            let below = Place::At(children[i].1 as usize);
-            let below2 = Place::At(children2[i].1 as usize);
+            let below = Place::At(child.node());
+            let below2 = Place::At(child2.node());
             if !same_below(names, root, nodes, below, names2, root2, nodes2, below2) {
                 return false;
             }
         }
-        if !same_child(
-            names,
-            nodes,
-            children[last],
-            names2,
-            nodes2,
-            children2[last],
-        ) {
+        let child = children[last];
+        let child2 = children2[last];
+        if !same_child(names, nodes, child, names2, nodes2, child2) {
             return false;
         }
-        here = Place::At(children[last].1 as usize);
-        here2 = Place::At(children2[last].1 as usize);
+        here = Place::At(child.node());
+        here2 = Place::At(child2.node());
     }
 }

@@ -13,6 +13,7 @@ ghost use Rattle.elasticlunr_trie.specs.Begun.{AreBegun};
 use super::add::add_posting;
 use super::ends::{Ends, begin, remember};
 use elasticlunr_nodes::branch::locate;
+use elasticlunr_nodes::child::Child;
 use elasticlunr_nodes::names::Names;
 use elasticlunr_nodes::nodes::{Node, Place, Reference, child, children_at};
 use elasticlunr_nodes::room::make_room;
@@ -24,7 +25,7 @@ use std::alloc::{AllocError, Global};
 const STEPS: usize = 5;
 
 // One character further, if there is a child under it.
-fn step<'a>(root: &[(char, u32)], nodes: &[Node], start: Start<'a>) -> Start<'a>
+fn step<'a>(root: &[Child], nodes: &[Node], start: Start<'a>) -> Start<'a>
     requires trie { IsTrie root.now nodes.now }
     requires start { IsStart (step_of root.now nodes.now) start }
     ensures start { IsStart (step_of root.now nodes.now) result }
@@ -46,7 +47,7 @@ fn step<'a>(root: &[(char, u32)], nodes: &[Node], start: Start<'a>) -> Start<'a>
 }
 
 // Each one character further.
-fn step_all(root: &[(char, u32)], nodes: &[Node], starts: &mut [Start<'_>])
+fn step_all(root: &[Child], nodes: &[Node], starts: &mut [Start<'_>])
     requires trie { IsTrie root.now nodes.now }
     requires starts { All (IsStart (step_of root.now nodes.now)) starts.old }
     ensures starts { All (IsStart (step_of root.now nodes.now)) starts.new }
@@ -61,7 +62,7 @@ fn step_all(root: &[(char, u32)], nodes: &[Node], starts: &mut [Start<'_>])
 }
 
 // To the end of what is known of the token.
-fn finish<'a>(root: &[(char, u32)], nodes: &[Node], start: Start<'a>) -> Start<'a>
+fn finish<'a>(root: &[Child], nodes: &[Node], start: Start<'a>) -> Start<'a>
     requires trie { IsTrie root.now nodes.now }
     requires start { IsStart (step_of root.now nodes.now) start }
     ensures start { IsStart (step_of root.now nodes.now) result }
@@ -77,7 +78,7 @@ fn finish<'a>(root: &[(char, u32)], nodes: &[Node], start: Start<'a>) -> Start<'
 }
 
 // Each to the end of what is known of it.
-fn finish_all(root: &[(char, u32)], nodes: &[Node], starts: &mut [Start<'_>])
+fn finish_all(root: &[Child], nodes: &[Node], starts: &mut [Start<'_>])
     requires trie { IsTrie root.now nodes.now }
     requires starts { All (IsStart (step_of root.now nodes.now)) starts.old }
     ensures starts { All (IsStart (step_of root.now nodes.now)) starts.new }
@@ -95,7 +96,7 @@ fn finish_all(root: &[(char, u32)], nodes: &[Node], starts: &mut [Start<'_>])
 // lead to its end at once.
 pub(super) fn starts_of<'a>(
     alloc: Global,
-    root: &[(char, u32)],
+    root: &[Child],
     nodes: &[Node],
     ends: &mut Ends,
     tokens: &[(&'a str, u64)],
@@ -120,7 +121,7 @@ pub(super) fn starts_of<'a>(
 // others are told.
 fn begun<'a>(
     alloc: Global,
-    root: &[(char, u32)],
+    root: &[Child],
     nodes: &[Node],
     ends: &Ends,
     tokens: &[(&'a str, u64)],
@@ -144,7 +145,7 @@ fn begun<'a>(
 // Remembers where the tokens of these numbers lead.
 fn remember_all(
     alloc: Global,
-    root: &[(char, u32)],
+    root: &[Child],
     nodes: &[Node],
     ends: &mut Ends,
     starts: &[Start<'_>],
@@ -165,7 +166,7 @@ fn remember_all(
 // Sets the posting of a token, unless it is empty.
 fn add_start(
     alloc: Global,
-    root: &mut Vec<(char, u32)>,
+    root: &mut Vec<Child>,
     nodes: &mut Vec<Node>,
     names: &mut Names,
     references: &mut Vec<Reference>,
@@ -190,7 +191,7 @@ fn add_start(
 // Sets the postings of tokens, one after the other.
 pub(super) fn add_starts(
     alloc: Global,
-    root: &mut Vec<(char, u32)>,
+    root: &mut Vec<Child>,
     nodes: &mut Vec<Node>,
     names: &mut Names,
     references: &mut Vec<Reference>,

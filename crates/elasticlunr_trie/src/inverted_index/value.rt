@@ -13,6 +13,7 @@ ghost use Rattle.elasticlunr_trie.specs.Tree.{frequencies, IsTree};
 ghost use Rattle.elasticlunr_trie.specs.Finished.{HasChildren, KeepsOtherValues, IsNode};
 
 use elasticlunr_json::{put_member, set_member};
+use elasticlunr_nodes::child::Child;
 use elasticlunr_nodes::docs::in_order;
 use elasticlunr_nodes::names::{NameTexts, Names};
 use elasticlunr_nodes::nodes::Node;
@@ -48,7 +49,7 @@ fn docs_value(
 fn put_children(
     alloc: Global,
     members: &mut Map<String, Value>,
-    children: &[(char, u32)],
+    children: &[Child],
     finished: &mut [Value],
 ) -> Result<(), AllocError>
     requires empty { members.old.entries ≡ [] }
@@ -58,10 +59,10 @@ fn put_children(
     ensures put { OnOk result (HasChildren children.now finished.old (members_view members.new.entries)) }
     ensures kept { OnOk result (KeepsOtherValues children.now finished.old finished.new) }
 {
-    for &(c, k) in children {
+    for child in children {
         let mut key = String::new(alloc);
-        key.push(c)?;
-        put_member(members, key, take_value(finished, k as usize))?;
+        key.push(child.character())?;
+        put_member(members, key, take_value(finished, child.node()))?;
     }
     Ok(())
 }
@@ -69,7 +70,7 @@ fn put_children(
 // The value of a node, which takes the finished values of its children.
 fn node_value(
     alloc: Global,
-    children: &[(char, u32)],
+    children: &[Child],
     docs: Value,
     df: u64,
     finished: &mut [Value],
@@ -108,7 +109,7 @@ fn set_value(values: &mut [Value], i: usize, value: Value)
 // The tree of the root, made from the last node to the first.
 fn root_value(
     alloc: Global,
-    root: &[(char, u32)],
+    root: &[Child],
     nodes: &[Node],
     names: &NameTexts,
     ranks: &[usize],
@@ -139,7 +140,7 @@ fn root_value(
 // The tree of the root.
 pub(super) fn tree_value(
     alloc: Global,
-    root: &[(char, u32)],
+    root: &[Child],
     nodes: &[Node],
     names: &Names,
 ) -> Result<Value, AllocError>

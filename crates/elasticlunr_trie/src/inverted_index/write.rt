@@ -15,6 +15,7 @@ ghost use Rattle.elasticlunr_json.specs.Tokens.{tokens_of};
 
 use super::InvertedIndex;
 use elasticlunr_json::{Token, Tokens};
+use elasticlunr_nodes::child::Child;
 use elasticlunr_nodes::docs::in_order;
 use elasticlunr_nodes::names::NameTexts;
 use elasticlunr_nodes::nodes::{Node, Place, children_of, postings_at};
@@ -25,8 +26,8 @@ use std::alloc::{AllocError, Global};
 // place.
 #[derive(Clone, Copy)]
 enum Left<'a> {
-    WithPostings(Place, &'a [(char, u32)]),
-    WithoutPostings(&'a [(char, u32)]),
+    WithPostings(Place, &'a [Child]),
+    WithoutPostings(&'a [Child]),
 }
 
 // The names of references, and for each the place of its name among the names in order.
@@ -61,7 +62,7 @@ impl InvertedIndex {
 // Writes the tree of the root under its key.
 fn write_trie<W: Tokens>(
     order: Order,
-    root: &[(char, u32)],
+    root: &[Child],
     nodes: &[Node],
     out: &mut W,
 ) -> Result<(), AllocError>
@@ -82,7 +83,7 @@ fn write_trie<W: Tokens>(
 // Writes the members of the root's tree, and the end of the object.
 fn write_members<W: Tokens>(
     order: Order,
-    root: &[(char, u32)],
+    root: &[Child],
     nodes: &[Node],
     out: &mut W,
 ) -> Result<(), AllocError>
@@ -119,9 +120,9 @@ fn write_next<'a, W: Tokens>(
 {
     match left {
         Left::WithPostings(place, children) => match children.split_first() {
-            Some((&(c, k), rest)) if c <= 'd' => {
+            Some((child, rest)) if child.character() <= 'd' => {
                 stack.push(Left::WithPostings(place, rest))?;
-                open_child(nodes, c, k as usize, stack, out)?;
+                open_child(nodes, *child, stack, out)?;
                 Ok(())
             }
             _ => {
@@ -131,9 +132,9 @@ fn write_next<'a, W: Tokens>(
             }
         },
         Left::WithoutPostings(children) => match children.split_first() {
-            Some((&(c, k), rest)) => {
+            Some((child, rest)) => {
                 stack.push(Left::WithoutPostings(rest))?;
-                open_child(nodes, c, k as usize, stack, out)?;
+                open_child(nodes, *child, stack, out)?;
                 Ok(())
             }
             None => {
@@ -147,17 +148,17 @@ fn write_next<'a, W: Tokens>(
 // Writes the key of a child and the beginning of its object, whose members are left.
 fn open_child<'a, W: Tokens>(
     nodes: &'a [Node],
-    c: char,
-    k: usize,
+    child: Child,
     stack: &mut Vec<Left<'a>>,
     out: &mut W,
 ) -> Result<(), AllocError>
     ensures written { OnOk result (W.Tokens.written out.new ≡ W.Tokens.written out.old
-        ++ key (encode_utf8 c) ∷ begin_object ∷ []) }
+        ++ key (encode_utf8 child.0) ∷ begin_object ∷ []) }
     ensures left { OnOk result ((names : Names) → stack_tokens names nodes.now stack.new.items
-        ≡ tokens_of (node_members names nodes.now k) ++ stack_tokens names nodes.now stack.old.items) }
+        ≡ tokens_of (node_members names nodes.now child.1) ++ stack_tokens names nodes.now stack.old.items) }
 {
-    write_child_key(c, out)?;
+    write_child_key(child.character(), out)?;
+    let k = child.node();
     stack.push(Left::WithPostings(Place::At(k), children_of(nodes, k)))?;
     Ok(())
 }

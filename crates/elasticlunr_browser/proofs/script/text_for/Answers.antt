@@ -1,6 +1,7 @@
 use Rattle.std.proofs.Common.{◌∙◌, ◌++◌, ap, map}
 use Rattle.serde_json.specs.View.{view}
 use Rattle.elasticlunr_browser.specs.declared.template.TheConstants.{HEAD, TAIL}
+use Rattle.elasticlunr_browser.proofs.FloatLemmas.{none-facts}
 use Rattle.elasticlunr_browser.proofs.script.text_for.Goals as goal
 
 pub returns : goal.returns
@@ -9,5 +10,6 @@ returns c = (
   view c.in_ok-known.known,
   c.in_ok-stages.ensures,
   c.in_ok-known.ensures,
-  λ exact. c.in_ok-text.ensures ∙ ap (λ bs. HEAD.now ++ bs ++ TAIL.now) (c.as_str.ensures.value ∙ c.in_ok-printed.ensures.text exact),
+  c.in_ok-text.ensures ∙ ap (λ bs. HEAD.now ++ bs ++ TAIL.now) (c.as_str.ensures.value
+      ∙ c.in_ok-printed.ensures.text (none-facts c.args.chosen.now (map view c.in_ok-stages.stages.items) (view c.in_ok-known.known) c.in_ok-stages.ensures c.in_ok-known.ensures)),
 )

@@ -1,10 +1,13 @@
-use Rattle.std.proofs.Common.{sym, ap, ◌∙◌}
-use Rattle.elasticlunr_parse.proofs.Readings.{reading_some}
+use Rattle.std.proofs.Common.{sym, ap, subst, ◌∙◌}
 use Rattle.serde_json.specs.Read.{read}
+use Rattle.elasticlunr_parse.proofs.Readings.{reading_some}
+use Rattle.elasticlunr_text.specs.Text.{Bytes}
+use Rattle.elasticlunr_message.specs.Script.{IsIndexIn}
 use Rattle.elasticlunr_command.proofs.search.found_lines.Goals as goal
 
-pub returns-in-Some : goal.returns-in-Some
-returns-in-Some c =
-    let found = rw c.in-Some.is at c.in_ok-lines.ensures in
+pub returns-in-Ok-lines_found : goal.returns-in-Ok-lines_found
+returns-in-Ok-lines_found c =
+    let found = c.in-Ok-lines_found.ensures.found in
     let text = c.in-Ok.ensures.cases in
-    (found.0, reading_some c.args.text.now found.0 text.1 (ap read (sym text.0) ∙ found.1), found.2)
+    let index = c.index_in-index.result.now in
+    (index, found.0, subst (λ (whole : Bytes). IsIndexIn whole index) c.without_mark-whole.ensures c.index_in-index.ensures, reading_some index found.0 text.1 (ap read (sym text.0) ∙ found.1), found.2)

@@ -24,7 +24,7 @@ returns-clause-place c =
     let text = c.args.text.now in
     let d = view c.in_ok-value.value in
     let fails = subst (StopsWithReason (IsRefusedWith settings d)) c.in-Err-Refused.field-0-is c.in-Err-Refused.ensures.err in
-    some_for (IsPlaceInJob text d c.in-Err-Refused.refusal) (IsInputPlace Job settings text) c.in_ok-job_refused-in-Err-Refused.field-0.place
+    some_for (IsPlaceInJob settings text d c.in-Err-Refused.refusal) (IsInputPlace Job settings text) c.in_ok-job_refused-in-Err-Refused.field-0.place
     (λ place is. inr (d, c.in_ok-value.ensures.ok, (c.in-Err-Refused.refusal, fails, is))) c.in_ok-job_refused-in-Err-Refused.ensures
 
 pub returns-clause-placed : goal.returns-clause-placed

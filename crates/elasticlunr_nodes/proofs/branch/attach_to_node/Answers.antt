@@ -1,4 +1,4 @@
-use Rattle.std.proofs.Common.{◌≡◌, ◌++◌, if◌then◌else◌, List, get_or, set, Some, length, refl, sym, ap, subst, ◌∙◌, is_ok}
+use Rattle.std.proofs.Common.{◌≡◌, ℕ, ◌++◌, if◌then◌else◌, List, get_or, set, Some, length, refl, sym, ap, subst, ◌∙◌, is_ok}
 use Rattle.std.proofs.lemmas.Option.{slice_get_read}
 use Rattle.std.specs.List.{insert, slice_get}
 use Rattle.elasticlunr_nodes.specs.Nodes.{children_of, entries_of}
@@ -41,6 +41,6 @@ returns-clause-gains c = (
   c.gap-at.result,
   subst (λ es. IsGapFor es c.args.c c.gap-at.result) (c.as_slice.ensures ∙ sym (ap children_of (at c c.index.result.now c.index.ensures))) c.gap-at.ensures,
   new_children (old c) c.args.branch.now.items c.append.new.self.items c.args.k (node c) c.requires.in_range (same c) (grown c)
-      ∙ c.in_ok-insert.ensures.ok ∙ ap (λ es. insert es c.gap-at.result (c.args.c, c.in_ok-number.number)) (ap children_of (sym (was c)))
-      ∙ ap (λ n. insert (children_of (slice_get (old c) c.args.k)) c.gap-at.result (c.args.c, n)) (c.in_ok-number.ensures.ok ∙ c.len.ensures ∙ c.args.nodes.now.ok.0),
+      ∙ c.in_ok-insert.ensures.ok ∙ ap (λ es. insert es c.gap-at.result c.in_ok-child.child) (ap children_of (sym (was c)))
+      ∙ ap (λ e. insert (children_of (slice_get (old c) c.args.k)) c.gap-at.result e) (c.in_ok-child.ensures.ok ∙ ap (λ (n : ℕ). (c.args.c, n)) (c.len.ensures ∙ c.args.nodes.now.ok.0)),
 )

@@ -22,8 +22,8 @@ loop-c-preserved c = record {
   utf8 = IsUtf8-past_char _ _ c.in-Some.c c.loop-c.invariant.utf8 c.in-Some.ensures.steps.0;
   split = one_more _ _ _ _ c.in-Some.c c.loop-c.invariant.utf8 c.loop-c.invariant.split c.in-Some.ensures.steps.0;
   inner = rw c.in_ok-push.ensures.items (inner_push c.args.number c.loop-c.yielded c.loop-c.branch.items c.in-Some.c _ c.loop-c.invariant.inner
-      (c.one.ensures ∙ (λ i. (c.in-Some.c, (c.in_ok-next.ensures.ok ∙ (λ j. c.args.number + (c.len.ensures ∙ c.loop-c.branch.ok.0) j)) i) ∷ []))
-      c.new.ensures);
+      (c.one.ensures ∙ (λ i. c.in_ok-next.ensures.ok i ∷ []) ∙ (λ i. (c.in-Some.c, c.args.number + (c.len.ensures ∙ c.loop-c.branch.ok.0) i) ∷ []))
+      c.new-in-loop-c.ensures);
 }
 
 pub returns : goal.returns

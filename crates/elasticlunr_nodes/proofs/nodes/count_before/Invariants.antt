@@ -1,8 +1,6 @@
-use Rattle.std.proofs.Common.{ℕ, ◌<◌, ◌≤◌}
-use Rattle.elasticlunr_nodes.specs.Pairs.{key_at}
+use Rattle.elasticlunr_nodes.proofs.Counted.{Counted}
 use Rattle.elasticlunr_nodes.proofs.nodes.count_before.Given as goal
 
 -- of the children so far, the first ones are smaller
-abbrev pub invariant-loop-k : goal.invariant-loop-k
-invariant-loop-k l =
-    (l.count ≤ l.k-index) × ((j : ℕ) → j < l.count → key_at l.children j < l.c) × ((j : ℕ) → l.count ≤ j → j < l.k-index → l.c ≤ key_at l.children j)
+abbrev pub invariant-loop-child : goal.invariant-loop-child
+invariant-loop-child l = Counted l.children l.c l.child-index l.count

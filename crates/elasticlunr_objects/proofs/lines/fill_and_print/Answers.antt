@@ -7,7 +7,7 @@ use Rattle.elasticlunr_parse.specs.ObjectsTold.{object_told, options_told}
 use Rattle.elasticlunr_parse.proofs.LineParts.{all_more, consumes_more, consumes_none}
 use Rattle.elasticlunr_objects.specs.declared.lines.LastLine.{LastLine}
 use Rattle.elasticlunr_job.proofs.Alike.{document_alike, plan_alike}
-use Rattle.elasticlunr_objects.proofs.LineStops.{no_document, on_line, stops_filling, unread_line}
+use Rattle.elasticlunr_objects.proofs.LineStops.{exit_for, no_document, on_line, on_no_device, stops_filling, unread_line}
 use Rattle.elasticlunr_objects.proofs.ReadLines.{added_blank, added_document, all_filled, feeds_next, first_no_document, line_after, none_blank, one_fed, one_last, some_filled}
 use Rattle.elasticlunr_job.proofs.Stops.{ok_more}
 use Rattle.elasticlunr_objects.proofs.lines.fill_and_print.Goals as goal
@@ -127,3 +127,11 @@ lines-preserved g c =
       settings = c.add_doc.ensures.settings ∙ so_far.settings;
       within = (let within = so_far.within in omega arith);
     }
+
+pub returns-in_err-value-clause-device : goal.returns-in_err-value-clause-device
+returns-in_err-value-clause-device g c = exit_for c.from_residual.result _ c.in_err-value.field-0.0 c.from_residual.ensures.1 c.in_err-value.ensures.device
+
+pub returns-in_err-object-clause-device : goal.returns-in_err-object-clause-device
+returns-in_err-object-clause-device g c =
+    exit_for c.from_residual-in_err-object.result _ c.in_err-object.field-0.0 c.from_residual-in_err-object.ensures.1
+    (on_no_device _ (c.lines.number + 1) _ c.in_err-object.field-0.0 c.in_err-object.ensures.err)

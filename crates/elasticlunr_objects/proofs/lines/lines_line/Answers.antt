@@ -2,11 +2,12 @@ use Rattle.std.proofs.Common.{◌≡◌, [], Err, true, false, refl, ap, ◌∙�
 use Rattle.elasticlunr.specs.Builder.{chosen}
 use Rattle.elasticlunr.specs.Fields.{all_differ}
 use Rattle.elasticlunr.specs.Index.{choices_of}
+use Rattle.elasticlunr_objects.specs.LinesTold.{index_error_of}
 use Rattle.elasticlunr_objects.specs.Objects.{job_of}
 use Rattle.elasticlunr_parse.specs.ObjectsTold.{options_told, texts_told}
 use Rattle.elasticlunr_job.proofs.Building.{begun_for, built_for, given_told, told_fields}
 use Rattle.elasticlunr_objects.proofs.FilledLines.{documents_fit}
-use Rattle.elasticlunr_objects.proofs.LineStops.{fails_lines, twice_exit}
+use Rattle.elasticlunr_objects.proofs.LineStops.{exit_for, fails_lines, index_no_device, twice_exit}
 use Rattle.elasticlunr_job.proofs.Stops.{err_more, no_language, ok_more}
 use Rattle.elasticlunr_objects.proofs.lines.lines_line.Goals as goal
 
@@ -67,3 +68,15 @@ returns-clause-ok g c =
       ),
     ))
     c.fill_and_print.ensures.ok
+
+pub returns-in_err-with_language-clause-device : goal.returns-in_err-with_language-clause-device
+returns-in_err-with_language-clause-device g c = exit_for c.from_residual.result _ (index_error_of c.in_err-with_language.field-0.0) c.from_residual.ensures.1 (index_no_device _ c.in_err-with_language.field-0.0)
+
+pub returns-in_err-set_ref-clause-device : goal.returns-in_err-set_ref-clause-device
+returns-in_err-set_ref-clause-device g c = exit_for c.from_residual-in_err-set_ref.result _ (index_error_of c.in_err-set_ref.field-0.0) c.from_residual-in_err-set_ref.ensures.1 (index_no_device _ c.in_err-set_ref.field-0.0)
+
+pub returns-in_err-add_fields-clause-device : goal.returns-in_err-add_fields-clause-device
+returns-in_err-add_fields-clause-device g c = exit_for c.from_residual-in_err-add_fields.result _ (index_error_of c.in_err-add_fields.field-0.0) c.from_residual-in_err-add_fields.ensures.1 (index_no_device _ c.in_err-add_fields.field-0.0)
+
+pub returns-in_err-index-clause-device : goal.returns-in_err-index-clause-device
+returns-in_err-index-clause-device g c = exit_for c.from_residual-in_err-index.result _ (index_error_of c.in_err-index.field-0.0) c.from_residual-in_err-index.ensures.1 (index_no_device _ c.in_err-index.field-0.0)

@@ -3,6 +3,8 @@ use Rattle.elasticlunr.specs.Shape.{HasLanguage}
 use Rattle.elasticlunr_printed.proofs.Held.{language_held}
 use Rattle.elasticlunr_printed.proofs.ReadBack.{passed_reads}
 use Rattle.elasticlunr_printed.proofs.Shapes.{index_parts}
+use Rattle.elasticlunr_search.proofs.Whole.{of_parts}
+use Rattle.elasticlunr_search.proofs.Stages.{stages_held}
 use Rattle.elasticlunr_search.proofs.anew.judged.Goals as goal
 
 pub returns : goal.returns
@@ -10,6 +12,9 @@ returns c =
     let v = c.in_ok-is_text_of.ensures c.if-not-branch.false in (
       v.0,
       passed_reads _ _ _ v.0 c.args.text.now v.1.printed v.2 v.3 c.requires.shallow,
-      (rw (c.deref-3.ensures.value, c.deref-5.ensures.value) at (index_parts _ _ _ v.0 v.1), c.requires.consistent),
-      subst (HasLanguage v.0) (sym c.in_ok-from_str.ensures.ok) (language_held _ _ _ v.0 v.1.printed),
+      record {
+        parts = of_parts v.0 _ _ _ (rw (c.deref-3.ensures.value, c.deref-5.ensures.value) at (index_parts _ _ _ v.0 v.1)) c.requires.consistent;
+        language = subst (HasLanguage v.0) (sym c.in_ok-from_str.ensures.ok) (language_held _ _ _ v.0 v.1.printed);
+        stages = rw (c.deref-4.ensures.value) at (stages_held _ _ _ v.0 v.1.printed);
+      },
     )

@@ -1,12 +1,12 @@
-//! Ranges of characters, looked up one by one for ASCII and by halves otherwise.
+//! Ranges of characters, looked up one by one for ASCII and by binary search otherwise.
 ghost use Rattle.std.specs.Prelude.{◌≡◌, ◌+◌, ◌<◌, ◌≤◌, All, AllPairs, ℕ, IfOk};
 ghost use Rattle.ucd_table.specs.Rows.{in_ranges, AreRanges};
 ghost use Rattle.elasticlunr_text.specs.Ranges.{AreApart};
 
 use std::alloc::{AllocError, Global};
 
-/// Ranges of characters, in order, with a gap between any two. A character of ASCII is looked up from the first range on,
-/// and any other by halves.
+/// Ranges of characters, in order, with a gap between any two. An ASCII character is looked up from the first range on,
+/// and any other one by binary search.
 #[derive(Drop)]
 pub struct Ranges {
     ranges: Vec<(u32, u32)>,
@@ -41,7 +41,7 @@ impl Ranges {
         Ok(Ranges { ranges: joined })
     }
 
-    /// Looks the character up: by halves, but for ASCII, whose few ranges come first.
+    /// Looks the character up: by binary search, but for ASCII, whose few ranges come first.
     pub fn contains(&self, c: char) -> bool
         ensures { result ≡ in_ranges self.now.ranges.items c }
     {

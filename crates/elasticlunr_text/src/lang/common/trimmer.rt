@@ -52,7 +52,9 @@ impl RegexTrimmer {
         Ok(RegexTrimmer { name, class })
     }
 
-    /// Whether the character is of the class, which is looked up by halves. No memory is requested.
+    /// Whether the character is of the class. In the ranges of a class text an ASCII character is
+    /// looked up from the first range on, and any other one by binary search; of scripts, each is
+    /// compared with that of the character. No memory is requested.
     pub fn contains(&self, c: char) -> bool
         ensures { result ≡ keeps self.now c }
     {

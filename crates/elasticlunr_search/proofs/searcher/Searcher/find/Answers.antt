@@ -45,3 +45,9 @@ returns-in-Any-clause-no_field g c = c.find_any.ensures.no_field
 
 pub returns-in-Any-clause-errors : goal.returns-in-Any-clause-errors
 returns-in-Any-clause-errors g c = c.find_any.ensures.errors
+
+pub returns-in-Any-clause-as_chosen : goal.returns-in-Any-clause-as_chosen
+returns-in-Any-clause-as_chosen g c = rw c.in-Any.is c.find_any.ensures.as_chosen
+
+pub returns-in-All-clause-as_chosen : goal.returns-in-All-clause-as_chosen
+returns-in-All-clause-as_chosen g c = rw c.in-All.is c.find_all.ensures.as_chosen

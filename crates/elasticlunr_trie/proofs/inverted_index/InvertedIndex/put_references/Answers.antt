@@ -6,7 +6,7 @@ use Rattle.elasticlunr_nodes.specs.Names.{ArePostings, named_pairs}
 use Rattle.elasticlunr_nodes.specs.Table.{postings}
 use Rattle.elasticlunr_nodes.proofs.Named.{no_names, pairs_are, pairs_named}
 use Rattle.elasticlunr_trie.specs.References.{texts_in}
-use Rattle.elasticlunr_trie.proofs.References.{or_none}
+use Rattle.elasticlunr_trie.proofs.References.{or_none, on_err}
 use Rattle.elasticlunr_trie.proofs.inverted_index.InvertedIndex.put_references.Goals as goal
 
 pub put_names-requires-clause-postings : goal.put_names-requires-clause-postings
@@ -20,10 +20,20 @@ returns-in_ok-put_names-in-Some-clause-listed c r =
     let found = rw (c.deref.ensures.value, c.deref-2.ensures.value) at c.in-Some.ensures in
     let names = c.self.inside.names in
     let P = c.in-Some.postings.now in
-    c.in_ok-put_names-in-Some.ensures r
+    c.in_ok-put_names-in-Some.ensures.listed r
     ∙ ap (λ Q. is_listed r (texts_in c.args.found.now) || is_some (get Q r))
     (ap (named_pairs names) c.pairs.ensures ∙ sym (pairs_named names P (found.numbered names c.self.invariant.0.listed.named) c.self.invariant.0.names_are) ∙ sym (found.postings names)
     ∙ ap (λ T. postings T (chars c.args.token.now)) c.self.view_is)
+
+pub returns-in_err-put_names-in-Some-clause-err : goal.returns-in_err-put_names-in-Some-clause-err
+returns-in_err-put_names-in-Some-clause-err c =
+    let found = rw (c.deref.ensures.value, c.deref-2.ensures.value) at c.in-Some.ensures in
+    let names = c.self.inside.names in
+    let P = c.in-Some.postings.now in
+    on_err c.from_residual.result _ (λ r h.
+    sym (ap (λ Q. is_listed r (texts_in c.args.found.now) || is_some (get Q r))
+    (ap (named_pairs names) c.pairs.ensures ∙ sym (pairs_named names P (found.numbered names c.self.invariant.0.listed.named) c.self.invariant.0.names_are) ∙ sym (found.postings names)
+    ∙ ap (λ T. postings T (chars c.args.token.now)) c.self.view_is)) ∙ c.in_err-put_names-in-Some.ensures.err r h)
 
 pub returns-in-None-clause-listed : goal.returns-in-None-clause-listed
 returns-in-None-clause-listed c r =

@@ -5,14 +5,8 @@ use Rattle.elasticlunr_nodes.specs.declared.nodes.Place.TheVariants.{Root, At}
 use Rattle.elasticlunr_trie.proofs.Ends.{start_end}
 use Rattle.elasticlunr_trie.proofs.inverted_index.ends.remember.Goals as goal
 
-pub returns-in_err-put : goal.returns-in_err-put
-returns-in_err-put c =
+pub returns : goal.returns
+returns c =
     let step = step_of c.args.root.now c.args.nodes.now in
     let leads = start_end step c.args.start c.in-At.k c.requires.start (eqb-true _ 0 (sym c.is_empty.ensures ∙ c.if-not-is_empty.false)) c.in-At.is in
-    record { ends = c.put.ensures step c.requires.ends (subst (λ n. walk step Root (chars c.args.start.token.now) ≡ Some (At n)) (sym c.in_ok-short_number.ensures.ok) leads) }
-
-pub returns-in_ok-put : goal.returns-in_ok-put
-returns-in_ok-put c =
-    let step = step_of c.args.root.now c.args.nodes.now in
-    let leads = start_end step c.args.start c.in-At.k c.requires.start (eqb-true _ 0 (sym c.is_empty.ensures ∙ c.if-not-is_empty.false)) c.in-At.is in
-    record { ends = c.put.ensures step c.requires.ends (subst (λ n. walk step Root (chars c.args.start.token.now) ≡ Some (At n)) (sym c.in_ok-short_number.ensures.ok) leads) }
+    record { ends = c.put.ensures step c.requires.ends (subst (λ n. walk step Root (chars c.args.start.token.now) ≡ Some (At n)) (sym c.in-Ok.ensures.1) leads) }

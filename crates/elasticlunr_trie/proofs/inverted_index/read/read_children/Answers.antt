@@ -1,4 +1,4 @@
-use Rattle.std.proofs.Common.{◌≡◌, true≢false, IsSome, inl, inr, [], ◌∷◌, ◌++◌, length, sym, ap, subst, ◌∙◌, append_assoc, string_bytes, string_cmp, encode_utf8}
+use Rattle.std.proofs.Common.{◌≡◌, ℕ, true≢false, IsSome, inl, inr, [], ◌∷◌, ◌++◌, length, sym, ap, subst, ◌∙◌, append_assoc, string_bytes, string_cmp, encode_utf8}
 use Rattle.std.specs.Ordering.{nat_cmp}
 use Rattle.std.specs.Cmp.Lexicographic.{slice_cmp}
 use Rattle.std.specs.List.Sorted.{IsStrictlySortedBy}
@@ -68,8 +68,9 @@ loop-key-preserved c =
     let key : encode_utf8 letter ≡ string_bytes e.0 = sym c.in-Some-only_char.ensures.found.0 ∙ c.as_str-in-loop-key.ensures.value in
     let none = not_yet children old new (members_view held.done) held.reads letter (ap (λ k. get_member k (members_view held.done)) key ∙ not_among held.done e c.next.new.self sorted) in
     let gap = goes_last children old new (members_view held.done) held.reads letter (λ q some. ap (slice_cmp nat_cmp q) key ∙ below_next held.done e c.next.new.self sorted q some) in
-    let count = c.in_ok-short_number.ensures.ok ∙ c.len.ensures ∙ c.loop-key.waiting.ok.0 ∙ sym (length-borrowed c.loop-key.waiting.items) in
-    let gains = c.in_ok-push.ensures.ok ∙ ap (λ n. children ++ (letter, n) ∷ []) count ∙ sym (insert_last children (letter, length new)) in
+    let count = c.len.ensures ∙ c.loop-key.waiting.ok.0 ∙ sym (length-borrowed c.loop-key.waiting.items) in
+    let item = c.in_ok-child.ensures.ok ∙ ap (λ (n : ℕ). (letter, n)) count in
+    let gains = c.in_ok-push.ensures.ok ∙ (λ i. children ++ item i ∷ []) ∙ sym (insert_last children (letter, length new)) in
     let took = takes_key children old new (members_view held.done) held.reads letter (length children) e.1 none gap c.push.new.self.items gains c.in-Some-only_char.ensures.found.1 in
     let waiting : new ++ e.1 ∷ [] ≡ borrowed_values c.push-in-loop-key.new.self.items = sym (borrowed_push c.loop-key.waiting.items c.in-Some.value) ∙ ap borrowed_values (sym c.in_ok-push-2.ensures.items) in
     let members : put (encode_utf8 letter) (view e.1) (members_view held.done) ≡ members_view (held.done ++ e ∷ []) = ap (λ k. put k (view e.1) (members_view held.done)) key ∙ put_last held.done e c.next.new.self sorted in
@@ -83,11 +84,11 @@ loop-key-preserved c =
 pub returns-clause-order : goal.returns-clause-order
 returns-clause-order c = ordered_members c.args.members.now.entries c.iter-key-items.ensures.ordered
 
-pub returns-in_err-short_number-clause-ok : goal.returns-in_err-short_number-clause-ok
-returns-in_err-short_number-clause-ok c = IfOk-from_err c.from_residual.result _ c.from_residual.ensures.0
+pub returns-in_err-child-clause-ok : goal.returns-in_err-child-clause-ok
+returns-in_err-child-clause-ok c = IfOk-from_err c.from_residual.result _ c.from_residual.ensures.0
 
-pub returns-in_err-short_number-clause-order : goal.returns-in_err-short_number-clause-order
-returns-in_err-short_number-clause-order c = IfOk-from_err c.from_residual.result _ c.from_residual.ensures.0
+pub returns-in_err-child-clause-order : goal.returns-in_err-child-clause-order
+returns-in_err-child-clause-order c = IfOk-from_err c.from_residual.result _ c.from_residual.ensures.0
 
 pub returns-in_err-push-clause-ok : goal.returns-in_err-push-clause-ok
 returns-in_err-push-clause-ok c = IfOk-from_err c.from_residual-in_err-push.result _ c.from_residual-in_err-push.ensures.0

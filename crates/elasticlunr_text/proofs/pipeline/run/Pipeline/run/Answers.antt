@@ -3,13 +3,15 @@ use Rattle.std.proofs.lemmas.Iterator.Adapters.{YieldsList-from_vec}
 use Rattle.std.proofs.lemmas.Iterator.Consumers.{YieldsList-end}
 use Rattle.std.proofs.lemmas.List.{map-id}
 use Rattle.elasticlunr_text.specs.Stages.{MayRun}
-use Rattle.elasticlunr_text.specs.Text.{texts_of}
-use Rattle.elasticlunr_text.proofs.StageLemmas.{MayRun-strings}
+use Rattle.elasticlunr_text.specs.Text.{text_of, texts_of}
+use Rattle.elasticlunr_text.proofs.StageLemmas.{MayRun-on, MayRun-strings}
 use Rattle.elasticlunr_text.proofs.pipeline.run.Pipeline.run.Goals as goal
 
 pub loop-token-preserved : goal.loop-token-preserved
 loop-token-preserved g c =
-    MayRun-strings _ c.args.self.now.queue.items c.loop-token.yielded c.in-Some.token _ (c.in_ok-run_on.ensures (texts_of c.loop-token.yielded) c.loop-token.invariant)
+    let on = c.in_ok-run_on.ensures.ok in
+    MayRun-strings _ c.args.self.now.queue.items c.loop-token.yielded c.in-Some.token _
+    (MayRun-on _ c.args.self.now.queue.items (texts_of c.loop-token.yielded) _ _ (text_of c.in-Some.token) on.0 c.loop-token.invariant on.1 on.2)
 
 pub returns : goal.returns
 returns g c =

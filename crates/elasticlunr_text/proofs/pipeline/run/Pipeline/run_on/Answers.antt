@@ -1,13 +1,8 @@
-use Rattle.elasticlunr_text.specs.Text.{text_of}
-use Rattle.elasticlunr_text.proofs.StageLemmas.{MayRun-kept, MayRun-dropped}
+use Rattle.std.proofs.Common.{Some, None, sym, append-nil}
 use Rattle.elasticlunr_text.proofs.pipeline.run.Pipeline.run_on.Goals as goal
 
-pub returns-in_ok-push : goal.returns-in_ok-push
-returns-in_ok-push g c tokens ran =
-    MayRun-kept _ c.args.self.now.queue.items tokens c.args.kept.now.items _ (text_of c.args.token) c.in-Some.left ran
-    (rw c.in-Some.is at c.in_ok-left.ensures) c.in_ok-push.ensures.items
+pub returns-in_ok-push-clause-ok : goal.returns-in_ok-push-clause-ok
+returns-in_ok-push-clause-ok g c = (Some c.in-Some.left, rw c.in-Some.is at c.in_ok-left.ensures, c.in_ok-push.ensures.items)
 
-pub returns-in_default : goal.returns-in_default
-returns-in_default g c tokens ran =
-    MayRun-dropped _ c.args.self.now.queue.items tokens c.args.kept.now.items (text_of c.args.token) ran
-    (rw c.in_default.is at c.in_ok-left.ensures)
+pub returns-in_default-clause-ok : goal.returns-in_default-clause-ok
+returns-in_default-clause-ok g c = (None, rw c.in_default.is at c.in_ok-left.ensures, sym (append-nil c.args.kept.now.items))

@@ -1,0 +1,125 @@
+"""The cases of how fast the page answers a key press.
+
+Each press is timed inside the page by performance.now(): the search, all that it draws, and the layout, but not the delay before
+a search. The choice is what starts it, which searches at once. Where the machine is busy, what counts in its place is the time
+that the browser's main thread ran meanwhile, by Chromium's own metrics; of several presses the median counts.
+"""
+import json
+import os
+import random
+import statistics
+
+from browser_page import Page, must, site
+
+BOUND = 50  # milliseconds of a key press
+SYLLABLES = "ba de fi go lu ma ne pi ro su ta ve wi ko za tri sta plo gre".split()
+
+
+def long_texts(pages, size):
+    chance = random.Random(20261126)
+    words = ["".join(chance.choice(SYLLABLES) for _ in range(chance.randint(1, 4))) for _ in range(8000)]
+    for number in range(pages):
+        chosen = [words[int(chance.random() ** 2 * len(words))] + chance.choice(["", "", "", ",", "."]) for _ in range(size)]
+        yield [f"{number}.html", f"Words of page {number}", " ".join(chosen + ["zebra"])]
+
+
+def long_site(world):
+    if os.path.exists(os.path.join(world.folder, "long-texts")):
+        return "long-texts/search.html"
+    return site(world, "long-texts", long_texts(20, 10000))
+
+
+def thread_time(page):
+    metrics = page.driver.execute_cdp_cmd("Performance.getMetrics", {})["metrics"]
+    return next(metric["value"] for metric in metrics if metric["name"] == "TaskDuration") * 1000
+
+
+def timed(page, texts):
+    """For each text what the page shows, with the milliseconds by the clock and of the thread."""
+    page.driver.execute_cdp_cmd("Performance.enable", {"timeDomain": "threadTicks"})
+    for text in texts:
+        before = thread_time(page)
+        told = page.ask([text])[0]
+        yield {**told, "thread": thread_time(page) - before}
+
+
+def in_time(page, texts):
+    told = list(timed(page, texts))
+    clock = statistics.median(press["milliseconds"] for press in told)
+    thread = statistics.median(press["thread"] for press in told)
+    must(min(clock, thread) < BOUND, [[press["text"], round(press["milliseconds"]), round(press["thread"])] for press in told])
+    return told, f"{clock:.0f} ms by the clock, {thread:.0f} ms of the thread (medians of {len(told)} key presses)"
+
+
+def of_long_texts(world):
+    page = Page(world, long_site(world))
+    told, figures = in_time(page, ["b", "ba", "bad", "bade", "bade f", "bade fi", "w", "wo", "wor", "word", "words p", "words pa", "trista", "trista gre"])
+    must([len(press["refs"]) for press in told] == [20] * len(told) and all(press["marks"] >= 20 for press in told), told)
+    return figures
+
+
+CHOOSE = "(() => {{ query.value = '{}'; document.querySelector('input[value=AND]').dispatchEvent(new Event('change', {{ bubbles: true }})); }})()"
+WHILE_DRAWN = f"""(() => {{
+  const query = document.getElementById("query"), results = document.getElementById("results");
+  {CHOOSE.format("zebra")};
+  const drawn = results.children.length, isBusy = results.getAttribute("aria-busy");
+  {CHOOSE.format("words")};
+  return [drawn, isBusy];
+}})()"""
+
+
+def in_parts(world):
+    """A word at the end of each text, looked for while nothing is cut: the page draws in parts, and a new search ends the drawing."""
+    page = Page(world, long_site(world))
+    drawn, is_busy = page.script(WHILE_DRAWN)
+    must(drawn < 20 and is_busy == "true", [drawn, is_busy])
+    must(len(page.titles()) == 20 and page.status() == "20 pages" and set(page.marks()) == {"Words"}, page.marks())
+    page.type("zebra")
+    must(len(page.titles()) == 20 and page.marks() == ["zebra"] * 20, page.marks())
+
+
+DOTS = "." * 40000
+
+
+def of_long_words(world):
+    """Dots between two letters, and one word of a million characters: they are found by a beginning, and shown in part."""
+    docs = [["dots", "Plain", f"a{DOTS}b and x{DOTS}b"], ["word", "Plain", "w" * 1000000], ["title", "T" * 100000, f"-{DOTS} plain"]]
+    page = Page(world, site(world, "long-words", docs))
+    told, figures = in_time(page, ["p", "pl", "pla", "plai", "plain", "w", "ww", "www", "x", "x.", "x..", "ttt", "tttt", "ttt plain"])
+    found = {press["text"]: press["refs"] for press in told}
+    must(len(found["plain"]) == 3 and found["www"] == ["word"] and found["x.."] == ["dots"] and found["tttt"] == found["ttt plain"] == ["title"], found)
+    must(all(press["marks"] for press in told), told)
+    must(page.script("document.getElementById('results').textContent.length") < 2000, "shown whole")
+    return figures
+
+
+COUNT = """(() => {
+  const search = elasticlunr.Index.prototype.search;
+  window.searches = [];
+  elasticlunr.Index.prototype.search = function (text, options) { searches.push(text); return search.call(this, text, options); };
+})()"""
+PRESS = "(() => {{ const query = document.getElementById('query'); for (const text of {}) {{ query.value = text; query.dispatchEvent(new Event('input', {{ bubbles: true }})); }} }})()"
+
+
+def last_key(world):
+    docs = [["one.html", "Alpha", "the same words"], ["two.html", "Beta", "the same words"]]
+    page = Page(world, site(world, "last-key", docs))
+    world.write("last-key/two.html", "<title>two</title>")
+    page.script(COUNT)
+    page.script(PRESS.format(json.dumps(["a", "al", "alp", "alph"])))
+    must(page.titles() == ["Alpha"] and page.script("searches") == ["alph"], page.script("searches"))
+    page.script("(() => { " + PRESS.format('["b"]') + "; document.querySelector('input[value=OR]').click(); })()")
+    must(page.script("searches.slice(1)") == ["b"] and page.titles() == ["Beta"], page.script("searches"))
+    page.script(PRESS.format('["xylophone"]'))
+    must(page.titles() == [], page.titles())
+    page.script("(() => { " + PRESS.format('["bet"]') + "; document.getElementById('form').requestSubmit(); })()")
+    page.until(lambda: page.driver.title == "two")
+
+
+def cases():
+    return [
+        ("page: a key press among long texts", of_long_texts),
+        ("page: a key press among long words", of_long_words),
+        ("page: a new search while results are drawn", in_parts),
+        ("page: the last key press is searched for", last_key),
+    ]

@@ -3,7 +3,7 @@
 # the original crate.
 PREFIX ?= /usr/local
 PROGRAM = crates/elasticlunr_index/out/elasticlunr_index
-COMMAND = crates/elasticlunr_command/out/elasticlunr_command
+COMMAND = crates/elasticlunr_cli/out/elasticlunr_cli
 PORT ?= 8095
 
 .PHONY: run try build command script calls demo test compare install
@@ -21,7 +21,7 @@ build:
 
 # The command `elasticlunr`.
 command:
-	@python3 bench/build.py elasticlunr_command
+	@python3 bench/build.py elasticlunr_cli
 
 # The program that prints the script for browsers.
 script:
@@ -30,7 +30,7 @@ script:
 # The program that runs the tables of vectors, and the test that makes calls of the library alone.
 calls:
 	@python3 bench/build.py elasticlunr_vectors
-	@cd crates/elasticlunr_calls && rt test > /dev/null
+	@cd crates/elasticlunr_test_calls && rt test > /dev/null
 
 # The search page over the indexes of examples/ in three languages, on http://127.0.0.1:$(PORT)/.
 demo: build

@@ -1,6 +1,6 @@
 """The rows of calls, and what each call promises of memory.
 
-A row of crates/elasticlunr_calls/rows.txt is a line that names what its calls are made on, and a line for each
+A row of crates/elasticlunr_test_calls/rows.txt is a line that names what its calls are made on, and a line for each
 call: `CALL -> ANSWER`. An empty line ends it.
 """
 import json
@@ -9,7 +9,7 @@ from typing import NamedTuple
 
 from running import TOP
 
-TABLE = os.path.join(TOP, "crates/elasticlunr_calls/rows.txt")
+TABLE = os.path.join(TOP, "crates/elasticlunr_test_calls/rows.txt")
 # how many rows and calls the table has
 ROWS = 141
 CALLS = 1328

@@ -27,7 +27,7 @@ from refusing import Refusing
 from running import HERE, program, run, told
 from tables import rows_missing
 
-COMMAND = program("elasticlunr_command")
+COMMAND = program("elasticlunr_cli")
 FIRST = program("elasticlunr_index")
 TABLE = os.path.join(HERE, "command_rows.jsonl")
 SECONDS = re.compile(rb"\d+\.\d s\n")

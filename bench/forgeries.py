@@ -73,7 +73,7 @@ sys.stdout.buffer.write(out)
 sys.exit(status)
 """
 OF_A_JOB = "job = json.loads(given); %s; given = json.dumps(job).encode()"
-INDEX, FIND, COMMAND = "elasticlunr_index", "elasticlunr_find", "elasticlunr_command"
+INDEX, FIND, COMMAND = "elasticlunr_index", "elasticlunr_find", "elasticlunr_cli"
 JOBS = {  # forged programs that change the job
     "ignores its documents": 'job["docs"] = []',
     "ignores all but its last document": 'job["docs"] = job["docs"][-1:]',
@@ -117,7 +117,7 @@ def forged_programs(few_jobs):
     for name in [*BODIES, *JOBS]:
         yield Forgery(name, "check_jobs", ANOTHER, name, (few_jobs,))
         yield Forgery(name, "compare_by_chance", BY_CHANCE, name, FEW)
-    yield Forgery("prints one fixed text", "refuse_calls", ": told another row$", "prints one fixed text", crate="elasticlunr_calls")
+    yield Forgery("prints one fixed text", "refuse_calls", ": told another row$", "prints one fixed text", crate="elasticlunr_test_calls")
     yield Forgery("prints one fixed text", "long_inputs", "or another text$", "prints one fixed text")
     slow = "reads an index the slow way"
     yield Forgery(slow, "long_inputs", r"^long input, a search: .*, and \d+ are the most$", slow, ("a search",), COMMAND)

@@ -55,7 +55,7 @@ def names_of_programs():
 
 def programs():
     """What `rt ci` builds and a check runs: each program, and the test that makes single calls."""
-    built = [(it, it) for it in names_of_programs()] + [("elasticlunr_calls", "elasticlunr_calls_tests")]
+    built = [(it, it) for it in names_of_programs()] + [("elasticlunr_test_calls", "elasticlunr_test_calls_tests")]
     return [os.path.join(CRATES, crate, "out", program) for crate, program in built]
 
 

@@ -18,7 +18,7 @@ from measure import measured
 from running import program, told
 
 PROGRAM = program("elasticlunr_index")
-COMMAND = program("elasticlunr_command")
+COMMAND = program("elasticlunr_cli")
 STACK = 256 * 1024
 TIMES = 8
 LEAST = 4  # megabytes of the index that is searched

@@ -1,7 +1,7 @@
 #!/usr/bin/env python3
 """Makes the calls of each row, counts the requests for memory of each, and refuses these one after the other.
 
-The built test of `elasticlunr_calls` makes the calls that its input lists. It writes a call right before it
+The built test of `elasticlunr_test_calls` makes the calls that its input lists. It writes a call right before it
 makes it and ` -> ` right after, so the requests of the call alone are counted (count_requests.c). A row
 passes if
 
@@ -24,7 +24,7 @@ import running
 from calls import FAILED, fields_of, name_of, promise, rows_of, table
 from refusing import Shim
 
-PROGRAM = running.program("elasticlunr_calls", "elasticlunr_calls_tests")
+PROGRAM = running.program("elasticlunr_test_calls", "elasticlunr_test_calls_tests")
 TEST = "table::calls"
 PASSED = b"\n\ntest result: ok\n"  # what a test says at its end
 

@@ -124,7 +124,7 @@ def searched(search, folder):
     path = os.path.join(folder, "index.json")
     with open(path, "w", encoding="utf-8") as file:
         file.write(index)
-    return program("elasticlunr_command"), ["search", path, *search.words], ""
+    return program("elasticlunr_cli"), ["search", path, *search.words], ""
 
 
 def check_search(search, refusing, folder):

@@ -10,11 +10,11 @@ use Rattle.elasticlunr.specs.Current.{IsPrintedAfter}
 use Rattle.elasticlunr.specs.Calls.{Call, adding, followed_by, IsCommandOf, AreCommandsOf}
 use Rattle.elasticlunr.specs.Choices.{Choices, beginning, with_fields, fields_plan, language_plan, Reads}
 use Rattle.elasticlunr.specs.Documents as documents
-use Rattle.elasticlunr_history.specs.History.{Document, Command, add, Commands, none, ◌▸◌}
+use Rattle.elasticlunr_commands.specs.History.{Document, Command, add, Commands, none, ◌▸◌}
 use Rattle.elasticlunr.specs.Index.{SameSettings, ForCommands, IsDocument, plan_of, reads_of, StandsFor}
-use Rattle.elasticlunr_printed.specs.Printed.{IsTextAfter}
+use Rattle.elasticlunr_print.specs.Printed.{IsTextAfter}
 use Rattle.elasticlunr.specs.Reading.{LanguageReads, ReadsOnly}
-use Rattle.elasticlunr_history.specs.Standing.{Plan}
+use Rattle.elasticlunr_commands.specs.Standing.{Plan}
 use Rattle.elasticlunr.specs.Tokenizers.{MayAnswer}
 use Rattle.elasticlunr.specs.declared.index.Index.{Index}
 use Rattle.elasticlunr.proofs.Calling.{document_more, plan_alike}

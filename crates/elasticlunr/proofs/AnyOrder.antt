@@ -4,9 +4,9 @@ use Rattle.std.specs.Prelude.{Contains, slice_index_or}
 use Rattle.std.proofs.lemmas.Slice.Eq.{bytes_eq-Decides}
 use Rattle.elasticlunr_text.specs.Text.{Bytes}
 use Rattle.elasticlunr.specs.Current.{values_after, current, additions, HaveOwnReferences}
-use Rattle.elasticlunr_history.specs.Fields.{has_name, all_differ}
-use Rattle.elasticlunr_history.proofs.Adding.{same}
-use Rattle.elasticlunr_history.proofs.Naming.{turned}
+use Rattle.elasticlunr_commands.specs.Fields.{has_name, all_differ}
+use Rattle.elasticlunr_commands.proofs.Adding.{same}
+use Rattle.elasticlunr_commands.proofs.Naming.{turned}
 
 abbrev Documents : Type 0
 Documents = List (Bytes × List Bytes)

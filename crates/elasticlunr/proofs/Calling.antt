@@ -18,13 +18,13 @@ use Rattle.elasticlunr_lang.specs.declared.any.AnyLanguage.TheVariants.{English,
 use Rattle.elasticlunr.specs.Calls.{Call, adding, removing, compacting, HasOneReading, HasOneDocument, followed_by, IsCommandOf, AreCommandsOf}
 use Rattle.elasticlunr.specs.Choices.{Choices, IsMadeAt, Reads, plan_with}
 use Rattle.elasticlunr.specs.Documents.{IsGiven, IsDocument}
-use Rattle.elasticlunr_history.specs.History.{Given, Document, Command, add, remove, compact, Commands, none}
+use Rattle.elasticlunr_commands.specs.History.{Given, Document, Command, add, remove, compact, Commands, none}
 use Rattle.elasticlunr.specs.Index as index_specs
 use Rattle.elasticlunr.specs.Index.{SameSettings, plan_of}
-use Rattle.elasticlunr_printed.specs.Printed.{IsValue, IsTextAfter}
+use Rattle.elasticlunr_print.specs.Printed.{IsValue, IsTextAfter}
 use Rattle.elasticlunr.specs.Reading.{LanguageReads, ReadsOnly}
-use Rattle.elasticlunr_history.specs.Standing.{Plan}
-pub use Rattle.elasticlunr_history.proofs.OneZip.{one_zip}
+use Rattle.elasticlunr_commands.specs.Standing.{Plan}
+pub use Rattle.elasticlunr_commands.proofs.OneZip.{one_zip}
 use Rattle.elasticlunr.specs.Tokenizers.{MayAnswer}
 use Rattle.elasticlunr.specs.declared.index.Index.{Index}
 use Rattle.elasticlunr.specs.declared.settings.Tokenizer.{Tokenizer}

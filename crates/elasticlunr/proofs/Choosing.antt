@@ -7,9 +7,9 @@ use Rattle.std.specs.Prelude.{IfNone}
 use Rattle.std.specs.List.{slice_get}
 use Rattle.elasticlunr_text.specs.Text.{Text, Bytes}
 use Rattle.elasticlunr.specs.Choices.{Choices, beginning, with_field, with_fields, UsesLanguage}
-use Rattle.elasticlunr_history.specs.Fields.{has_name, all_differ}
+use Rattle.elasticlunr_commands.specs.Fields.{has_name, all_differ}
 use Rattle.elasticlunr.specs.Reading.{LanguageReads, ReadsOnly}
-use Rattle.elasticlunr_history.specs.Standing.{Plan}
+use Rattle.elasticlunr_commands.specs.Standing.{Plan}
 
 -- where nothing is there, plans with equal stages are equal
 pub same_plan : {X : Type 0} (fields : List Bytes) (reference_field : Bytes) (save : Bool) (language : Bytes) (o : Option X) (stages other : List Bytes) → IfNone o (stages ≡ other)

@@ -7,13 +7,13 @@ use Rattle.serde_json.specs.Data.{Data}
 use Rattle.elasticlunr.specs.Current.{values_after, current, LeaveOnlyCurrent, IsPrintedAfter}
 use Rattle.elasticlunr.specs.Calls.{Call, adding, removing, compacting, HasOneDocument, followed_by, IsCommandOf, AreCommandsOf}
 use Rattle.elasticlunr.specs.Documents.{IsDocument}
-use Rattle.elasticlunr_history.specs.Fields.{has_name, all_differ}
-use Rattle.elasticlunr_history.specs.History.{Document, Command, add, remove, compact, Commands, none, ◌▸◌, now, Agree, EndsCompacted, AddsEachOnce}
-use Rattle.elasticlunr_printed.specs.Printed.{IsValue}
-use Rattle.elasticlunr_history.specs.Standing.{Plan}
-use Rattle.elasticlunr_history.proofs.Adding.{same}
-use Rattle.elasticlunr_history.proofs.Agreeing.{holds_agreed}
-use Rattle.elasticlunr_printed.proofs.Fresh.{fresh_value}
+use Rattle.elasticlunr_commands.specs.Fields.{has_name, all_differ}
+use Rattle.elasticlunr_commands.specs.History.{Document, Command, add, remove, compact, Commands, none, ◌▸◌, now, Agree, EndsCompacted, AddsEachOnce}
+use Rattle.elasticlunr_print.specs.Printed.{IsValue}
+use Rattle.elasticlunr_commands.specs.Standing.{Plan}
+use Rattle.elasticlunr_commands.proofs.Adding.{same}
+use Rattle.elasticlunr_commands.proofs.Agreeing.{holds_agreed}
+use Rattle.elasticlunr_print.proofs.Fresh.{fresh_value}
 
 -- both are absent, or the document is made of the values
 IsMadeOf : (makes : List Bytes → Document → Type 0) → Option (List Bytes) → Option Document → Type 0

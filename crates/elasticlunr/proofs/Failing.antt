@@ -1,7 +1,7 @@
 -- Which error an answer is, and whether there are contents.
 use Rattle.std.proofs.Common.{◌≡◌, ◌↔◌, ◌⊎◌, ◌<◌, ◌≤◌, ◌+◌, ℕ, Bool, true, false, List, [], ◌∷◌, ◌++◌, length, String, Global, string_bytes, Option, Some, None, IfSome, Result, Ok, Err, inr, refl, sym, ap, subst, ◌∙◌, true≢false, arith}
 use Rattle.std.proofs.lemmas.List.{length-append, length-map}
-use Rattle.elasticlunr_history.specs.Fields.{has_name}
+use Rattle.elasticlunr_commands.specs.Fields.{has_name}
 use Rattle.elasticlunr_text.specs.Text.{bytes_of}
 use Rattle.std.specs.Prelude.{IsNone, IsSome, is_some, IsTrue, OnOk, IfOk, IfErr, IsErrAnd}
 use Rattle.elasticlunr_text.specs.IndexError.{IndexError}

@@ -5,7 +5,7 @@ use Rattle.std.proofs.lemmas.Option.{slice_get_read, slice_get-map}
 use Rattle.std.specs.String.{string_eq}
 use Rattle.std.specs.List.{slice_get}
 use Rattle.elasticlunr_text.specs.Text.{Bytes, bytes_of}
-use Rattle.elasticlunr_history.specs.Fields.{has_name}
+use Rattle.elasticlunr_commands.specs.Fields.{has_name}
 
 -- the test of the text that is found tells whether that is the wanted one
 pub named : (name wanted : Bytes) (found : Option Bytes) (b : Bool) → found ≡ Some name → b ≡ bytes_eq name wanted → IsTrue b ↔ (found ≡ Some wanted)

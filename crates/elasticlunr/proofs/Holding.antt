@@ -7,13 +7,13 @@ use Rattle.elasticlunr_trie.specs.Table.{Table, IsTable}
 use Rattle.elasticlunr_store.specs.Contents.{Contents, IsStoreValue}
 use Rattle.serde_json.specs.Data.{Data}
 use Rattle.serde_json.specs.Read.{read}
-use Rattle.elasticlunr_contents.specs.declared.contents.IndexContents.{IndexContents}
-use Rattle.elasticlunr_printed.specs.declared.parts.Parts.{Parts}
-use Rattle.elasticlunr_history.specs.Fields.{all_differ}
-use Rattle.elasticlunr_history.specs.History.{Commands}
-use Rattle.elasticlunr_printed.specs.Parts.{IsPrinted, IsPrintedText}
-use Rattle.elasticlunr_printed.specs.Printed.{AreTrieValues, IsIndexValue, IsTextOf, index_object}
-use Rattle.elasticlunr_history.specs.Standing.{Plan, Holds, IsTableOf}
+use Rattle.elasticlunr_state.specs.declared.contents.IndexContents.{IndexContents}
+use Rattle.elasticlunr_print.specs.declared.parts.Parts.{Parts}
+use Rattle.elasticlunr_commands.specs.Fields.{all_differ}
+use Rattle.elasticlunr_commands.specs.History.{Commands}
+use Rattle.elasticlunr_print.specs.Parts.{IsPrinted, IsPrintedText}
+use Rattle.elasticlunr_print.specs.Printed.{AreTrieValues, IsIndexValue, IsTextOf, index_object}
+use Rattle.elasticlunr_commands.specs.Standing.{Plan, Holds, IsTableOf}
 
 -- what an answer shows
 pub if_ok : {T E : Type 0} (r : Result T E) (P Q : T → Type 0) → ((x : T) → P x → Q x) → IfOk r P → IfOk r Q

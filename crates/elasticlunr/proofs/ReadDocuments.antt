@@ -6,9 +6,9 @@ use Rattle.elasticlunr_text.specs.Text.{Text, Bytes}
 use Rattle.elasticlunr.specs.Calls.{Call, adding, removing, compacting, IsCommandOf, AreCommandsOf, followed_by}
 use Rattle.elasticlunr.specs.Documents.{IsGiven, IsDocument}
 use Rattle.elasticlunr.specs.Found.{HasToken}
-use Rattle.elasticlunr_history.specs.History.{Given, Document, Command, Commands, none, ◌▸◌, add, remove, compact, now}
+use Rattle.elasticlunr_commands.specs.History.{Given, Document, Command, Commands, none, ◌▸◌, add, remove, compact, now}
 use Rattle.elasticlunr.specs.ReadDocuments.{IsRead, AreRead, HasReadToken}
-use Rattle.elasticlunr_history.specs.Standing.{tokens_at}
+use Rattle.elasticlunr_commands.specs.Standing.{tokens_at}
 
 -- what is chosen of two is one of them
 either : (P : Document → Type 0) (b : Bool) (one other : Option Document) → IfSome one P → IfSome other P → IfSome (cond b one other) P

@@ -22,18 +22,18 @@ use Rattle.elasticlunr_trie.specs.Tree.{frequencies, IsTree, AreParts, HasKeysIn
 use Rattle.elasticlunr_trie.proofs.Finishing.{letters_same, not_letter}
 use Rattle.elasticlunr_json.proofs.Texts.{text_tie}
 use Rattle.elasticlunr_trie.proofs.Printed.{get_other}
-use Rattle.elasticlunr_history.specs.History.{Given, Document, Command, add, remove, compact, Commands, none, ◌▸◌}
+use Rattle.elasticlunr_commands.specs.History.{Given, Document, Command, add, remove, compact, Commands, none, ◌▸◌}
 use Rattle.elasticlunr.specs.Calls.{adding, followed_by, IsCommandOf}
 use Rattle.elasticlunr.specs.Current.{IsPrintedAfter}
 use Rattle.elasticlunr.specs.Documents.{IsGiven, IsDocument}
-use Rattle.elasticlunr_printed.specs.Printed.{IsValue, AreTrieValues, trie, index_object}
-use Rattle.elasticlunr_history.specs.Root.{IsRoot}
-use Rattle.elasticlunr_history.specs.Standing.{Plan, tokens_at, Begins, IsPosting, IsTableOf, stored, length_in, IsContentsOf}
+use Rattle.elasticlunr_print.specs.Printed.{IsValue, AreTrieValues, trie, index_object}
+use Rattle.elasticlunr_commands.specs.Root.{IsRoot}
+use Rattle.elasticlunr_commands.specs.Standing.{Plan, tokens_at, Begins, IsPosting, IsTableOf, stored, length_in, IsContentsOf}
 use Rattle.elasticlunr.specs.Word.{word_tree, word_trie, word_store}
-use Rattle.elasticlunr_history.proofs.Adding.{same, apart, either}
-use Rattle.elasticlunr_history.proofs.Same.{same_contents}
-use Rattle.elasticlunr_contents.proofs.Storing.{found_after_insert}
-use Rattle.elasticlunr_printed.proofs.Unique.{HasOneValue}
+use Rattle.elasticlunr_commands.proofs.Adding.{same, apart, either}
+use Rattle.elasticlunr_commands.proofs.Same.{same_contents}
+use Rattle.elasticlunr_state.proofs.Storing.{found_after_insert}
+use Rattle.elasticlunr_print.proofs.Unique.{HasOneValue}
 
 -- ---- maps of one entry
 

@@ -5,10 +5,10 @@ use Rattle.elasticlunr_text.specs.Text.{Text, Bytes}
 use Rattle.elasticlunr.specs.Calls.{Call, AreCommandsOf}
 use Rattle.elasticlunr.specs.Current.{IsPrintedAfter}
 use Rattle.elasticlunr.specs.Documents as documents
-use Rattle.elasticlunr_history.specs.History.{Commands}
+use Rattle.elasticlunr_commands.specs.History.{Commands}
 use Rattle.elasticlunr.specs.Index.{plan_of, reads_of, StandsFor}
 use Rattle.elasticlunr.specs.Reading.{LanguageReads, ReadsOnly}
-use Rattle.elasticlunr_history.specs.Standing.{Plan}
+use Rattle.elasticlunr_commands.specs.Standing.{Plan}
 use Rattle.elasticlunr.specs.declared.index.Index.{Index}
 
 -- `name_of` is what a language is called, `tokens_of` what it makes of a text and `leaves_of` what it leaves of a token; `name_text` is what a boxed stage is called and `leaves` what it leaves of a token.

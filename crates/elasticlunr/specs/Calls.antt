@@ -2,7 +2,7 @@
 use Rattle.std.specs.Prelude.{◌≡◌, ℕ, List, [], ◌∷◌}
 use Rattle.std.specs.List.{AllZip}
 use Rattle.elasticlunr_text.specs.Text.{Text, Bytes}
-use Rattle.elasticlunr_history.specs.History.{Document, Command, add, remove, compact, Commands, none, ◌▸◌}
+use Rattle.elasticlunr_commands.specs.History.{Document, Command, add, remove, compact, Commands, none, ◌▸◌}
 
 -- a document added, as its reference and its values; a reference removed; a compaction
 pub data Call : Type 0 where

@@ -3,7 +3,7 @@ use Rattle.std.specs.Prelude.{◌≡◌, ◌≢◌, ℕ, List, [], ◌∷◌, �
 use Rattle.std.specs.List.{AllByRecursion}
 use Rattle.std.specs.Str.{chars, all_scalars}
 use Rattle.elasticlunr_text.specs.Text.{Text, Bytes}
-use Rattle.elasticlunr_history.specs.Standing.{Plan}
+use Rattle.elasticlunr_commands.specs.Standing.{Plan}
 
 -- The language, the pipeline, the fields in order with the tokenizer that each has of its own, the field of the reference, and whether documents are saved. The types are those of languages, pipelines and tokenizers.
 pub record Choices (L P T : Type 0) : Type 0 where

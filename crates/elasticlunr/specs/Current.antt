@@ -5,10 +5,10 @@ use Rattle.elasticlunr_text.specs.Text.{Text, Bytes}
 use Rattle.serde_json.specs.Data.{Data}
 use Rattle.elasticlunr.specs.Calls.{Call, adding, removing, compacting, AreCommandsOf}
 use Rattle.elasticlunr.specs.Documents as documents
-use Rattle.elasticlunr_history.specs.Fields.{all_differ}
-use Rattle.elasticlunr_history.specs.History.{Commands, Document}
-use Rattle.elasticlunr_printed.specs.Printed.{IsTextAfter}
-use Rattle.elasticlunr_history.specs.Standing.{Plan}
+use Rattle.elasticlunr_commands.specs.Fields.{all_differ}
+use Rattle.elasticlunr_commands.specs.History.{Commands, Document}
+use Rattle.elasticlunr_print.specs.Printed.{IsTextAfter}
+use Rattle.elasticlunr_commands.specs.Standing.{Plan}
 
 -- the values of the reference's current document after the calls, where these were its values before
 abbrev pub values_after : Option (List Bytes) → List Call → Bytes → Option (List Bytes)

@@ -1,7 +1,7 @@
 -- The document that a reference and values make.
 use Rattle.std.specs.Prelude.{◌≡◌, ℕ, List, map, slice_get, None, Some, IsSomeAnd, IfSome}
 use Rattle.elasticlunr_text.specs.Text.{Text, Bytes}
-use Rattle.elasticlunr_history.specs.History.{Given, Document}
+use Rattle.elasticlunr_commands.specs.History.{Given, Document}
 
 -- the field of this number holds the reference
 abbrev pub HoldsReference : List Bytes → Bytes → ℕ → Type 0

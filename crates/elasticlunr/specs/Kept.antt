@@ -10,9 +10,9 @@ use Rattle.elasticlunr.specs.Calls.{Call}
 use Rattle.elasticlunr.specs.Choices.{fields_plan}
 use Rattle.elasticlunr.specs.Current.{IsPrintedAfter}
 use Rattle.elasticlunr.specs.Documents.{IsDocument}
-use Rattle.elasticlunr_history.specs.History.{Document}
+use Rattle.elasticlunr_commands.specs.History.{Document}
 use Rattle.elasticlunr.specs.Reading.{LanguageReads}
-use Rattle.elasticlunr_history.specs.Standing.{Plan}
+use Rattle.elasticlunr_commands.specs.Standing.{Plan}
 
 -- the tokens that the language reads of a value, whatever the field
 abbrev pub KeptReads : AnyLanguage → ℕ → Bytes → List Text → Type 0

@@ -4,7 +4,7 @@ use Rattle.elasticlunr_text.specs.Text.{Text, Bytes}
 use Rattle.elasticlunr.specs.Calls.{Call, AreCommandsOf}
 use Rattle.elasticlunr.specs.Documents.{IsGiven, IsDocument}
 use Rattle.elasticlunr.specs.Found.{HasToken}
-use Rattle.elasticlunr_history.specs.History.{Document, Commands, none, ◌▸◌, add, remove, compact, now}
+use Rattle.elasticlunr_commands.specs.History.{Document, Commands, none, ◌▸◌, add, remove, compact, now}
 
 -- In each definition `reads` relates the number of a field and a value to the tokens that are read of it.
 module _ (reads : ℕ → Bytes → List Text → Type 0) where

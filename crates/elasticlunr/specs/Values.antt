@@ -5,7 +5,7 @@ use Rattle.std.specs.declared.alloc.Global.{Global}
 use Rattle.elasticlunr_text.specs.Text.{Text, Bytes}
 use Rattle.elasticlunr.specs.Documents.{IsGiven}
 use Rattle.elasticlunr.specs.Index.{choices, reads}
-use Rattle.elasticlunr_contents.specs.Texts.{texts_left}
+use Rattle.elasticlunr_state.specs.Texts.{texts_left}
 use Rattle.elasticlunr.specs.declared.settings.Settings.{Settings}
 
 -- In each definition `tokens_of` is what a language makes of a text and `leaves` what a boxed stage leaves of a token.

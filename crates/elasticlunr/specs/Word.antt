@@ -9,8 +9,8 @@ use Rattle.elasticlunr_trie.specs.Tree.{frequencies}
 use Rattle.elasticlunr_lang.specs.declared.any.AnyLanguage.{AnyLanguage}
 use Rattle.elasticlunr.specs.Calls.{adding}
 use Rattle.elasticlunr.specs.Kept.{IsKeptPrint}
-use Rattle.elasticlunr_printed.specs.Printed.{index_object}
-use Rattle.elasticlunr_history.specs.Standing.{Plan}
+use Rattle.elasticlunr_print.specs.Printed.{index_object}
+use Rattle.elasticlunr_commands.specs.Standing.{Plan}
 
 -- the plan of an index of one field, in which documents are saved
 abbrev pub one_field_plan : (language : Bytes) (stages : List Bytes) (reference_field field : Bytes) → Plan

@@ -5,5 +5,5 @@ pub mod found;
 pub mod reading;
 pub mod word;
 
-pub use elasticlunr_history::laws::order;
-pub use elasticlunr_printed::laws::{removal, values};
+pub use elasticlunr_commands::laws::order;
+pub use elasticlunr_print::laws::{removal, values};

@@ -6,8 +6,8 @@ use Rattle.std.proofs.lemmas.Option.{slice_get-map, slice_get-get_or}
 use Rattle.std.specs.List.{list_any}
 use Rattle.elasticlunr.specs.Fields.{all_differ, borrowed, has_name}
 use Rattle.elasticlunr.proofs.Naming.{all_differ-push}
-use Rattle.elasticlunr_parse.specs.JobTold.{document_told}
-use Rattle.elasticlunr_parse.specs.declared.job.Document.{Document}
+use Rattle.elasticlunr_job_format.specs.JobTold.{document_told}
+use Rattle.elasticlunr_job_format.specs.declared.job.Document.{Document}
 use Rattle.elasticlunr_input.specs.FirstFaults.{AllFit, IsFirstTooLong, IsFirstTwice}
 
 has_name-borrowed : (name : List ℕ) (fields : List (Bor (List ℕ))) → has_name name (borrowed fields) ≡ list_any (λ other. bytes_eq other.now name) fields

@@ -5,47 +5,47 @@ use Rattle.std.specs.List.{filter, find}
 use Rattle.std.proofs.lemmas.List.{length-map, map-append}
 use Rattle.serde_json.specs.Data.{Data}
 use Rattle.elasticlunr_text.specs.Text.{Bytes}
-use Rattle.elasticlunr_parse.specs.Job.{Document}
-use Rattle.elasticlunr_parse.specs.LineRead.{AreAll, AreWhole, EndsLine, HasNoFeed, IsLineAfter, fed}
-use Rattle.elasticlunr_parse.specs.Lines.{filled_lines, is_blank, is_filled, lines_of, readings, AreLineValues}
-use Rattle.elasticlunr_parse.specs.Objects as objects
-use Rattle.elasticlunr_parse.specs.Objects.{AreDocumentsOf, HasProblem, IsDocumentOf, IsFirstProblem}
-use Rattle.elasticlunr_parse.specs.Reading.{reading}
-use Rattle.elasticlunr_parse.specs.declared.objects.Problem.{Problem}
+use Rattle.elasticlunr_job_format.specs.Job.{Document}
+use Rattle.elasticlunr_job_format.specs.LineRead.{AreAll, AreWhole, EndsLine, HasNoFeed, IsLineAfter, fed}
+use Rattle.elasticlunr_job_format.specs.Lines.{filled_lines, is_blank, is_filled, lines_of, readings, AreLineValues}
+use Rattle.elasticlunr_job_format.specs.Objects as objects
+use Rattle.elasticlunr_job_format.specs.Objects.{AreDocumentsOf, HasProblem, IsDocumentOf, IsFirstProblem}
+use Rattle.elasticlunr_job_format.specs.Reading.{reading}
+use Rattle.elasticlunr_job_format.specs.declared.objects.Problem.{Problem}
 use Rattle.std.specs.Fmt.{option_append}
 use Rattle.elasticlunr_job.specs.Answer.{FailsAt}
-use Rattle.elasticlunr_objects.specs.Lines.{FailsLines, HasLineProblem, IsFirstNoDocument, IsLineOfLines, StopsAtLine}
-use Rattle.elasticlunr_objects.specs.Objects.{job_of}
-use Rattle.elasticlunr_objects.specs.declared.objects.ObjectsError.TheVariants as error
-use Rattle.elasticlunr_parse.specs.declared.outcome.Refusal.{Refusal}
-use Rattle.elasticlunr_objects.specs.declared.lines.LastLine.{LastLine}
-use Rattle.elasticlunr_objects.specs.declared.lines.LinesError.{LinesError}
-use Rattle.elasticlunr_objects.specs.declared.lines.LinesError.TheVariants as lines_error
-use Rattle.elasticlunr_parse.proofs.WholeLines.{filled_append, filled_front}
-use Rattle.elasticlunr_objects.proofs.FilledLines.{blank_first, filled_first}
-use Rattle.elasticlunr_objects.proofs.ReadLines.{one_fed, one_last}
-use Rattle.elasticlunr_place.specs.Members.{Move, IsPlaceOf}
-use Rattle.elasticlunr_place.specs.Places.{IsPlaceIn, is_line_feed, place_at}
-use Rattle.elasticlunr_place.specs.Whole.{below}
-use Rattle.elasticlunr_place.specs.declared.place.Place.{Place}
-use Rattle.elasticlunr_place.proofs.LineValues.{place_behind}
-use Rattle.elasticlunr_place.proofs.WholeLines.{place_below}
+use Rattle.elasticlunr_documents.specs.Lines.{FailsLines, HasLineProblem, IsFirstNoDocument, IsLineOfLines, StopsAtLine}
+use Rattle.elasticlunr_documents.specs.Objects.{job_of}
+use Rattle.elasticlunr_documents.specs.declared.objects.ObjectsError.TheVariants as error
+use Rattle.elasticlunr_job_format.specs.declared.outcome.Refusal.{Refusal}
+use Rattle.elasticlunr_documents.specs.declared.lines.LastLine.{LastLine}
+use Rattle.elasticlunr_documents.specs.declared.lines.LinesError.{LinesError}
+use Rattle.elasticlunr_documents.specs.declared.lines.LinesError.TheVariants as lines_error
+use Rattle.elasticlunr_job_format.proofs.WholeLines.{filled_append, filled_front}
+use Rattle.elasticlunr_documents.proofs.FilledLines.{blank_first, filled_first}
+use Rattle.elasticlunr_documents.proofs.ReadLines.{one_fed, one_last}
+use Rattle.elasticlunr_json_place.specs.Members.{Move, IsPlaceOf}
+use Rattle.elasticlunr_json_place.specs.Places.{IsPlaceIn, is_line_feed, place_at}
+use Rattle.elasticlunr_json_place.specs.Whole.{below}
+use Rattle.elasticlunr_json_place.specs.declared.place.Place.{Place}
+use Rattle.elasticlunr_json_place.proofs.LineValues.{place_behind}
+use Rattle.elasticlunr_json_place.proofs.WholeLines.{place_below}
 use Rattle.elasticlunr_input.specs.Asked.{options_of}
 use Rattle.elasticlunr_input.specs.FaultPlaces.{problem_path}
-use Rattle.elasticlunr_message.specs.Forms.{asked_or_told, line_form, told_form}
+use Rattle.elasticlunr_diagnostics.specs.Forms.{asked_or_told, line_form, told_form}
 use Rattle.elasticlunr_input.specs.Lines.{IsLinesLineWith}
 use Rattle.elasticlunr_input.specs.Inputs.{AreRefusedLines, HasHead, IsBelow, IsHeadOf, IsPlaceInLine, IsRefusedFirst}
 use Rattle.elasticlunr_input.specs.Refused.{FailObjects, HasUnreadLine}
-use Rattle.elasticlunr_message.specs.Messages.{IsMemoryOr}
-use Rattle.elasticlunr_message.specs.Messages.{IfPlaced}
+use Rattle.elasticlunr_diagnostics.specs.Messages.{IsMemoryOr}
+use Rattle.elasticlunr_diagnostics.specs.Messages.{IfPlaced}
 use Rattle.elasticlunr_input.specs.RefusedPlaces.{IsLinesPlace}
 use Rattle.elasticlunr_input.specs.RefusedRead.{AreRefusedFrom, BeginsWith}
 use Rattle.elasticlunr_input.specs.Settled.{Settings}
-use Rattle.elasticlunr_message.specs.declared.form.Form.{Form}
-use Rattle.elasticlunr_message.specs.declared.form.Form.TheVariants.{Job}
-use Rattle.elasticlunr_message.specs.declared.message.Message.{Message}
-use Rattle.elasticlunr_message.specs.declared.message.Trouble.{Trouble}
-use Rattle.elasticlunr_message.specs.declared.message.Trouble.TheVariants.{Refused, Memory, Device}
+use Rattle.elasticlunr_diagnostics.specs.declared.form.Form.{Form}
+use Rattle.elasticlunr_diagnostics.specs.declared.form.Form.TheVariants.{Job}
+use Rattle.elasticlunr_diagnostics.specs.declared.message.Message.{Message}
+use Rattle.elasticlunr_diagnostics.specs.declared.message.Trouble.{Trouble}
+use Rattle.elasticlunr_diagnostics.specs.declared.message.Trouble.TheVariants.{Refused, Memory, Device}
 use Rattle.elasticlunr_input.proofs.LinesBy.{FailLinesOf, IsPlaceInLines}
 use Rattle.elasticlunr_input.proofs.LineLemmas.{fail_with, fails_also, first_among, line_with, problem_among}
 use Rattle.elasticlunr_input.proofs.LinePlaces.{place_with, placed_for}

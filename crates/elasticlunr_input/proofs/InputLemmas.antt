@@ -1,19 +1,19 @@
 -- On an input in the form that its head tells.
 use Rattle.std.proofs.Common.{◌≡◌, ◌++◌, Option, None, Some, IfSome, Result, Ok, Err, IfErr, inr, sym, subst, ◌∙◌}
 use Rattle.elasticlunr_text.specs.Text.{Bytes}
-use Rattle.elasticlunr_objects.specs.declared.lines.LastLine.{LastLine}
-use Rattle.elasticlunr_message.specs.Forms.{asked_or_told}
+use Rattle.elasticlunr_documents.specs.declared.lines.LastLine.{LastLine}
+use Rattle.elasticlunr_diagnostics.specs.Forms.{asked_or_told}
 use Rattle.elasticlunr_input.specs.Indexes.{IsIndexAs, IsIndexOf, IsPlacedIfNotJson, IsRefusedInput}
 use Rattle.elasticlunr_input.specs.Inputs.{HasHead, IsHeadOf}
 use Rattle.elasticlunr_input.specs.Lines.{IsLinesLineWith}
-use Rattle.elasticlunr_message.specs.Messages.{IfPlaced, IsMemoryOrDevice}
+use Rattle.elasticlunr_diagnostics.specs.Messages.{IfPlaced, IsMemoryOrDevice}
 use Rattle.elasticlunr_input.specs.RefusedPlaces.{IsInputPlace, IsLinesPlace}
 use Rattle.elasticlunr_input.specs.RefusedRead.{AreRefusedFrom, IsReadOf, IsRefusedFrom}
 use Rattle.elasticlunr_input.specs.Settled.{Settings}
-use Rattle.elasticlunr_message.specs.declared.form.Form.{Form}
-use Rattle.elasticlunr_message.specs.declared.form.Form.TheVariants.{Lines}
-use Rattle.elasticlunr_message.specs.declared.message.Trouble.{Trouble}
-use Rattle.elasticlunr_message.specs.declared.message.Trouble.TheVariants.{Refused, Memory, Device}
+use Rattle.elasticlunr_diagnostics.specs.declared.form.Form.{Form}
+use Rattle.elasticlunr_diagnostics.specs.declared.form.Form.TheVariants.{Lines}
+use Rattle.elasticlunr_diagnostics.specs.declared.message.Trouble.{Trouble}
+use Rattle.elasticlunr_diagnostics.specs.declared.message.Trouble.TheVariants.{Refused, Memory, Device}
 use Rattle.elasticlunr_input.proofs.HeadLemmas.{told_head}
 use Rattle.elasticlunr_input.proofs.LinePlaces.{some_for}
 

@@ -4,16 +4,16 @@ use Rattle.std.specs.List.{slice_get}
 use Rattle.serde_json.specs.Data.{Data}
 use Rattle.elasticlunr_text.specs.Text.{Bytes}
 use Rattle.elasticlunr_job.specs.Answer.{FailsAt}
-use Rattle.elasticlunr_parse.specs.Job.{Document}
-use Rattle.elasticlunr_parse.specs.Lines.{readings, AreLineValues}
-use Rattle.elasticlunr_objects.specs.Lines.{IsLineOfLines}
-use Rattle.elasticlunr_parse.specs.Objects as objects
-use Rattle.elasticlunr_parse.specs.Objects.{AreDocumentsOf, HasProblem, IsDocumentOf, IsFirstProblem}
-use Rattle.elasticlunr_objects.specs.Objects.{IsLineOfObjects, job_of}
-use Rattle.elasticlunr_objects.specs.declared.objects.ObjectsError.TheVariants as error
-use Rattle.elasticlunr_parse.specs.declared.objects.Problem.{Problem}
-use Rattle.elasticlunr_parse.specs.declared.outcome.Refusal.{Refusal}
-use Rattle.elasticlunr_parse.specs.declared.outcome.Refusal.TheVariants.{NotJson, NotAJob, UnknownLanguage, DuplicateField, TooManyValues}
+use Rattle.elasticlunr_job_format.specs.Job.{Document}
+use Rattle.elasticlunr_job_format.specs.Lines.{readings, AreLineValues}
+use Rattle.elasticlunr_documents.specs.Lines.{IsLineOfLines}
+use Rattle.elasticlunr_job_format.specs.Objects as objects
+use Rattle.elasticlunr_job_format.specs.Objects.{AreDocumentsOf, HasProblem, IsDocumentOf, IsFirstProblem}
+use Rattle.elasticlunr_documents.specs.Objects.{IsLineOfObjects, job_of}
+use Rattle.elasticlunr_documents.specs.declared.objects.ObjectsError.TheVariants as error
+use Rattle.elasticlunr_job_format.specs.declared.objects.Problem.{Problem}
+use Rattle.elasticlunr_job_format.specs.declared.outcome.Refusal.{Refusal}
+use Rattle.elasticlunr_job_format.specs.declared.outcome.Refusal.TheVariants.{NotJson, NotAJob, UnknownLanguage, DuplicateField, TooManyValues}
 use Rattle.elasticlunr_input.specs.Asked.{options_of, reference_key_of}
 use Rattle.elasticlunr_input.specs.Fields.{fields_of_first, text_keys}
 use Rattle.elasticlunr_input.specs.Lines.{IsLinesLineWith}

@@ -2,17 +2,17 @@
 use Rattle.std.proofs.Common.{◌≡◌, ℕ, List, take, map, Option, Some, None, Result, Ok, Err, IfErr, IfSome, IsErrAnd, inl, inr, sym, subst}
 use Rattle.serde_json.specs.Data.{Data}
 use Rattle.elasticlunr_text.specs.Text.{Bytes}
-use Rattle.elasticlunr_parse.specs.Lines.{readings}
-use Rattle.elasticlunr_parse.specs.Objects.{Options}
+use Rattle.elasticlunr_job_format.specs.Lines.{readings}
+use Rattle.elasticlunr_job_format.specs.Objects.{Options}
 use Rattle.elasticlunr_input.specs.Asked.{options_of}
 use Rattle.elasticlunr_input.specs.FaultPlaces.{IsPlaceInObjectLines}
 use Rattle.elasticlunr_input.specs.Inputs.{IsBelow, IsPlacedBelow}
-use Rattle.elasticlunr_message.specs.Messages.{IfPlaced, IsLowered}
+use Rattle.elasticlunr_diagnostics.specs.Messages.{IfPlaced, IsLowered}
 use Rattle.elasticlunr_input.specs.RefusedPlaces.{IsLinesPlace}
 use Rattle.elasticlunr_input.specs.Settled.{Settings}
-use Rattle.elasticlunr_message.specs.declared.message.Trouble.{Trouble}
-use Rattle.elasticlunr_message.specs.declared.message.Trouble.TheVariants.{Refused, Memory, Device}
-use Rattle.elasticlunr_place.specs.declared.place.Place.{Place}
+use Rattle.elasticlunr_diagnostics.specs.declared.message.Trouble.{Trouble}
+use Rattle.elasticlunr_diagnostics.specs.declared.message.Trouble.TheVariants.{Refused, Memory, Device}
+use Rattle.elasticlunr_json_place.specs.declared.place.Place.{Place}
 use Rattle.elasticlunr_input.proofs.LinesBy.{IsPlaceInLines}
 use Rattle.elasticlunr_input.proofs.LineLemmas.{first_options, unread_with}
 

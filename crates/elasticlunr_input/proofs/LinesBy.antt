@@ -2,10 +2,10 @@
 use Rattle.std.proofs.Common.{◌⊎◌, List}
 use Rattle.serde_json.specs.Data.{Data}
 use Rattle.elasticlunr_text.specs.Text.{Bytes}
-use Rattle.elasticlunr_parse.specs.Lines.{AreLineValues}
-use Rattle.elasticlunr_parse.specs.Objects.{Options}
-use Rattle.elasticlunr_place.specs.Places.{IsPlaceIn}
-use Rattle.elasticlunr_place.specs.declared.place.Place.{Place}
+use Rattle.elasticlunr_job_format.specs.Lines.{AreLineValues}
+use Rattle.elasticlunr_job_format.specs.Objects.{Options}
+use Rattle.elasticlunr_json_place.specs.Places.{IsPlaceIn}
+use Rattle.elasticlunr_json_place.specs.declared.place.Place.{Place}
 use Rattle.elasticlunr_input.specs.FaultPlaces.{IsPlaceInObjectLines}
 use Rattle.elasticlunr_input.specs.Refused.{FailObjects, HasUnreadLine}
 

@@ -3,11 +3,11 @@ use Rattle.std.proofs.Common.{◌≡◌, ◌⊎◌, ◌++◌, ◌==◌, ◌&&◌
 use Rattle.std.specs.Fmt.{option_append}
 use Rattle.std.specs.Io.KnownBytes.{Consumes, IsAtEnd}
 use Rattle.elasticlunr_text.specs.Text.{Bytes}
-use Rattle.elasticlunr_message.specs.Forms.{asked_or_told}
-use Rattle.elasticlunr_message.specs.Messages.{IsMemoryOrDevice}
-use Rattle.elasticlunr_message.specs.declared.form.Form.{Form}
-use Rattle.elasticlunr_message.specs.declared.message.Trouble.{Trouble}
-use Rattle.elasticlunr_message.specs.declared.message.Trouble.TheVariants.{Refused, Memory, Device}
+use Rattle.elasticlunr_diagnostics.specs.Forms.{asked_or_told}
+use Rattle.elasticlunr_diagnostics.specs.Messages.{IsMemoryOrDevice}
+use Rattle.elasticlunr_diagnostics.specs.declared.form.Form.{Form}
+use Rattle.elasticlunr_diagnostics.specs.declared.message.Trouble.{Trouble}
+use Rattle.elasticlunr_diagnostics.specs.declared.message.Trouble.TheVariants.{Refused, Memory, Device}
 use Rattle.elasticlunr_input.specs.Mark.{without_mark}
 use Rattle.elasticlunr_input.specs.RefusedRead.{IsRefusedFrom}
 use Rattle.elasticlunr_input.specs.Settled.{Settings}

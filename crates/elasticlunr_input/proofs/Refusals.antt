@@ -1,8 +1,8 @@
 -- Why there is no index.
 use Rattle.std.proofs.Common.{◌≡◌, Result, Ok, Err, IfErr, IsErrAnd, sym, subst}
-use Rattle.elasticlunr_message.specs.Messages.{IsMemoryOr}
-use Rattle.elasticlunr_message.specs.declared.message.Trouble.{Trouble}
-use Rattle.elasticlunr_message.specs.declared.message.Trouble.TheVariants.{Refused, Memory, Device}
+use Rattle.elasticlunr_diagnostics.specs.Messages.{IsMemoryOr}
+use Rattle.elasticlunr_diagnostics.specs.declared.message.Trouble.{Trouble}
+use Rattle.elasticlunr_diagnostics.specs.declared.message.Trouble.TheVariants.{Refused, Memory, Device}
 
 pub for_reason : (A B : Type 0) (e : Trouble) → (A → B) → IsMemoryOr A e → IsMemoryOr B e
 for_reason A B Memory more is = tt

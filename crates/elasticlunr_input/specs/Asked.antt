@@ -4,8 +4,8 @@ use Rattle.serde_json.specs.Data.{Data}
 use Rattle.serde_json.specs.Find.{as_array}
 use Rattle.serde_json.specs.View.{items_of}
 use Rattle.elasticlunr_text.specs.Text.{Bytes}
-use Rattle.elasticlunr_parse.specs.Objects.{Options}
-use Rattle.elasticlunr_objects.specs.Objects.{IsLineOfObjects}
+use Rattle.elasticlunr_job_format.specs.Objects.{Options}
+use Rattle.elasticlunr_documents.specs.Objects.{IsLineOfObjects}
 use Rattle.elasticlunr_input.specs.Fields.{fields_of_first}
 use Rattle.elasticlunr_input.specs.Settled.{Settings}
 

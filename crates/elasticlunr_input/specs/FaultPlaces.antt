@@ -2,19 +2,19 @@
 use Rattle.std.specs.Prelude.{◌≡◌, ◌-◌, ◌⊎◌, ℕ, List, [], ◌∷◌, Bool, true, false, Some, None, slice_get, unwrap_or, codes, if◌then◌else◌}
 use Rattle.serde_json.specs.Data.{Data}
 use Rattle.elasticlunr_text.specs.Text.{Bytes}
-use Rattle.elasticlunr_parse.specs.Job.{Job, IsJob}
-use Rattle.elasticlunr_parse.specs.JobFaults.{HasFirstFault}
-use Rattle.elasticlunr_parse.specs.Objects.{Options, IsFirstProblem}
-use Rattle.elasticlunr_parse.specs.declared.fault.Fault.{Fault}
-use Rattle.elasticlunr_parse.specs.declared.objects.Problem.{Problem}
-use Rattle.elasticlunr_parse.specs.declared.objects.Problem.TheVariants as problem
-use Rattle.elasticlunr_parse.specs.declared.outcome.Refusal.{Refusal}
-use Rattle.elasticlunr_parse.specs.declared.outcome.Refusal.TheVariants.{UnknownLanguage, DuplicateField, TooManyValues}
+use Rattle.elasticlunr_job_format.specs.Job.{Job, IsJob}
+use Rattle.elasticlunr_job_format.specs.JobFaults.{HasFirstFault}
+use Rattle.elasticlunr_job_format.specs.Objects.{Options, IsFirstProblem}
+use Rattle.elasticlunr_job_format.specs.declared.fault.Fault.{Fault}
+use Rattle.elasticlunr_job_format.specs.declared.objects.Problem.{Problem}
+use Rattle.elasticlunr_job_format.specs.declared.objects.Problem.TheVariants as problem
+use Rattle.elasticlunr_job_format.specs.declared.outcome.Refusal.{Refusal}
+use Rattle.elasticlunr_job_format.specs.declared.outcome.Refusal.TheVariants.{UnknownLanguage, DuplicateField, TooManyValues}
 use Rattle.elasticlunr_input.specs.FirstFaults.{IsFirstTooLong, IsFirstTwice}
 use Rattle.elasticlunr_input.specs.Settled.{Settings, settled}
-use Rattle.elasticlunr_message.specs.FaultPaths.{fault_path}
-use Rattle.elasticlunr_place.specs.Members.{Move, item, under, IsPlaceOf}
-use Rattle.elasticlunr_place.specs.declared.place.Place.{Place}
+use Rattle.elasticlunr_diagnostics.specs.FaultPaths.{fault_path}
+use Rattle.elasticlunr_json_place.specs.Members.{Move, item, under, IsPlaceOf}
+use Rattle.elasticlunr_json_place.specs.declared.place.Place.{Place}
 
 -- the place is that of the language of a job, which no setting names
 abbrev pub IsPlaceOfLanguage : Settings → Bytes → Place → Type 0

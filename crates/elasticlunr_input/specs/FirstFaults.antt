@@ -3,7 +3,7 @@ use Rattle.std.specs.Prelude.{◌≡◌, ◌≤◌, ℕ, List, true, take, slice
 use Rattle.elasticlunr_text.specs.Text.{Bytes}
 use Rattle.elasticlunr.specs.Fields.{all_differ, has_name}
 use Rattle.elasticlunr_job.specs.Answer.{HasTooMany}
-use Rattle.elasticlunr_parse.specs.Job.{Document}
+use Rattle.elasticlunr_job_format.specs.Job.{Document}
 
 -- the field with this number, from 0, is the first that has the name of one before it
 pub record IsFirstTwice (fields : List Bytes) (i : ℕ) : Type 0 where

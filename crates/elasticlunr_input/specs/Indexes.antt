@@ -2,12 +2,12 @@
 use Rattle.std.specs.Prelude.{◌≡◌, ◌⊎◌, Option, Some, None}
 use Rattle.serde_json.specs.Data.{Data}
 use Rattle.elasticlunr_text.specs.Text.{Bytes}
-use Rattle.elasticlunr_parse.specs.Reading.{reading}
-use Rattle.elasticlunr_message.specs.Forms.{asked_or_told}
-use Rattle.elasticlunr_message.specs.Messages.{IsMemoryOr, IsMemoryOrPlaced}
-use Rattle.elasticlunr_message.specs.declared.form.Form.{Form}
-use Rattle.elasticlunr_message.specs.declared.form.Form.TheVariants.{Job, Objects, Lines}
-use Rattle.elasticlunr_message.specs.declared.message.Trouble.{Trouble}
+use Rattle.elasticlunr_job_format.specs.Reading.{reading}
+use Rattle.elasticlunr_diagnostics.specs.Forms.{asked_or_told}
+use Rattle.elasticlunr_diagnostics.specs.Messages.{IsMemoryOr, IsMemoryOrPlaced}
+use Rattle.elasticlunr_diagnostics.specs.declared.form.Form.{Form}
+use Rattle.elasticlunr_diagnostics.specs.declared.form.Form.TheVariants.{Job, Objects, Lines}
+use Rattle.elasticlunr_diagnostics.specs.declared.message.Trouble.{Trouble}
 use Rattle.elasticlunr_input.specs.Asked.{IsArrayLineWith}
 use Rattle.elasticlunr_input.specs.Lines.{IsLinesLineWith}
 use Rattle.elasticlunr_input.specs.Refused.{FailsJob, FailsArray, FailLines}

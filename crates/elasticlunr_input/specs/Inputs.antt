@@ -2,26 +2,26 @@
 use Rattle.std.specs.Prelude.{◌≡◌, ◌⊎◌, ◌++◌, ◌∷◌, ◌==◌, ⊤, ℕ, List, [], true, Option, Some, None, IfSome, count_by}
 use Rattle.serde_json.specs.Data.{Data}
 use Rattle.elasticlunr_text.specs.Text.{Bytes}
-use Rattle.elasticlunr_parse.specs.LineRead.{AreWhole, HasNoFeed, fed}
-use Rattle.elasticlunr_parse.specs.Lines.{filled_lines, is_filled}
-use Rattle.elasticlunr_parse.specs.Objects.{Options, HasProblem}
-use Rattle.elasticlunr_parse.specs.Reading.{reading}
-use Rattle.elasticlunr_parse.specs.declared.objects.Problem.{Problem}
-use Rattle.elasticlunr_parse.specs.declared.outcome.Refusal.{Refusal}
+use Rattle.elasticlunr_job_format.specs.LineRead.{AreWhole, HasNoFeed, fed}
+use Rattle.elasticlunr_job_format.specs.Lines.{filled_lines, is_filled}
+use Rattle.elasticlunr_job_format.specs.Objects.{Options, HasProblem}
+use Rattle.elasticlunr_job_format.specs.Reading.{reading}
+use Rattle.elasticlunr_job_format.specs.declared.objects.Problem.{Problem}
+use Rattle.elasticlunr_job_format.specs.declared.outcome.Refusal.{Refusal}
 use Rattle.elasticlunr_job.specs.Answer.{FailsAt}
-use Rattle.elasticlunr_objects.specs.Lines.{StopsAtLine}
-use Rattle.elasticlunr_objects.specs.Objects.{job_of}
-use Rattle.elasticlunr_objects.specs.declared.lines.LastLine.{LastLine}
-use Rattle.elasticlunr_objects.specs.declared.lines.LinesError.{LinesError}
-use Rattle.elasticlunr_objects.specs.declared.lines.LinesError.TheVariants as lines_error
-use Rattle.elasticlunr_place.specs.Members.{IsPlaceOf}
-use Rattle.elasticlunr_place.specs.Places.{IsPlaceIn}
-use Rattle.elasticlunr_place.specs.Whole.{below}
-use Rattle.elasticlunr_place.specs.declared.place.Place.{Place}
+use Rattle.elasticlunr_documents.specs.Lines.{StopsAtLine}
+use Rattle.elasticlunr_documents.specs.Objects.{job_of}
+use Rattle.elasticlunr_documents.specs.declared.lines.LastLine.{LastLine}
+use Rattle.elasticlunr_documents.specs.declared.lines.LinesError.{LinesError}
+use Rattle.elasticlunr_documents.specs.declared.lines.LinesError.TheVariants as lines_error
+use Rattle.elasticlunr_json_place.specs.Members.{IsPlaceOf}
+use Rattle.elasticlunr_json_place.specs.Places.{IsPlaceIn}
+use Rattle.elasticlunr_json_place.specs.Whole.{below}
+use Rattle.elasticlunr_json_place.specs.declared.place.Place.{Place}
 use Rattle.elasticlunr_input.specs.FaultPlaces.{problem_path}
-use Rattle.elasticlunr_message.specs.Messages.{IsLowered}
-use Rattle.elasticlunr_message.specs.declared.message.Trouble.{Trouble}
-use Rattle.elasticlunr_message.specs.declared.message.Trouble.TheVariants as trouble
+use Rattle.elasticlunr_diagnostics.specs.Messages.{IsLowered}
+use Rattle.elasticlunr_diagnostics.specs.declared.message.Trouble.{Trouble}
+use Rattle.elasticlunr_diagnostics.specs.declared.message.Trouble.TheVariants as trouble
 
 -- the line that was read last ends the head of a text, and all before it is blank; it is not, or nothing is behind it
 pub record IsHeadOf (head rest line : Bytes) (feeds : ℕ) : Type 0 where

@@ -2,7 +2,7 @@
 use Rattle.std.specs.Prelude.{List}
 use Rattle.serde_json.specs.Data.{Data}
 use Rattle.elasticlunr_text.specs.Text.{Bytes}
-use Rattle.elasticlunr_parse.specs.Lines.{AreLineValues}
+use Rattle.elasticlunr_job_format.specs.Lines.{AreLineValues}
 use Rattle.elasticlunr_input.specs.Asked.{IsObjectsLineWith}
 use Rattle.elasticlunr_input.specs.Settled.{Settings}
 

@@ -4,17 +4,17 @@ use Rattle.serde_json.specs.Data.{Data}
 use Rattle.serde_json.specs.Find.{as_array}
 use Rattle.serde_json.specs.View.{items_of}
 use Rattle.elasticlunr_text.specs.Text.{Bytes}
-use Rattle.elasticlunr_parse.specs.Lines.{readings, AreLineValues}
-use Rattle.elasticlunr_parse.specs.Job.{Document}
-use Rattle.elasticlunr_parse.specs.Objects.{Options, AreDocumentsOf}
-use Rattle.elasticlunr_objects.specs.Objects.{FailsObjects}
-use Rattle.elasticlunr_parse.specs.declared.outcome.Refusal.{Refusal}
-use Rattle.elasticlunr_objects.specs.declared.objects.ObjectsError.{ObjectsError}
-use Rattle.elasticlunr_objects.specs.declared.objects.ObjectsError.TheVariants as error
-use Rattle.elasticlunr_message.specs.Messages.{IsMemoryOr}
+use Rattle.elasticlunr_job_format.specs.Lines.{readings, AreLineValues}
+use Rattle.elasticlunr_job_format.specs.Job.{Document}
+use Rattle.elasticlunr_job_format.specs.Objects.{Options, AreDocumentsOf}
+use Rattle.elasticlunr_documents.specs.Objects.{FailsObjects}
+use Rattle.elasticlunr_job_format.specs.declared.outcome.Refusal.{Refusal}
+use Rattle.elasticlunr_documents.specs.declared.objects.ObjectsError.{ObjectsError}
+use Rattle.elasticlunr_documents.specs.declared.objects.ObjectsError.TheVariants as error
+use Rattle.elasticlunr_diagnostics.specs.Messages.{IsMemoryOr}
 use Rattle.elasticlunr_input.specs.Asked.{options_of}
 use Rattle.elasticlunr_input.specs.Settled.{Settings, IsRefusedWith}
-use Rattle.elasticlunr_message.specs.declared.message.Trouble.{Trouble}
+use Rattle.elasticlunr_diagnostics.specs.declared.message.Trouble.{Trouble}
 
 -- the values fail a check of objects that are read so
 abbrev pub FailObjects : Options → List Data → Type 0

@@ -4,19 +4,19 @@ use Rattle.serde_json.specs.Data.{Data}
 use Rattle.serde_json.specs.Find.{as_array}
 use Rattle.serde_json.specs.View.{items_of}
 use Rattle.elasticlunr_text.specs.Text.{Bytes}
-use Rattle.elasticlunr_parse.specs.Reading.{reading}
-use Rattle.elasticlunr_parse.specs.declared.outcome.Refusal.{Refusal}
+use Rattle.elasticlunr_job_format.specs.Reading.{reading}
+use Rattle.elasticlunr_job_format.specs.declared.outcome.Refusal.{Refusal}
 use Rattle.elasticlunr_input.specs.Asked.{options_of}
 use Rattle.elasticlunr_input.specs.FaultPlaces.{IsPlaceInJob, IsPlaceInObjectLines, IsPlaceInObjects}
 use Rattle.elasticlunr_input.specs.Indexes.{IsNotJson}
-use Rattle.elasticlunr_parse.specs.Lines.{AreLineValues}
-use Rattle.elasticlunr_place.specs.Members.{IsPlaceOf}
-use Rattle.elasticlunr_place.specs.Places.{IsPlaceIn}
+use Rattle.elasticlunr_job_format.specs.Lines.{AreLineValues}
+use Rattle.elasticlunr_json_place.specs.Members.{IsPlaceOf}
+use Rattle.elasticlunr_json_place.specs.Places.{IsPlaceIn}
 use Rattle.elasticlunr_input.specs.Refused.{HasUnreadLine}
 use Rattle.elasticlunr_input.specs.Settled.{Settings, IsRefusedWith}
-use Rattle.elasticlunr_message.specs.declared.form.Form.{Form}
-use Rattle.elasticlunr_message.specs.declared.form.Form.TheVariants.{Job, Objects, Lines}
-use Rattle.elasticlunr_place.specs.declared.place.Place.{Place}
+use Rattle.elasticlunr_diagnostics.specs.declared.form.Form.{Form}
+use Rattle.elasticlunr_diagnostics.specs.declared.form.Form.TheVariants.{Job, Objects, Lines}
+use Rattle.elasticlunr_json_place.specs.declared.place.Place.{Place}
 
 -- it is that of what the value is refused for as a job with these settings
 abbrev pub IsJobPlace : Settings → Bytes → Data → Place → Type 0

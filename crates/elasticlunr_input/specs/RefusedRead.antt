@@ -1,15 +1,15 @@
 -- An input that is refused, as far as it was read.
 use Rattle.std.specs.Prelude.{◌≡◌, ◌⊎◌, ◌++◌, ⊤, IfSome, IsSome}
 use Rattle.elasticlunr_text.specs.Text.{Bytes}
-use Rattle.elasticlunr_parse.specs.LineRead.{AreWhole, EndsLine}
+use Rattle.elasticlunr_job_format.specs.LineRead.{AreWhole, EndsLine}
 use Rattle.elasticlunr_input.specs.Indexes.{FailsInput, IsNotJson}
 use Rattle.elasticlunr_input.specs.Refused.{FailLines}
 use Rattle.elasticlunr_input.specs.RefusedPlaces.{IsInputPlace, IsLinesPlace}
 use Rattle.elasticlunr_input.specs.Settled.{Settings}
-use Rattle.elasticlunr_message.specs.declared.form.Form.{Form}
-use Rattle.elasticlunr_message.specs.declared.form.Form.TheVariants.{Lines}
-use Rattle.elasticlunr_message.specs.declared.message.Trouble.{Trouble}
-use Rattle.elasticlunr_message.specs.declared.message.Trouble.TheVariants.{Refused, Device}
+use Rattle.elasticlunr_diagnostics.specs.declared.form.Form.{Form}
+use Rattle.elasticlunr_diagnostics.specs.declared.form.Form.TheVariants.{Lines}
+use Rattle.elasticlunr_diagnostics.specs.declared.message.Trouble.{Trouble}
+use Rattle.elasticlunr_diagnostics.specs.declared.message.Trouble.TheVariants.{Refused, Device}
 
 -- the text begins with these lines
 abbrev pub BeginsWith : (text read : Bytes) → Type 0

@@ -2,10 +2,10 @@
 use Rattle.std.specs.Prelude.{List, Bool, true, false, Option, option_map, unwrap_or, string_bytes, if◌then◌else◌}
 use Rattle.serde_json.specs.Data.{Data}
 use Rattle.elasticlunr_text.specs.Text.{Bytes, bytes_of}
-use Rattle.elasticlunr_parse.specs.Job.{IsNoJob, Job, IsJob}
+use Rattle.elasticlunr_job_format.specs.Job.{IsNoJob, Job, IsJob}
 use Rattle.elasticlunr_job.specs.Answer.{IsLineOf, FailsAt}
-use Rattle.elasticlunr_parse.specs.declared.outcome.Refusal.{Refusal}
-use Rattle.elasticlunr_parse.specs.declared.outcome.Refusal.TheVariants.{NotJson, NotAJob}
+use Rattle.elasticlunr_job_format.specs.declared.outcome.Refusal.{Refusal}
+use Rattle.elasticlunr_job_format.specs.declared.outcome.Refusal.TheVariants.{NotJson, NotAJob}
 use Rattle.elasticlunr_input.specs.declared.settings.Settings as declared
 
 -- what is said of an index beside its input

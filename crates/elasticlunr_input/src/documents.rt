@@ -1,25 +1,25 @@
 //! The index of documents that are objects in an array, and what is wrong with documents.
 ghost use Rattle.std.specs.Prelude.{◌≡◌, ◌-◌, ◌∷◌, None, map, take, length, string_bytes, if◌then◌else◌, IfOk, IfErr, IfSome};
-ghost use Rattle.elasticlunr_objects.specs.Objects.{IsLineOfObjects};
-ghost use Rattle.elasticlunr_parse.specs.ObjectsTold.{options_told, texts_told};
+ghost use Rattle.elasticlunr_documents.specs.Objects.{IsLineOfObjects};
+ghost use Rattle.elasticlunr_job_format.specs.ObjectsTold.{options_told, texts_told};
 ghost use Rattle.elasticlunr_input.specs.FaultPlaces.{is_of_member, problem_key, problem_path, IsPlaceInObjects};
-ghost use Rattle.elasticlunr_place.specs.Members.{item, IsPlaceOf};
+ghost use Rattle.elasticlunr_json_place.specs.Members.{item, IsPlaceOf};
 ghost use Rattle.elasticlunr_input.specs.Fields.{is_field, text_keys};
 ghost use Rattle.elasticlunr_input.specs.Refused.{IsRefusedObjects};
-ghost use Rattle.elasticlunr_message.specs.Messages.{IfPlaced};
+ghost use Rattle.elasticlunr_diagnostics.specs.Messages.{IfPlaced};
 ghost use Rattle.serde_json.specs.View.{view};
 
 use crate::jobs::duplicate_field;
 use crate::notes::Notes;
 use crate::tokens::Tokens;
-use elasticlunr_job::outcome::Refusal;
-use elasticlunr_message::language::unknown_language;
-use elasticlunr_message::message::{Message, Trouble, kind_words, unplaced};
-use elasticlunr_objects::objects::{
+use elasticlunr_diagnostics::language::unknown_language;
+use elasticlunr_diagnostics::message::{Message, Trouble, kind_words, unplaced};
+use elasticlunr_documents::objects::{
     AddError, ObjectsError, Options, Problem, object_of, objects_line,
 };
-use elasticlunr_place::member::{Step, place_of};
-use elasticlunr_place::place::Place;
+use elasticlunr_job::outcome::Refusal;
+use elasticlunr_json_place::member::{Step, place_of};
+use elasticlunr_json_place::place::Place;
 use serde_json::Value;
 use std::alloc::{AllocError, Global};
 

@@ -1,9 +1,9 @@
 //! The index of a job.
 ghost use Rattle.std.specs.Prelude.{◌≡◌, true, string_bytes, IfOk, IfErr, IfSome, IfNone};
 ghost use Rattle.elasticlunr.specs.Fields.{all_differ, borrowed};
-ghost use Rattle.elasticlunr_parse.specs.JobTold.{job_told};
-ghost use Rattle.elasticlunr_parse.specs.Stop.{StopsWithReason};
-ghost use Rattle.elasticlunr_parse.specs.declared.outcome.Refusal.{Refusal};
+ghost use Rattle.elasticlunr_job_format.specs.JobTold.{job_told};
+ghost use Rattle.elasticlunr_job_format.specs.Stop.{StopsWithReason};
+ghost use Rattle.elasticlunr_job_format.specs.declared.outcome.Refusal.{Refusal};
 ghost use Rattle.elasticlunr_input.specs.FaultPlaces.{IsPlaceInJob, IsPlaceOfField, IsPlaceOfLanguage, IsPlaceOfRefusal, IsPlaceOfTooLong};
 ghost use Rattle.elasticlunr_input.specs.FirstFaults.{AllFit, IsFirstTooLong, IsFirstTwice};
 ghost use Rattle.elasticlunr_input.specs.Settled.{IsLineWith, IsRefusedWith, settings_told};
@@ -12,14 +12,14 @@ ghost use Rattle.serde_json.specs.View.{view};
 use crate::notes::Notes;
 use crate::settings::{Settings, settle};
 use crate::tokens::Tokens;
+use elasticlunr_diagnostics::job_fault::fault_message;
+use elasticlunr_diagnostics::language::unknown_language;
+use elasticlunr_diagnostics::message::{Message, Trouble, counted, message_at, unplaced};
 use elasticlunr_job::answer::job_line;
 use elasticlunr_job::fault::first_fault;
 use elasticlunr_job::job::{Document, Job, parse};
 use elasticlunr_job::outcome::{Refusal, Stop};
-use elasticlunr_message::job_fault::fault_message;
-use elasticlunr_message::language::unknown_language;
-use elasticlunr_message::message::{Message, Trouble, counted, message_at, unplaced};
-use elasticlunr_place::member::Step;
+use elasticlunr_json_place::member::Step;
 use serde_json::Value;
 use std::alloc::{AllocError, Global};
 

@@ -2,9 +2,9 @@
 ghost use Rattle.std.specs.Io.KnownBytes.{Consumes, IsAtEnd};
 ghost use Rattle.std.specs.Prelude.{◌≡◌, ◌⊎◌, ◌∷◌, [], length, IfOk, IfErr, IfSome, IfNone};
 ghost use Rattle.elasticlunr_input.specs.Mark.{without_mark};
-ghost use Rattle.elasticlunr_message.specs.Messages.{IsMemoryOrDevice};
+ghost use Rattle.elasticlunr_diagnostics.specs.Messages.{IsMemoryOrDevice};
 
-use elasticlunr_message::message::Trouble;
+use elasticlunr_diagnostics::message::Trouble;
 use std::alloc::Global;
 use std::io::{self, BufRead};
 

@@ -2,7 +2,7 @@
 
 use crate::settings::Settings;
 use crate::tokens::Tokens;
-use elasticlunr_objects::objects::{Object, Options};
+use elasticlunr_documents::objects::{Object, Options};
 use std::alloc::{AllocError, Global};
 use std::collections::{BTreeMap, HashSet};
 

@@ -1,7 +1,7 @@
 //! What is said of an index beside its input.
 ghost use Rattle.std.specs.Prelude.{◌≡◌, map, option_map, string_bytes, unwrap_or, IfOk};
 ghost use Rattle.elasticlunr_text.specs.Text.{bytes_of};
-ghost use Rattle.elasticlunr_parse.specs.JobTold.{job_told};
+ghost use Rattle.elasticlunr_job_format.specs.JobTold.{job_told};
 ghost use Rattle.elasticlunr_input.specs.Settled.{settled, settings_told};
 
 use elasticlunr_job::job::Job;

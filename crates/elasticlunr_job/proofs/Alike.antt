@@ -14,8 +14,8 @@ use Rattle.elasticlunr_job.specs.Answer.{HasTooMany}
 use Rattle.elasticlunr.specs.Calls.{followed_by}
 use Rattle.elasticlunr_job.specs.Commands.{compacted}
 use Rattle.elasticlunr_job.proofs.Taken.{Follows}
-use Rattle.elasticlunr_parse.specs.JobTold.{document_told}
-use Rattle.elasticlunr_parse.specs.declared.job.Document as held
+use Rattle.elasticlunr_job_format.specs.JobTold.{document_told}
+use Rattle.elasticlunr_job_format.specs.declared.job.Document as held
 
 -- a call that was not refused has not too many values
 pub not_refused : {T E : Type 0} (r : Result T E) (ok : T) (failed too_many : E) (F M : Type 0) → r ≡ Ok ok → (r ≡ Err failed) ↔ F → (r ≡ Err too_many) ↔ (¬ F × M) → ¬ M

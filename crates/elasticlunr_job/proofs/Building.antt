@@ -10,9 +10,9 @@ use Rattle.elasticlunr.specs.Standing.{Plan}
 use Rattle.elasticlunr.specs.Reading.{LanguageReads, ReadsOnly}
 use Rattle.elasticlunr_job.specs.Commands.{language_tokens}
 use Rattle.elasticlunr_job.specs.Filled.{IsBuiltFor}
-use Rattle.elasticlunr_parse.specs.JobTold.{job_told}
-use Rattle.elasticlunr_parse.specs.declared.job.Job as held
-use Rattle.elasticlunr_parse.specs.Job.{Job}
+use Rattle.elasticlunr_job_format.specs.JobTold.{job_told}
+use Rattle.elasticlunr_job_format.specs.declared.job.Job as held
+use Rattle.elasticlunr_job_format.specs.Job.{Job}
 
 nothing_there : {T : Type 0} (names : List Bytes) (i : ℕ) (tokenizer : T) → slice_get (map {A = Bytes} {B = Option T} (λ _. None) names) i ≢ Some (Some tokenizer)
 nothing_there [] i tokenizer e = cc

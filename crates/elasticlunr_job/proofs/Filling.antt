@@ -7,9 +7,9 @@ use Rattle.elasticlunr_text.specs.Text.{Bytes}
 use Rattle.elasticlunr.specs.History.{Command, Commands, Document, add, remove, ◌▸◌}
 use Rattle.elasticlunr.specs.Calls.{followed_by}
 use Rattle.elasticlunr_job.specs.Commands.{compacted}
-use Rattle.elasticlunr_parse.specs.JobTold.{document_told, job_told}
-use Rattle.elasticlunr_parse.specs.declared.job.Document as held
-use Rattle.elasticlunr_parse.specs.declared.job.Job as held_job
+use Rattle.elasticlunr_job_format.specs.JobTold.{document_told, job_told}
+use Rattle.elasticlunr_job_format.specs.declared.job.Document as held
+use Rattle.elasticlunr_job_format.specs.declared.job.Job as held_job
 use Rattle.elasticlunr_job.proofs.Taken.{AreMade, Follows, HasDone, HasTaken, Makes, Standing}
 
 followed_by-append : (commands : Commands) (xs ys : List Command) → followed_by commands (xs ++ ys) ≡ followed_by (followed_by commands xs) ys

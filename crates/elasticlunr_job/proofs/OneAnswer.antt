@@ -3,13 +3,13 @@ use Rattle.std.proofs.Common.{◌≡◌, ◌≤◌, ◌<◌, ℕ, List, length, 
 use Rattle.serde_json.specs.Data.{Data}
 use Rattle.elasticlunr_lang.specs.Known.{language_name}
 use Rattle.elasticlunr_lang.specs.declared.any.AnyLanguage.{AnyLanguage}
-use Rattle.elasticlunr_parse.specs.Job.{Document, Job, IsJob, IsNoJob}
-use Rattle.elasticlunr_parse.specs.Reading.{reading}
+use Rattle.elasticlunr_job_format.specs.Job.{Document, Job, IsJob, IsNoJob}
+use Rattle.elasticlunr_job_format.specs.Reading.{reading}
 use Rattle.elasticlunr_job.specs.Answer.{HasJob, HasTooMany, FailsAt, Passes, IsIndexLine, IsRefused, IsAnswer, line, refusal_text}
 use Rattle.elasticlunr_job.specs.declared.outcome.Outcome.{Outcome}
 use Rattle.elasticlunr_job.specs.declared.outcome.Outcome.TheVariants.{Printed, Refused}
-use Rattle.elasticlunr_parse.specs.declared.outcome.Refusal.{Refusal}
-use Rattle.elasticlunr_parse.specs.declared.outcome.Refusal.TheVariants.{NotJson, NotAJob, UnknownLanguage, DuplicateField, TooManyValues}
+use Rattle.elasticlunr_job_format.specs.declared.outcome.Refusal.{Refusal}
+use Rattle.elasticlunr_job_format.specs.declared.outcome.Refusal.TheVariants.{NotJson, NotAJob, UnknownLanguage, DuplicateField, TooManyValues}
 use Rattle.elasticlunr_job.proofs.OneJob.{same_some, one_input}
 use Rattle.elasticlunr_job.proofs.OneLine.{OneValue, OneDocument, one_line}
 use Rattle.elasticlunr_job.proofs.OneLanguage.{same_name}

@@ -2,10 +2,10 @@
 use Rattle.std.proofs.Common.{◌≡◌, ℕ, List, [], ◌∷◌, map, Bool, Option, Some, refl, sym, ap, subst, ◌∙◌}
 use Rattle.serde_json.specs.Data.{Data, boolean, string}
 use Rattle.serde_json.specs.Find.{as_str, as_bool}
-use Rattle.elasticlunr_parse.specs.Job.{Document, Job, IsJob, texts, document}
-use Rattle.elasticlunr_parse.specs.Reading.{reading}
+use Rattle.elasticlunr_job_format.specs.Job.{Document, Job, IsJob, texts, document}
+use Rattle.elasticlunr_job_format.specs.Reading.{reading}
 use Rattle.elasticlunr_job.specs.Answer.{HasJob}
-use Rattle.elasticlunr_parse.proofs.JobValues.{same_items}
+use Rattle.elasticlunr_job_format.proofs.JobValues.{same_items}
 
 pub same_some : {X : Type 0} (o : Option X) (x y : X) → o ≡ Some x → o ≡ Some y → x ≡ y
 same_some o x y e f = cc

@@ -13,7 +13,7 @@ use Rattle.elasticlunr.specs.Standing.{Plan}
 use Rattle.elasticlunr.proofs.Calling.{one_zip}
 use Rattle.elasticlunr_job.specs.Answer.{IsIndexLine, line, printed_text}
 use Rattle.elasticlunr_job.specs.Commands.{IsAdded, in_order, job_plan, language_tokens}
-use Rattle.elasticlunr_parse.specs.Job.{Job}
+use Rattle.elasticlunr_job_format.specs.Job.{Job}
 
 -- settings and commands have one value
 abbrev pub OneValue : Type 0

@@ -14,7 +14,7 @@ use Rattle.elasticlunr.specs.Calls.{followed_by}
 use Rattle.elasticlunr_job.specs.Commands.{IsAdded, in_order}
 use Rattle.elasticlunr_job.specs.Filled.{IsBuiltFor}
 use Rattle.elasticlunr_job.proofs.Taken.{HasDone}
-use Rattle.elasticlunr_parse.specs.Job.{Job}
+use Rattle.elasticlunr_job_format.specs.Job.{Job}
 
 -- its text, of the commands that it stands for
 pub told_print : {E : Type 0} (r : Result (String Global) E) (Stands : Commands → Type 0) (plan : Plan) (pretty : Bool) (text_of : Data → Bytes) → ((value : Data) → text_of value ≡ printed_text pretty value)

@@ -9,15 +9,15 @@ use Rattle.elasticlunr_lang.specs.declared.any.AnyLanguage.{AnyLanguage}
 use Rattle.elasticlunr_lang.specs.declared.any.AnyLanguage.TheVariants.{English, Arabic, Danish, Dutch, Finnish, French, German, Italian, Korean, Norwegian, Portuguese, Romanian, Russian, Spanish, Swedish, Turkish}
 use Rattle.elasticlunr.specs.Fields.{all_differ}
 use Rattle.elasticlunr_job.specs.Answer.{FailsAt, NamesLanguage}
-use Rattle.elasticlunr_parse.specs.Job.{Job}
-use Rattle.elasticlunr_parse.specs.declared.outcome.Refusal.{Refusal}
-use Rattle.elasticlunr_parse.specs.declared.outcome.Stop.{Stop}
+use Rattle.elasticlunr_job_format.specs.Job.{Job}
+use Rattle.elasticlunr_job_format.specs.declared.outcome.Refusal.{Refusal}
+use Rattle.elasticlunr_job_format.specs.declared.outcome.Stop.{Stop}
 use Rattle.elasticlunr_text.specs.IndexError.{IndexError}
 use Rattle.elasticlunr_text.specs.IndexError.TheVariants as index
-use Rattle.elasticlunr_parse.specs.declared.outcome.Refusal.TheVariants.{TooManyValues}
-use Rattle.elasticlunr_parse.specs.declared.outcome.Stop.TheVariants.{Memory}
-use Rattle.elasticlunr_parse.specs.IndexStop.{stop_of}
-use Rattle.elasticlunr_parse.specs.Stop.{StopsOnlyBy, StopsWithReason}
+use Rattle.elasticlunr_job_format.specs.declared.outcome.Refusal.TheVariants.{TooManyValues}
+use Rattle.elasticlunr_job_format.specs.declared.outcome.Stop.TheVariants.{Memory}
+use Rattle.elasticlunr_job_format.specs.IndexStop.{stop_of}
+use Rattle.elasticlunr_job_format.specs.Stop.{StopsOnlyBy, StopsWithReason}
 
 -- the exit of a call that finds too many values, where the index works still
 pub later_too_many : {T : Type 0} (r : Result T Stop) (Fails Later Q : Type 0) (e : IndexError) → IsErrAnd r (λ y. y ≡ stop_of e) → (¬ Fails → ¬ Later) → (e ≡ index.Failed → Later) → (e ≡ index.TooManyValues → Q)

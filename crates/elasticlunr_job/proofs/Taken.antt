@@ -6,8 +6,8 @@ use Rattle.elasticlunr_text.specs.Text.{Bytes}
 use Rattle.elasticlunr.specs.Calls.{followed_by}
 use Rattle.elasticlunr.specs.History.{Command, Commands, Document, add}
 use Rattle.elasticlunr_job.specs.Commands.{in_order}
-use Rattle.elasticlunr_parse.specs.Job as asked
-use Rattle.elasticlunr_parse.specs.Job.{Job}
+use Rattle.elasticlunr_job_format.specs.Job as asked
+use Rattle.elasticlunr_job_format.specs.Job.{Job}
 
 abbrev pub Makes : Type 1
 Makes = Bytes → List Bytes → Document → Type 0

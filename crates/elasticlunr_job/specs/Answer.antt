@@ -9,12 +9,12 @@ use Rattle.elasticlunr.specs.Fields.{all_differ}
 use Rattle.elasticlunr.specs.History.{Commands}
 use Rattle.elasticlunr.specs.Printed.{IsValue, pretty_text}
 use Rattle.elasticlunr_job.specs.Commands.{AreCommandsOf, job_plan}
-use Rattle.elasticlunr_parse.specs.Job.{Document, Job, IsJob, IsNoJob}
-use Rattle.elasticlunr_parse.specs.Reading.{reading}
+use Rattle.elasticlunr_job_format.specs.Job.{Document, Job, IsJob, IsNoJob}
+use Rattle.elasticlunr_job_format.specs.Reading.{reading}
 use Rattle.elasticlunr_job.specs.declared.outcome.Outcome.{Outcome}
 use Rattle.elasticlunr_job.specs.declared.outcome.Outcome.TheVariants.{Printed, Refused}
-use Rattle.elasticlunr_parse.specs.declared.outcome.Refusal.{Refusal}
-use Rattle.elasticlunr_parse.specs.declared.outcome.Refusal.TheVariants.{NotJson, NotAJob, UnknownLanguage, DuplicateField, TooManyValues}
+use Rattle.elasticlunr_job_format.specs.declared.outcome.Refusal.{Refusal}
+use Rattle.elasticlunr_job_format.specs.declared.outcome.Refusal.TheVariants.{NotJson, NotAJob, UnknownLanguage, DuplicateField, TooManyValues}
 
 -- the bytes are JSON, and that is this job
 abbrev pub HasJob : Bytes → Job → Type 0

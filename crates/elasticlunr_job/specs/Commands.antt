@@ -10,8 +10,8 @@ use Rattle.elasticlunr.specs.Documents.{IsDocument}
 use Rattle.elasticlunr.specs.History.{Document, Command, add, remove, compact, Commands, none}
 use Rattle.elasticlunr.specs.Reading.{LanguageReads}
 use Rattle.elasticlunr.specs.Standing.{Plan}
-use Rattle.elasticlunr_parse.specs.Job as asked
-use Rattle.elasticlunr_parse.specs.Job.{Job}
+use Rattle.elasticlunr_job_format.specs.Job as asked
+use Rattle.elasticlunr_job_format.specs.Job.{Job}
 
 -- how the index of the job is built
 abbrev pub job_plan : Job → AnyLanguage → Plan

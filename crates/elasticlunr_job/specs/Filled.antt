@@ -6,8 +6,8 @@ use Rattle.elasticlunr_lang.specs.declared.any.AnyLanguage.{AnyLanguage}
 use Rattle.elasticlunr.specs.History.{Document, Commands, none}
 use Rattle.elasticlunr.specs.Standing.{Plan}
 use Rattle.elasticlunr_job.specs.Commands.{IsAdded, job_plan}
-use Rattle.elasticlunr_parse.specs.Job as asked
-use Rattle.elasticlunr_parse.specs.Job.{Job}
+use Rattle.elasticlunr_job_format.specs.Job as asked
+use Rattle.elasticlunr_job_format.specs.Job.{Job}
 
 -- no document has more values than there are fields
 abbrev pub Fits : List Bytes → List asked.Document → Type 0

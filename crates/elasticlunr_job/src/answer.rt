@@ -9,17 +9,17 @@ ghost use Rattle.elasticlunr_text.specs.Text.{Bytes};
 ghost use Rattle.elasticlunr_job.specs.Answer.{FailsAt, HasTooMany, IsIndexLine, IsLineOf, IsRefused, IsAnswer, line, printed_text, refusal_text};
 ghost use Rattle.elasticlunr_job.specs.Commands.{language_tokens};
 ghost use Rattle.elasticlunr_job.specs.Filled.{Fits, IsBuiltFor};
-ghost use Rattle.elasticlunr_parse.specs.JobTold.{job_told};
-ghost use Rattle.elasticlunr_parse.specs.Stop.{StopsOnlyBy, StopsWithReason};
+ghost use Rattle.elasticlunr_job_format.specs.JobTold.{job_told};
+ghost use Rattle.elasticlunr_job_format.specs.Stop.{StopsOnlyBy, StopsWithReason};
 ghost use Rattle.elasticlunr_job.specs.declared.outcome.Outcome.TheVariants.{Printed};
-ghost use Rattle.elasticlunr_parse.specs.declared.outcome.Refusal.TheVariants.{TooManyValues, NotJson};
+ghost use Rattle.elasticlunr_job_format.specs.declared.outcome.Refusal.TheVariants.{TooManyValues, NotJson};
 
 use crate::outcome::{Outcome, Refusal, Stop};
 use elasticlunr::lang::{AnyLanguage, from_name};
 use elasticlunr::laws::calls::an_index_makes_what_its_language_makes;
 use elasticlunr::{Index, IndexBuilder, IndexError};
-use elasticlunr_parse::job::{Job, parse};
-use elasticlunr_parse::read::read_json;
+use elasticlunr_job_format::job::{Job, parse};
+use elasticlunr_job_format::read::read_json;
 use std::alloc::{AllocError, Global};
 
 /// The text of an index.

@@ -6,7 +6,7 @@ ghost use Rattle.elasticlunr_job.specs.declared.outcome.Outcome.{Outcome};
 
 use elasticlunr::laws::calls::a_kept_language_makes_one_document;
 use elasticlunr::laws::values::settings_and_commands_have_one_value;
-pub use elasticlunr_parse::laws::a_fault_is_no_job;
+pub use elasticlunr_job_format::laws::a_fault_is_no_job;
 
 /// An input has one outcome, and one text is written for it.
 pub fn one_answer()

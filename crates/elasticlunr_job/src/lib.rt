@@ -10,4 +10,4 @@ pub mod laws;
 pub mod outcome;
 pub mod run;
 
-pub use elasticlunr_parse::{fault, job, key, kind};
+pub use elasticlunr_job_format::{fault, job, key, kind};

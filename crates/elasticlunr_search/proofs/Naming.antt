@@ -6,7 +6,7 @@ use Rattle.serde_json.specs.Find.{get, as_str}
 use Rattle.elasticlunr_text.specs.Text.{Bytes}
 use Rattle.elasticlunr.specs.Shape.{HasLanguage}
 use Rattle.elasticlunr_json.proofs.ReadingMaps.{no_string, string_of}
-use Rattle.elasticlunr_printed.proofs.Shapes.{one_language}
+use Rattle.elasticlunr_print.proofs.Shapes.{one_language}
 use Rattle.elasticlunr_search.specs.Refusal.{NamesOther}
 
 -- a value without a language, or without a text there, names none

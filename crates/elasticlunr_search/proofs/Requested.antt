@@ -15,7 +15,7 @@ use Rattle.elasticlunr_lang.specs.Known.{language_name, language_stages}
 use Rattle.elasticlunr_lang.specs.declared.any.AnyLanguage.{AnyLanguage}
 use Rattle.elasticlunr.specs.Fields.{has_name}
 use Rattle.elasticlunr.specs.Shape.{HasLanguage}
-use Rattle.elasticlunr_printed.proofs.Shapes.{one_language}
+use Rattle.elasticlunr_print.proofs.Shapes.{one_language}
 use Rattle.elasticlunr_search.specs.Answers.{Asks, HasBelow, is_line_feed}
 use Rattle.elasticlunr_search.specs.Fields.{HasNoField, IsIndexWith}
 use Rattle.elasticlunr_search.specs.Refusal.{Lacks, RefusesValue, StopsBy}

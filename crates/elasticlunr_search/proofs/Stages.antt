@@ -11,7 +11,7 @@ use Rattle.elasticlunr_trie.specs.Table.{Table}
 use Rattle.elasticlunr_store.specs.Contents.{Contents}
 use Rattle.elasticlunr.specs.Printed.{IsValueOf, texts}
 use Rattle.elasticlunr.specs.Standing.{Plan}
-use Rattle.elasticlunr_printed.proofs.Telling.{same_texts}
+use Rattle.elasticlunr_print.proofs.Telling.{same_texts}
 use Rattle.elasticlunr_search.specs.Fields.{HasStages}
 
 -- the value of an index has the names of its plan

@@ -18,8 +18,8 @@ use Rattle.elasticlunr_trie.proofs.OneValue as one
 use Rattle.elasticlunr.specs.History.{Commands}
 use Rattle.elasticlunr.specs.Printed.{IsPrintOf}
 use Rattle.elasticlunr.specs.Standing.{Plan}
-use Rattle.elasticlunr_printed.proofs.Plain.{no_float}
-use Rattle.elasticlunr_printed.proofs.PlainValues.{value_plain}
+use Rattle.elasticlunr_print.proofs.Plain.{no_float}
+use Rattle.elasticlunr_print.proofs.PlainValues.{value_plain}
 use Rattle.elasticlunr.specs.Shape.{HasParts, HasTrie, HasTries}
 use Rattle.elasticlunr_search.specs.Fields.{HasWholeTrie, HasWholeTries, IsIndexOf}
 use Rattle.elasticlunr_search.specs.Whole.{with_ones, items_with_ones, members_with_ones}

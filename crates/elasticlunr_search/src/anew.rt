@@ -1,9 +1,9 @@
 //! The parts of a printed index, made anew from its text and judged by printing them.
 ghost use Rattle.std.specs.Prelude.{◌≡◌, ◌<◌, [], true, Some, All, IfOk, IfSome, length, vec_len};
 ghost use Rattle.elasticlunr_text.specs.Text.{bytes_of};
-ghost use Rattle.elasticlunr_history.specs.Fields.{all_differ as differ};
+ghost use Rattle.elasticlunr_commands.specs.Fields.{all_differ as differ};
 ghost use Rattle.elasticlunr_json.specs.Tokens.{IsSmallToken};
-ghost use Rattle.elasticlunr_printed.specs.Parts.{IsPrinted};
+ghost use Rattle.elasticlunr_print.specs.Parts.{IsPrinted};
 ghost use Rattle.elasticlunr_store.specs.Contents.{IsConsistent};
 ghost use Rattle.elasticlunr_search.specs.Anew.{IsAnew};
 ghost use Rattle.json.specs.Json.{skip_value};
@@ -18,7 +18,7 @@ use crate::printed::Printed;
 use crate::rebuild::{MAX_DEPTH, Rebuilt, rebuild};
 use crate::same_text::SameText;
 use crate::searcher::place_of;
-use elasticlunr_printed::{Parts, write_index};
+use elasticlunr_print::{Parts, write_index};
 use elasticlunr_trie::InvertedIndex;
 use json::{Reader, Scratch};
 use std::alloc::{AllocError, Global};

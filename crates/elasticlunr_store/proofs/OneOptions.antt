@@ -10,7 +10,7 @@ use Rattle.elasticlunr_store.specs.declared.config.SearchBool.TheVariants.{Or, A
 use Rattle.elasticlunr_store.specs.declared.config.SearchOptionsField.{SearchOptionsField}
 use Rattle.elasticlunr_json.proofs.Seen.{same}
 use Rattle.elasticlunr_store.specs.EqualOptions.{one_field}
-use Rattle.elasticlunr_maps.proofs.Values.{same_count}
+use Rattle.elasticlunr_store_maps.proofs.Values.{same_count}
 
 module _ {X : Type 0} (value : X → Data) (one : (x y : X) → value x ≡ value y → x ≡ y) (there : (x : X) → value x ≢ null) where
   one_part : (found : Option Data) (a b : Option X) → IsPart value found a → IsPart value found b → a ≡ b

@@ -13,11 +13,13 @@ mod read;
 mod write;
 
 use elasticlunr_error::IndexError;
-use elasticlunr_maps::find::find_length;
-use elasticlunr_maps::put::{put_texts, set_length};
-use elasticlunr_maps::read::{has_empty, has_text, read_document_lengths, read_document_texts};
-use elasticlunr_maps::same::{same_document_lengths, same_document_texts};
-use elasticlunr_maps::value::{document_lengths_value, document_texts_value, store_value};
+use elasticlunr_store_maps::find::find_length;
+use elasticlunr_store_maps::put::{put_texts, set_length};
+use elasticlunr_store_maps::read::{
+    has_empty, has_text, read_document_lengths, read_document_texts,
+};
+use elasticlunr_store_maps::same::{same_document_lengths, same_document_texts};
+use elasticlunr_store_maps::value::{document_lengths_value, document_texts_value, store_value};
 use read::store_parts;
 use serde_json::Value;
 use std::alloc::Global;

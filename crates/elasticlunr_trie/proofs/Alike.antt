@@ -1,26 +1,26 @@
 -- Places from which the same texts are known.
-use Rattle.elasticlunr_nodes.specs.Pairs.{key_at, IsStrictlySorted}
-use Rattle.elasticlunr_nodes.specs.Names.{Names}
+use Rattle.elasticlunr_trie_nodes.specs.Pairs.{key_at, IsStrictlySorted}
+use Rattle.elasticlunr_trie_nodes.specs.Names.{Names}
 use Rattle.elasticlunr_trie.specs.Children.{Children, child}
-use Rattle.elasticlunr_nodes.specs.Nodes.{entries_of, postings_at}
-use Rattle.elasticlunr_nodes.specs.Trie.{named, rank, children_at, step_of, walk, entries_at, IsTrie, table_of}
+use Rattle.elasticlunr_trie_nodes.specs.Nodes.{entries_of, postings_at}
+use Rattle.elasticlunr_trie_nodes.specs.Trie.{named, rank, children_at, step_of, walk, entries_at, IsTrie, table_of}
 use Rattle.std.proofs.Common.{◌≡◌, ◌≢◌, inl, inr, ℕ, zero, suc, ◌<◌, ◌≤◌, cond, true, false, Bool, ◌↔◌, List, [], ◌∷◌, length, map, get_or, Option, Some, None, IsSome, is_some, option_map, option_and_then, refl, sym, ap, subst, ◌∙◌, arith, eqb, ne_eqb}
 use mathlib.Core.Bool.{false≢true}
 use Rattle.std.proofs.lemmas.Bool.{cases_eq, eq-eqb}
 use Rattle.std.specs.List.{slice_get}
 use Rattle.elasticlunr_error.specs.Text.{Text}
-use Rattle.elasticlunr_nodes.specs.Table.{Postings}
+use Rattle.elasticlunr_trie_nodes.specs.Table.{Postings}
 use Rattle.std.specs.Bool.{Decides}
 use Rattle.std.specs.FinMap.{get}
-use Rattle.elasticlunr_nodes.proofs.Tables.{get_table}
-use Rattle.elasticlunr_nodes.proofs.Settled.{same_table}
+use Rattle.elasticlunr_trie_nodes.proofs.Tables.{get_table}
+use Rattle.elasticlunr_trie_nodes.proofs.Settled.{same_table}
 use Rattle.elasticlunr_trie.specs.Same.{look_from, IsSameBelow}
-use Rattle.elasticlunr_nodes.specs.declared.nodes.Node.{Node}
-use Rattle.elasticlunr_nodes.specs.declared.nodes.Place.{Place}
-use Rattle.elasticlunr_nodes.specs.declared.nodes.Place.TheVariants.{Root, At}
-use Rattle.elasticlunr_nodes.proofs.Found.{value_absent, first_key_le}
-use Rattle.elasticlunr_nodes.proofs.Gap.{value_at_place}
-use Rattle.elasticlunr_nodes.proofs.Named.{no_names}
+use Rattle.elasticlunr_trie_nodes.specs.declared.nodes.Node.{Node}
+use Rattle.elasticlunr_trie_nodes.specs.declared.nodes.Place.{Place}
+use Rattle.elasticlunr_trie_nodes.specs.declared.nodes.Place.TheVariants.{Root, At}
+use Rattle.elasticlunr_trie_nodes.proofs.Found.{value_absent, first_key_le}
+use Rattle.elasticlunr_trie_nodes.proofs.Gap.{value_at_place}
+use Rattle.elasticlunr_trie_nodes.proofs.Named.{no_names}
 
 -- one step, and what is known from there
 pub look_cons : (names : Names) (root : Children) (nodes : List Node) (p : Place) (c : ℕ) (t : Text) → look_from names root nodes p (c ∷ t) ≡ option_and_then (λ k. look_from names root nodes (At k) t) (child (children_at root nodes p) c)

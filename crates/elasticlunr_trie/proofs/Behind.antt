@@ -6,7 +6,7 @@ use Rattle.std.specs.FinMap.Entries.{is_sorted, below_all}
 use Rattle.std.proofs.lemmas.Cmp.{nat_list_cmp_total}
 use Rattle.serde_json.specs.Data.{put, member}
 use Rattle.elasticlunr_error.specs.Text.{Bytes, text_cmp}
-use Rattle.elasticlunr_nodes.proofs.Naming.{below_at, first_of, second_of}
+use Rattle.elasticlunr_trie_nodes.proofs.Naming.{below_at, first_of, second_of}
 use Rattle.elasticlunr_trie.specs.Tree.{frequency, frequencies}
 
 below_middle : (x : Bytes) (done : List (Bytes × ℕ)) (e : Bytes × ℕ) (more : List (Bytes × ℕ)) → T (below_all text_cmp x (done ++ e ∷ more)) → text_cmp x e.0 ≡ Less

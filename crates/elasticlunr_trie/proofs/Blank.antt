@@ -5,11 +5,11 @@ use Rattle.std.specs.Cmp.Lexicographic.{slice_cmp}
 use Rattle.std.specs.FinMap.{get, empty, get-insert, get-empty}
 use Rattle.std.proofs.lemmas.Cmp.{nat_list_cmp_total}
 use Rattle.elasticlunr_error.specs.Text.{Text}
-use Rattle.elasticlunr_nodes.specs.Table.{new_table}
-use Rattle.elasticlunr_nodes.specs.Nodes.{postings_at}
-use Rattle.elasticlunr_nodes.specs.Trie.{look, table_of, IsIndex}
-use Rattle.elasticlunr_nodes.proofs.Tables.{get_table, empty_trie}
-use Rattle.elasticlunr_nodes.proofs.Settled.{same_table}
+use Rattle.elasticlunr_trie_nodes.specs.Table.{new_table}
+use Rattle.elasticlunr_trie_nodes.specs.Nodes.{postings_at}
+use Rattle.elasticlunr_trie_nodes.specs.Trie.{look, table_of, IsIndex}
+use Rattle.elasticlunr_trie_nodes.proofs.Tables.{get_table, empty_trie}
+use Rattle.elasticlunr_trie_nodes.proofs.Settled.{same_table}
 
 none : (k n f : ℕ) → get (postings_at [] k) n ≡ Some f → ⊥
 none k n f e = let nothing : get (postings_at [] k) n ≡ None = get-empty nat_cmp n in cc

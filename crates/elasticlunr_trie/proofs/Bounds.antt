@@ -3,19 +3,19 @@ use Rattle.std.proofs.Common.{◌≡◌, ℕ, ◌<◌, ◌^◌, Bool, true, fals
 use mathlib.Core.Bool.{◌&&◌}
 use Rattle.std.specs.Str.{all_scalars, IsUtf8}
 use Rattle.elasticlunr_error.specs.Text.{Text, Bytes}
-use Rattle.elasticlunr_nodes.specs.Table.{IsTable, posting}
-use Rattle.elasticlunr_nodes.specs.Names.{Names, at}
+use Rattle.elasticlunr_trie_nodes.specs.Table.{IsTable, posting}
+use Rattle.elasticlunr_trie_nodes.specs.Names.{Names, at}
 use Rattle.elasticlunr_trie.specs.Children.{Children}
-use Rattle.elasticlunr_nodes.specs.Trie.{entries_at, step_of, walk, table_of, IsTrie, IsIndex}
-use Rattle.elasticlunr_nodes.proofs.Named.{number_there}
-use Rattle.elasticlunr_nodes.proofs.Removed.{number-name}
-use Rattle.elasticlunr_nodes.proofs.Settled.{bare_root}
-use Rattle.elasticlunr_nodes.specs.declared.nodes.Reference.{Reference}
-use Rattle.elasticlunr_nodes.specs.declared.nodes.Node.{Node}
-use Rattle.elasticlunr_nodes.specs.declared.nodes.Place.{Place}
-use Rattle.elasticlunr_nodes.specs.declared.nodes.Place.TheVariants.{Root, At}
-use Rattle.elasticlunr_nodes.proofs.Forest.{walk_cons}
-use Rattle.elasticlunr_nodes.proofs.Adding.{known_to, posting_walk, posting_none}
+use Rattle.elasticlunr_trie_nodes.specs.Trie.{entries_at, step_of, walk, table_of, IsTrie, IsIndex}
+use Rattle.elasticlunr_trie_nodes.proofs.Named.{number_there}
+use Rattle.elasticlunr_trie_nodes.proofs.Removed.{number-name}
+use Rattle.elasticlunr_trie_nodes.proofs.Settled.{bare_root}
+use Rattle.elasticlunr_trie_nodes.specs.declared.nodes.Reference.{Reference}
+use Rattle.elasticlunr_trie_nodes.specs.declared.nodes.Node.{Node}
+use Rattle.elasticlunr_trie_nodes.specs.declared.nodes.Place.{Place}
+use Rattle.elasticlunr_trie_nodes.specs.declared.nodes.Place.TheVariants.{Root, At}
+use Rattle.elasticlunr_trie_nodes.proofs.Forest.{walk_cons}
+use Rattle.elasticlunr_trie_nodes.proofs.Adding.{known_to, posting_walk, posting_none}
 use Rattle.elasticlunr_trie.proofs.Unique.{closed_nodes}
 
 joined : (a b : Bool) → (a && true) ≡ true → b ≡ true → (a && b) ≡ true

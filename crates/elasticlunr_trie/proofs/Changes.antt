@@ -6,7 +6,7 @@ use Rattle.std.specs.Cmp.Lexicographic.{slice_cmp}
 use Rattle.std.proofs.lemmas.Cmp.{nat_list_cmp_total}
 use Rattle.std.specs.FinMap.{get, empty, len, len-empty, get-insert, get-empty}
 use Rattle.elasticlunr_error.specs.Text.{Text, Bytes}
-use Rattle.elasticlunr_nodes.specs.Table.{Table, Postings, postings, new_table, knows, IsPrefix, Change, add, remove, IsChanged, AreChanged, IsAdded}
+use Rattle.elasticlunr_trie_nodes.specs.Table.{Table, Postings, postings, new_table, knows, IsPrefix, Change, add, remove, IsChanged, AreChanged, IsAdded}
 use Rattle.elasticlunr_json.proofs.Texts.{same_or_not}
 
 -- s begins a token that was added

@@ -3,26 +3,26 @@ use Rattle.std.proofs.Common.{◌≡◌, ◌⊎◌, ◌↔◌, inl, inr, ℕ, su
 use Rattle.std.proofs.lemmas.Bool.{cases_lt, cases_eq, eq-eqb}
 use Rattle.std.specs.List.{slice_get}
 use Rattle.elasticlunr_error.specs.Text.{Text, Bytes}
-use Rattle.elasticlunr_nodes.specs.Table.{knows, posting, IsPrefix}
-use Rattle.elasticlunr_nodes.specs.Pairs.{IsStrictlySorted, Pairs, value_of}
-use Rattle.elasticlunr_nodes.specs.Frequencies.{Frequencies}
-use Rattle.elasticlunr_nodes.specs.Names.{at, Names, AreNames}
+use Rattle.elasticlunr_trie_nodes.specs.Table.{knows, posting, IsPrefix}
+use Rattle.elasticlunr_trie_nodes.specs.Pairs.{IsStrictlySorted, Pairs, value_of}
+use Rattle.elasticlunr_trie_nodes.specs.Frequencies.{Frequencies}
+use Rattle.elasticlunr_trie_nodes.specs.Names.{at, Names, AreNames}
 use Rattle.elasticlunr_trie.specs.Children.{Children, child}
-use Rattle.elasticlunr_nodes.specs.Nodes.{children_of, entries_of, AreAllNumbered}
-use Rattle.elasticlunr_nodes.specs.Trie.{rank, children_at, entries_at, step_of, walk, table_of, IsForest, IsTrie, HaveOneParent, named}
+use Rattle.elasticlunr_trie_nodes.specs.Nodes.{children_of, entries_of, AreAllNumbered}
+use Rattle.elasticlunr_trie_nodes.specs.Trie.{rank, children_at, entries_at, step_of, walk, table_of, IsForest, IsTrie, HaveOneParent, named}
 use Rattle.elasticlunr_trie.specs.Compact.{Bears, is_marked, new_number, kept_children, KeepsBelow}
-use Rattle.elasticlunr_nodes.specs.declared.nodes.Node.{Node}
-use Rattle.elasticlunr_nodes.specs.declared.nodes.Place.{Place}
-use Rattle.elasticlunr_nodes.specs.declared.nodes.Place.TheVariants.{Root, At}
-use Rattle.elasticlunr_nodes.proofs.Places.{get_past, get_set, get_set_other, get_behind, get_before}
-use Rattle.elasticlunr_nodes.proofs.Forest.{walk_cons, walk_on, walk_after, walk_front, rises, within, one_path, AreChildren, children_from, one_parent_each}
-use Rattle.elasticlunr_nodes.proofs.Adding.{known_from, known_to, posting_walk, posting_none}
+use Rattle.elasticlunr_trie_nodes.specs.declared.nodes.Node.{Node}
+use Rattle.elasticlunr_trie_nodes.specs.declared.nodes.Place.{Place}
+use Rattle.elasticlunr_trie_nodes.specs.declared.nodes.Place.TheVariants.{Root, At}
+use Rattle.elasticlunr_trie_nodes.proofs.Places.{get_past, get_set, get_set_other, get_behind, get_before}
+use Rattle.elasticlunr_trie_nodes.proofs.Forest.{walk_cons, walk_on, walk_after, walk_front, rises, within, one_path, AreChildren, children_from, one_parent_each}
+use Rattle.elasticlunr_trie_nodes.proofs.Adding.{known_from, known_to, posting_walk, posting_none}
 use Rattle.std.proofs.lemmas.List.{nil_from_length}
 use mathlib.Core.Bool.{false≢true}
-use Rattle.elasticlunr_nodes.proofs.Frequencies.{find_value}
-use Rattle.elasticlunr_nodes.proofs.Settled.{bare_root}
-use Rattle.elasticlunr_nodes.proofs.Tables.{get_named}
-use Rattle.elasticlunr_nodes.proofs.Named.{at_name, number_there}
+use Rattle.elasticlunr_trie_nodes.proofs.Frequencies.{find_value}
+use Rattle.elasticlunr_trie_nodes.proofs.Settled.{bare_root}
+use Rattle.elasticlunr_trie_nodes.proofs.Tables.{get_named}
+use Rattle.elasticlunr_trie_nodes.proofs.Named.{at_name, number_there}
 use Rattle.std.specs.FinMap.{find, get, entries, get-empty, get-entries}
 use Rattle.std.specs.Ordering.{nat_cmp}
 use Rattle.elasticlunr_trie.proofs.Marks.{number_below, number_next, number_stays, one_number, number_from, child_kept, kept_child, kept_sorted}

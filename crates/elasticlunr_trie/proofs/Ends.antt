@@ -2,11 +2,11 @@
 use Rattle.std.proofs.Common.{◌≡◌, ℕ, List, [], ◌++◌, length, Some, sym, ap, ◌∙◌, append-nil}
 use Rattle.std.specs.Str.{chars}
 use Rattle.std.proofs.lemmas.Str.{chars-nil}
-use Rattle.elasticlunr_nodes.specs.Starts.{IsStart, KeepsPaths}
-use Rattle.elasticlunr_nodes.specs.Trie.{Step, walk}
-use Rattle.elasticlunr_nodes.specs.declared.nodes.Place.TheVariants.{Root, At}
-use Rattle.elasticlunr_nodes.specs.declared.start.Start.{Start}
-use Rattle.elasticlunr_nodes.proofs.Letters.{all_read}
+use Rattle.elasticlunr_trie_nodes.specs.Starts.{IsStart, KeepsPaths}
+use Rattle.elasticlunr_trie_nodes.specs.Trie.{Step, walk}
+use Rattle.elasticlunr_trie_nodes.specs.declared.nodes.Place.TheVariants.{Root, At}
+use Rattle.elasticlunr_trie_nodes.specs.declared.start.Start.{Start}
+use Rattle.elasticlunr_trie_nodes.proofs.Letters.{all_read}
 use Rattle.elasticlunr_trie.specs.declared.inverted_index.ends.Ends.{Ends}
 use Rattle.elasticlunr_trie.specs.Ends.{AreEnds}
 

@@ -1,8 +1,8 @@
 -- The trees of nodes, from those of their children.
-use Rattle.elasticlunr_nodes.specs.Pairs.{IsStrictlySorted}
-use Rattle.elasticlunr_nodes.specs.Names.{Names}
+use Rattle.elasticlunr_trie_nodes.specs.Pairs.{IsStrictlySorted}
+use Rattle.elasticlunr_trie_nodes.specs.Names.{Names}
 use Rattle.elasticlunr_trie.specs.Children.{Children, child}
-use Rattle.elasticlunr_nodes.specs.Trie.{rank, children_at, entries_at, step_of, walk, table_of, IsTrie, named}
+use Rattle.elasticlunr_trie_nodes.specs.Trie.{rank, children_at, entries_at, step_of, walk, table_of, IsTrie, named}
 use Rattle.std.proofs.Common.{◌≡◌, ◌≢◌, inl, inr, ◌↔◌, ℕ, suc, ◌<◌, ◌≤◌, cond, List, [], ◌∷◌, ◌++◌, length, set, take, get_or, Option, Some, None, IsSome, IsTrue, is_some, option_map, option_and_then, codes, encode_utf8, refl, sym, ap, subst, ◌∙◌, arith, append-nil, Less, Greater, string_bytes, string_cmp, String, Global}
 use mathlib.Core.Bool.{false≢true}
 use Rattle.std.proofs.lemmas.Bool.{cases_eq, eq-eqb}
@@ -12,7 +12,7 @@ use Rattle.std.proofs.Common.{le_refl}
 use Rattle.std.proofs.lemmas.Cmp.{nat_list_cmp_total, tied_itself}
 use Rattle.std.proofs.lemmas.List.{take-append-drop, get_or-take}
 use Rattle.std.proofs.Common.{length-take, drop}
-use Rattle.elasticlunr_nodes.proofs.Found.{value_absent}
+use Rattle.elasticlunr_trie_nodes.proofs.Found.{value_absent}
 use Rattle.std.specs.Ordering.{nat_cmp, match_ordering, ordering_reverse}
 use Rattle.std.specs.Cmp.Lexicographic.{slice_cmp}
 use Rattle.std.specs.List.{slice_get, AllByRecursion}
@@ -25,17 +25,17 @@ use Rattle.serde_json.proofs.Views.{get_member-put, get_member-put_other, Entry}
 use Rattle.serde_json.specs.declared.value.Value.{Value}
 use Rattle.std.specs.FinMap as map
 use Rattle.elasticlunr_error.specs.Text.{Text}
-use Rattle.elasticlunr_nodes.specs.Table.{knows, postings_of, Entries}
+use Rattle.elasticlunr_trie_nodes.specs.Table.{knows, postings_of, Entries}
 use Rattle.elasticlunr_trie.specs.Tree.{IsTree, AreParts, IsBelow, HasKeysInOrder, frequencies}
 use Rattle.elasticlunr_trie.specs.Finished.{value_at, HasChildren, IsNode}
 use Rattle.elasticlunr_json.proofs.Sorted.{len_seen}
-use Rattle.elasticlunr_nodes.proofs.Places.{get_set, get_set_other, get_within}
+use Rattle.elasticlunr_trie_nodes.proofs.Places.{get_set, get_set_other, get_within}
 use Rattle.elasticlunr_json.proofs.Texts.{same_or_not}
-use Rattle.elasticlunr_nodes.proofs.Forest.{walk_push, walk_to, last_step}
-use Rattle.elasticlunr_nodes.proofs.Tables.{knows_walk, postings_walk}
-use Rattle.elasticlunr_nodes.specs.declared.nodes.Node.{Node}
-use Rattle.elasticlunr_nodes.specs.declared.nodes.Place.{Place}
-use Rattle.elasticlunr_nodes.specs.declared.nodes.Place.TheVariants.{Root, At}
+use Rattle.elasticlunr_trie_nodes.proofs.Forest.{walk_push, walk_to, last_step}
+use Rattle.elasticlunr_trie_nodes.proofs.Tables.{knows_walk, postings_walk}
+use Rattle.elasticlunr_trie_nodes.specs.declared.nodes.Node.{Node}
+use Rattle.elasticlunr_trie_nodes.specs.declared.nodes.Place.{Place}
+use Rattle.elasticlunr_trie_nodes.specs.declared.nodes.Place.TheVariants.{Root, At}
 
 pub some_of : {A : Type 0} (o : Option A) → IsSome o → (x : A) × (o ≡ Some x)
 some_of None h = absurd (false≢true h)

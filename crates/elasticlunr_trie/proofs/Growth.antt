@@ -7,23 +7,23 @@ use Rattle.std.specs.Str.{all_scalars}
 use mathlib.Core.Bool.{false≢true, ◌&&◌}
 use Rattle.std.specs.Prelude.{slice_index}
 use Rattle.elasticlunr_error.specs.Text.{Text, Bytes}
-use Rattle.elasticlunr_nodes.specs.Table.{AddsToken}
-use Rattle.elasticlunr_nodes.specs.Pairs.{Pairs, value_of, IsStrictlySorted}
-use Rattle.elasticlunr_nodes.specs.Names.{Names, number_of, at}
-use Rattle.elasticlunr_nodes.specs.Nodes.{children_of, entries_of, postings_at, list_at, has, AreListed, KeepsLists}
-use Rattle.elasticlunr_nodes.specs.Trie.{Step, rank, children_at, entries_at, step_of, walk, table_of, IsTrie, AreCharacters, IsForest, HaveOneParent}
-use Rattle.elasticlunr_nodes.specs.Branch.{IsInner, IsBranch, Grows}
-use Rattle.elasticlunr_nodes.specs.declared.nodes.Reference.{Reference}
+use Rattle.elasticlunr_trie_nodes.specs.Table.{AddsToken}
+use Rattle.elasticlunr_trie_nodes.specs.Pairs.{Pairs, value_of, IsStrictlySorted}
+use Rattle.elasticlunr_trie_nodes.specs.Names.{Names, number_of, at}
+use Rattle.elasticlunr_trie_nodes.specs.Nodes.{children_of, entries_of, postings_at, list_at, has, AreListed, KeepsLists}
+use Rattle.elasticlunr_trie_nodes.specs.Trie.{Step, rank, children_at, entries_at, step_of, walk, table_of, IsTrie, AreCharacters, IsForest, HaveOneParent}
+use Rattle.elasticlunr_trie_nodes.specs.Branch.{IsInner, IsBranch, Grows}
+use Rattle.elasticlunr_trie_nodes.specs.declared.nodes.Reference.{Reference}
 use Rattle.std.specs.FinMap as map
-use Rattle.elasticlunr_nodes.proofs.Added.{inserted_here, inserted_other}
-use Rattle.elasticlunr_nodes.proofs.Removed.{one_name}
-use Rattle.elasticlunr_nodes.proofs.Gap.{sets_only_insert, sorted_insert}
-use Rattle.elasticlunr_nodes.proofs.Places.{get_before, get_behind, get_past}
-use Rattle.elasticlunr_nodes.proofs.Forest.{same_place, Grown, Chains, AttachesAll, IsBlankFrom, attaches_all, grown, end_of, within, walk_off, walk_after, children_from, one_parent_each}
-use Rattle.elasticlunr_nodes.proofs.Adding.{Entered, token_added, posting_none}
-use Rattle.elasticlunr_nodes.specs.declared.nodes.Node.{Node}
-use Rattle.elasticlunr_nodes.specs.declared.nodes.Place.{Place}
-use Rattle.elasticlunr_nodes.specs.declared.nodes.Place.TheVariants.{Root, At}
+use Rattle.elasticlunr_trie_nodes.proofs.Added.{inserted_here, inserted_other}
+use Rattle.elasticlunr_trie_nodes.proofs.Removed.{one_name}
+use Rattle.elasticlunr_trie_nodes.proofs.Gap.{sets_only_insert, sorted_insert}
+use Rattle.elasticlunr_trie_nodes.proofs.Places.{get_before, get_behind, get_past}
+use Rattle.elasticlunr_trie_nodes.proofs.Forest.{same_place, Grown, Chains, AttachesAll, IsBlankFrom, attaches_all, grown, end_of, within, walk_off, walk_after, children_from, one_parent_each}
+use Rattle.elasticlunr_trie_nodes.proofs.Adding.{Entered, token_added, posting_none}
+use Rattle.elasticlunr_trie_nodes.specs.declared.nodes.Node.{Node}
+use Rattle.elasticlunr_trie_nodes.specs.declared.nodes.Place.{Place}
+use Rattle.elasticlunr_trie_nodes.specs.declared.nodes.Place.TheVariants.{Root, At}
 
 -- a node that is not made yet has no value_of
 pub blank_steps : (root : Pairs) (nodes : List Node) → IsBlankFrom (step_of root nodes) (length nodes)

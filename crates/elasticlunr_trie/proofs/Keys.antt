@@ -10,8 +10,8 @@ use Rattle.std.specs.FinMap.{find, get, empty, get-empty, get-from_entries}
 use Rattle.std.proofs.lemmas.Cmp.{nat_list_cmp_total}
 use Rattle.std.proofs.lemmas.Map.Text.{is_eq-slice_cmp}
 use Rattle.elasticlunr_error.specs.Text.{Text, Bytes, bytes_of, is_listed, text_cmp}
-use Rattle.elasticlunr_nodes.specs.Table.{Table, Entries, posting, postings_of}
-use Rattle.elasticlunr_nodes.proofs.Entries as entries
+use Rattle.elasticlunr_trie_nodes.specs.Table.{Table, Entries, posting, postings_of}
+use Rattle.elasticlunr_trie_nodes.proofs.Entries as entries
 
 pub bytes_behind : (ss : List (String Global)) (s : String Global) → bytes_of (ss ++ s ∷ []) ≡ bytes_of ss ++ string_bytes s ∷ []
 bytes_behind [] s = refl

@@ -3,10 +3,10 @@ use Rattle.std.proofs.Common.{◌≡◌, inl, inr, ℕ, zero, suc, ◌+◌, ◌<
 use Rattle.std.specs.Prelude.{if◌then◌else◌}
 use Rattle.std.proofs.Math.Seq.{take-append_seam}
 use Rattle.std.proofs.lemmas.Bool.{cases_eq, cases_lt, eq-eqb}
-use Rattle.elasticlunr_nodes.specs.Pairs.{key_at, IsStrictlySorted}
+use Rattle.elasticlunr_trie_nodes.specs.Pairs.{key_at, IsStrictlySorted}
 use Rattle.elasticlunr_trie.specs.Children.{Children, child}
 use Rattle.elasticlunr_trie.specs.Compact.{is_marked, new_number, kept_children}
-use Rattle.elasticlunr_nodes.proofs.Places.{get_there}
+use Rattle.elasticlunr_trie_nodes.proofs.Places.{get_there}
 use Rattle.elasticlunr_trie.proofs.Alike.{sorted_tail, not_again, skip_first}
 
 module _ (marks : List Bool) where

@@ -9,7 +9,7 @@ use Rattle.serde_json.specs.Written.{has_float, members_have_float}
 use Rattle.serde_json.specs.Data.{Data, null, boolean, number, unsigned, string, array, object, Members, no_members, member}
 use Rattle.serde_json.specs.Find.{get_member}
 use Rattle.elasticlunr_error.specs.Text.{Text}
-use Rattle.elasticlunr_nodes.specs.Table.{Table, postings}
+use Rattle.elasticlunr_trie_nodes.specs.Table.{Table, postings}
 use Rattle.elasticlunr_trie.specs.Tree.{frequency, frequencies, IsTree, AreParts, IsBelow, HasKeysInOrder, IsTrieValue}
 use Rattle.elasticlunr_json.proofs.Texts.{same_or_not, text_tie}
 use Rattle.elasticlunr_trie.proofs.Finishing.{some_of}

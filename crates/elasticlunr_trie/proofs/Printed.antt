@@ -1,9 +1,9 @@
 -- The tree of a place, as the list of its members, is its tree in the table.
-use Rattle.elasticlunr_nodes.specs.Pairs.{key_at, IsStrictlySorted}
-use Rattle.elasticlunr_nodes.specs.Names.{Names}
+use Rattle.elasticlunr_trie_nodes.specs.Pairs.{key_at, IsStrictlySorted}
+use Rattle.elasticlunr_trie_nodes.specs.Names.{Names}
 use Rattle.elasticlunr_trie.specs.Children.{Children, child}
-use Rattle.elasticlunr_nodes.specs.Nodes.{children_of}
-use Rattle.elasticlunr_nodes.specs.Trie.{children_at, entries_at, step_of, walk, table_of, IsTrie, named}
+use Rattle.elasticlunr_trie_nodes.specs.Nodes.{children_of}
+use Rattle.elasticlunr_trie_nodes.specs.Trie.{children_at, entries_at, step_of, walk, table_of, IsTrie, named}
 use Rattle.std.proofs.Common.{◌≡◌, ◌≢◌, inl, inr, ℕ, zero, suc, ◌+◌, ◌<◌, ◌≤◌, List, [], ◌∷◌, ◌++◌, length, Option, Some, None, is_some, option_map, option_and_then, codes, encode_utf8, cond, refl, sym, ap, subst, ◌∙◌, arith, Less, Equal, Greater, ne_eqb}
 use Rattle.std.proofs.lemmas.Bool.{cases_eq, eq-eqb, cases_lt, lt-ltb, le-ltb}
 use Rattle.std.proofs.lemmas.Cmp.{nat_list_cmp_total, tied_itself}
@@ -14,17 +14,17 @@ use Rattle.std.specs.FinMap as map
 use Rattle.serde_json.specs.Data.{Data, object, number, unsigned, Members, member}
 use Rattle.serde_json.specs.Find.{get_member}
 use Rattle.elasticlunr_error.specs.Text.{Text}
-use Rattle.elasticlunr_nodes.specs.Table.{Postings, knows}
+use Rattle.elasticlunr_trie_nodes.specs.Table.{Postings, knows}
 use Rattle.elasticlunr_trie.specs.Tree.{IsTree, AreParts, IsBelow, HasKeysInOrder, frequencies}
 use Rattle.elasticlunr_trie.specs.Printed.{children_members, postings_before, place_members, tree_of, node_tree, HasTrees}
-use Rattle.elasticlunr_nodes.proofs.Forest.{walk_push, walk_to, last_step}
-use Rattle.elasticlunr_nodes.proofs.Tables.{In, knows_walk, postings_walk}
+use Rattle.elasticlunr_trie_nodes.proofs.Forest.{walk_push, walk_to, last_step}
+use Rattle.elasticlunr_trie_nodes.proofs.Tables.{In, knows_walk, postings_walk}
 use Rattle.elasticlunr_json.proofs.Texts.{text_tie}
 use Rattle.elasticlunr_trie.proofs.Finishing.{not_letter, letters_same}
 use Rattle.elasticlunr_trie.proofs.Rising.{encode_rising, up_to_d_below, above_d_above}
-use Rattle.elasticlunr_nodes.specs.declared.nodes.Node.{Node}
-use Rattle.elasticlunr_nodes.specs.declared.nodes.Place.{Place}
-use Rattle.elasticlunr_nodes.specs.declared.nodes.Place.TheVariants.{Root, At}
+use Rattle.elasticlunr_trie_nodes.specs.declared.nodes.Node.{Node}
+use Rattle.elasticlunr_trie_nodes.specs.declared.nodes.Place.{Place}
+use Rattle.elasticlunr_trie_nodes.specs.declared.nodes.Place.TheVariants.{Root, At}
 
 -- ---- children in the order of their characters
 

@@ -1,18 +1,18 @@
 -- What is left to write, step by step.
-use Rattle.elasticlunr_nodes.specs.Names.{Names}
+use Rattle.elasticlunr_trie_nodes.specs.Names.{Names}
 use Rattle.elasticlunr_trie.specs.Children.{Children}
-use Rattle.elasticlunr_nodes.specs.Trie.{named}
+use Rattle.elasticlunr_trie_nodes.specs.Trie.{named}
 use Rattle.std.proofs.Common.{◌≡◌, ℕ, ◌<◌, ◌≤◌, List, [], ◌∷◌, ◌++◌, codes, encode_utf8, refl, sym, ap, ◌∙◌, append_assoc, append-nil, decimal}
 use Rattle.std.proofs.lemmas.Bool.{lt-ltb, le-ltb}
 use Rattle.json.specs.Token.{Token}
 use Rattle.serde_json.specs.Data.{Members, member}
 use Rattle.elasticlunr_trie.specs.Tree.{frequencies}
-use Rattle.elasticlunr_nodes.specs.Table.{Postings}
+use Rattle.elasticlunr_trie_nodes.specs.Table.{Postings}
 use Rattle.elasticlunr_trie.specs.Printed.{children_members, place_members, postings_before, postings_tokens, node_tree, node_members, left_members, stack_tokens, HasTrees}
 use Rattle.elasticlunr_json.specs.Tokens.{tokens_of}
-use Rattle.elasticlunr_nodes.proofs.Named.{no_df, no_entries}
+use Rattle.elasticlunr_trie_nodes.proofs.Named.{no_df, no_entries}
 use Rattle.std.specs.FinMap.{empty}
-use Rattle.elasticlunr_nodes.specs.declared.nodes.Node.{Node}
+use Rattle.elasticlunr_trie_nodes.specs.declared.nodes.Node.{Node}
 use Rattle.elasticlunr_trie.specs.declared.inverted_index.write.Left.{Left}
 
 pub no_postings_tokens : (names : Names) → postings_tokens (named names empty) ≡ Token.key (codes "df") ∷ Token.number (decimal 0) ∷ Token.key (codes "docs") ∷ Token.begin_object ∷ Token.end_object ∷ []

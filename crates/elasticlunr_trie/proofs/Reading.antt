@@ -18,21 +18,21 @@ use Rattle.serde_json.specs.Events.{members_len}
 use Rattle.serde_json.specs.View.{view, members_view}
 use Rattle.serde_json.proofs.Views.{Entry, get_member-put, get_member-put_other}
 use Rattle.serde_json.specs.declared.value.Value.{Value}
-use Rattle.elasticlunr_nodes.specs.Pairs.{key_at, IsGapFor, IsStrictlySorted}
+use Rattle.elasticlunr_trie_nodes.specs.Pairs.{key_at, IsGapFor, IsStrictlySorted}
 use Rattle.elasticlunr_trie.specs.Children.{Children, child}
-use Rattle.elasticlunr_nodes.specs.Table.{Entries}
+use Rattle.elasticlunr_trie_nodes.specs.Table.{Entries}
 use Rattle.elasticlunr_trie.specs.Tree.{frequency, frequencies}
 use Rattle.elasticlunr_trie.specs.Finished.{value_at}
 use Rattle.elasticlunr_trie.specs.Reading.{borrowed_values, HasNewValues, ReadsChildren}
 use Rattle.std.specs.Borrow.{Bor}
-use Rattle.elasticlunr_nodes.proofs.Entries.{bytes_of}
+use Rattle.elasticlunr_trie_nodes.proofs.Entries.{bytes_of}
 use Rattle.elasticlunr_json.proofs.ReadingMaps.{object_of}
 use Rattle.elasticlunr_json.proofs.Sorted.{below_middle}
-use Rattle.elasticlunr_nodes.proofs.Gap.{sets_only_insert, sorted_insert, value_at_place}
+use Rattle.elasticlunr_trie_nodes.proofs.Gap.{sets_only_insert, sorted_insert, value_at_place}
 use Rattle.elasticlunr_trie.proofs.Rising.{encode_rising}
 use Rattle.elasticlunr_json.proofs.Texts.{same_or_not, text_tie}
 use Rattle.elasticlunr_trie.proofs.Finishing.{not_letter, letters_same}
-use Rattle.elasticlunr_nodes.proofs.Places.{get_before, get_behind, get_within}
+use Rattle.elasticlunr_trie_nodes.proofs.Places.{get_before, get_behind, get_within}
 
 -- ---- objects
 

@@ -12,9 +12,9 @@ use Rattle.std.specs.List.Sorted.{IsStrictlySortedBy}
 use Rattle.std.specs.FinMap.{find, get}
 use Rattle.std.proofs.lemmas.Map.Text.{is_eq-slice_cmp}
 use Rattle.elasticlunr_error.specs.Text.{Bytes, is_listed, text_cmp}
-use Rattle.elasticlunr_nodes.specs.Names.{Names, AreNames, ArePostings, under_names, named_pairs}
-use Rattle.elasticlunr_nodes.specs.Pairs.{Pairs, key_at}
-use Rattle.elasticlunr_nodes.proofs.Named.{get_pairs_named, under_more}
+use Rattle.elasticlunr_trie_nodes.specs.Names.{Names, AreNames, ArePostings, under_names, named_pairs}
+use Rattle.elasticlunr_trie_nodes.specs.Pairs.{Pairs, key_at}
+use Rattle.elasticlunr_trie_nodes.proofs.Named.{get_pairs_named, under_more}
 use Rattle.elasticlunr_trie.specs.References.{texts_in}
 
 -- the order of borrowed texts

@@ -8,7 +8,7 @@ use Rattle.std.specs.FinMap as map
 use Rattle.serde_json.specs.Data.{Data, object, number, unsigned, Members, no_members, member}
 use Rattle.serde_json.specs.Find.{get, get_member}
 use Rattle.elasticlunr_error.specs.Text.{Text}
-use Rattle.elasticlunr_nodes.specs.Table.{Table, IsTable, postings, Entries, postings_of}
+use Rattle.elasticlunr_trie_nodes.specs.Table.{Table, IsTable, postings, Entries, postings_of}
 use Rattle.elasticlunr_trie.specs.Tree.{IsTree, AreParts, frequencies}
 use Rattle.elasticlunr_trie.specs.Reading.{HasForeignKey}
 use Rattle.elasticlunr_trie.proofs.Unique.{same_docs}

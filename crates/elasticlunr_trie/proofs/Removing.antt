@@ -3,20 +3,20 @@ use Rattle.std.proofs.Common.{◌≡◌, ◌≢◌, inl, inr, ℕ, List, length,
 use Rattle.std.proofs.lemmas.Bool.{cases_eq}
 use Rattle.std.specs.FinMap.{get, remove}
 use Rattle.elasticlunr_error.specs.Text.{Text, Bytes}
-use Rattle.elasticlunr_nodes.specs.Table.{knows, posting, RemovesToken}
-use Rattle.elasticlunr_nodes.specs.Pairs.{Pairs}
-use Rattle.elasticlunr_nodes.specs.Names.{Names, at, number_of}
-use Rattle.elasticlunr_nodes.specs.Nodes.{postings_at, AreListed, ClearsNumber, KeepsOtherNodes}
-use Rattle.elasticlunr_nodes.specs.Trie.{entries_at, step_of, walk, table_of, IsTrie, RemovesPosting}
-use Rattle.elasticlunr_nodes.specs.declared.nodes.Node.{Node}
-use Rattle.elasticlunr_nodes.specs.declared.nodes.Reference.{Reference}
-use Rattle.elasticlunr_nodes.specs.declared.nodes.Place.{Place}
-use Rattle.elasticlunr_nodes.specs.declared.nodes.Place.TheVariants.{Root, At}
-use Rattle.elasticlunr_nodes.proofs.Forest.{one_path}
-use Rattle.elasticlunr_nodes.proofs.Tables.{knows_walk}
-use Rattle.elasticlunr_nodes.proofs.Adding.{posting_walk, posting_none}
-use Rattle.elasticlunr_nodes.proofs.Removed.{removed_here, removed_other, one_name}
-use Rattle.elasticlunr_nodes.proofs.Settled.{bare_root, same_walk, settled_trie}
+use Rattle.elasticlunr_trie_nodes.specs.Table.{knows, posting, RemovesToken}
+use Rattle.elasticlunr_trie_nodes.specs.Pairs.{Pairs}
+use Rattle.elasticlunr_trie_nodes.specs.Names.{Names, at, number_of}
+use Rattle.elasticlunr_trie_nodes.specs.Nodes.{postings_at, AreListed, ClearsNumber, KeepsOtherNodes}
+use Rattle.elasticlunr_trie_nodes.specs.Trie.{entries_at, step_of, walk, table_of, IsTrie, RemovesPosting}
+use Rattle.elasticlunr_trie_nodes.specs.declared.nodes.Node.{Node}
+use Rattle.elasticlunr_trie_nodes.specs.declared.nodes.Reference.{Reference}
+use Rattle.elasticlunr_trie_nodes.specs.declared.nodes.Place.{Place}
+use Rattle.elasticlunr_trie_nodes.specs.declared.nodes.Place.TheVariants.{Root, At}
+use Rattle.elasticlunr_trie_nodes.proofs.Forest.{one_path}
+use Rattle.elasticlunr_trie_nodes.proofs.Tables.{knows_walk}
+use Rattle.elasticlunr_trie_nodes.proofs.Adding.{posting_walk, posting_none}
+use Rattle.elasticlunr_trie_nodes.proofs.Removed.{removed_here, removed_other, one_name}
+use Rattle.elasticlunr_trie_nodes.proofs.Settled.{bare_root, same_walk, settled_trie}
 
 module _ (root : Pairs) (names : Names) (old new : List Node) (t : Text) (r : Bytes) where
   module _ (k n : ℕ) (leads : walk (step_of root old) Root t ≡ Some (At k)) (numbered : number_of names r ≡ Some n) (clears : ClearsNumber old new k n) where

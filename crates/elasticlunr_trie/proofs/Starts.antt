@@ -6,10 +6,10 @@ use Rattle.std.proofs.Math.Seq.{drop-cons, take-append_seam}
 use Rattle.std.proofs.lemmas.List.{length-map, map-append, map_more, take-map, append_assoc}
 use Rattle.std.proofs.lemmas.List.Elements.{All-nil, All-push}
 use Rattle.elasticlunr_error.specs.Text.{Text, Bytes}
-use Rattle.elasticlunr_nodes.specs.Table.{Table, Change, add, IsChanged, AreChanged, additions, told_tokens}
-use Rattle.elasticlunr_nodes.specs.Trie.{Step}
-use Rattle.elasticlunr_nodes.specs.Starts.{IsStart, KeepsPaths, told}
-use Rattle.elasticlunr_nodes.specs.declared.start.Start.{Start}
+use Rattle.elasticlunr_trie_nodes.specs.Table.{Table, Change, add, IsChanged, AreChanged, additions, told_tokens}
+use Rattle.elasticlunr_trie_nodes.specs.Trie.{Step}
+use Rattle.elasticlunr_trie_nodes.specs.Starts.{IsStart, KeepsPaths, told}
+use Rattle.elasticlunr_trie_nodes.specs.declared.start.Start.{Start}
 use Rattle.elasticlunr_trie.specs.Begun.{AreBegun}
 
 -- where paths stay, so do starts

@@ -1,7 +1,7 @@
 -- A value is the trie value of one table at most.
-use Rattle.elasticlunr_nodes.specs.Names.{Names}
+use Rattle.elasticlunr_trie_nodes.specs.Names.{Names}
 use Rattle.elasticlunr_trie.specs.Children.{Children}
-use Rattle.elasticlunr_nodes.specs.Trie.{IsTrie, table_of, step_of, walk}
+use Rattle.elasticlunr_trie_nodes.specs.Trie.{IsTrie, table_of, step_of, walk}
 use Rattle.std.proofs.Common.{◌≡◌, inl, inr, ℕ, Bool, true, false, List, [], ◌∷◌, ◌++◌, Option, Some, None, IsTrue, is_some, unwrap_or, encode_utf8, refl, sym, ap, subst, ◌∙◌, arith, append_assoc, append-nil, Less, Equal, Greater}
 use mathlib.Core.Bool.{false≢true}
 use Rattle.std.specs.Ordering.{nat_cmp, match_ordering, is_eq}
@@ -10,13 +10,13 @@ use Rattle.std.specs.FinMap as map
 use Rattle.serde_json.specs.Data.{Data, null, boolean, string, array, object, number, Members, no_members, member}
 use Rattle.serde_json.specs.Find.{get_member}
 use Rattle.elasticlunr_error.specs.Text.{Text}
-use Rattle.elasticlunr_nodes.specs.Table.{Table, Postings, knows, postings, IsPrefix, IsTable}
+use Rattle.elasticlunr_trie_nodes.specs.Table.{Table, Postings, knows, postings, IsPrefix, IsTable}
 use Rattle.elasticlunr_trie.specs.Tree.{IsTree, AreParts, IsTrieValue, frequency, frequencies}
-use Rattle.elasticlunr_nodes.specs.declared.nodes.Node.{Node}
-use Rattle.elasticlunr_nodes.specs.declared.nodes.Place.TheVariants.{Root}
-use Rattle.elasticlunr_nodes.proofs.Forest.{walk_front}
-use Rattle.elasticlunr_nodes.proofs.Adding.{known_from, known_to}
-use Rattle.elasticlunr_nodes.proofs.Settled.{same_table}
+use Rattle.elasticlunr_trie_nodes.specs.declared.nodes.Node.{Node}
+use Rattle.elasticlunr_trie_nodes.specs.declared.nodes.Place.TheVariants.{Root}
+use Rattle.elasticlunr_trie_nodes.proofs.Forest.{walk_front}
+use Rattle.elasticlunr_trie_nodes.proofs.Adding.{known_from, known_to}
+use Rattle.elasticlunr_trie_nodes.proofs.Settled.{same_table}
 use Rattle.elasticlunr_json.proofs.Keyed.{same_keyed}
 use Rattle.elasticlunr_json.proofs.Texts.{text_tie}
 use Rattle.elasticlunr_trie.proofs.Finishing.{not_letter, letters_same, some_of}

@@ -9,24 +9,24 @@ use Rattle.serde_json.specs.Find.{get_member}
 use Rattle.serde_json.specs.View.{view}
 use Rattle.serde_json.specs.declared.value.Value.{Value}
 use Rattle.elasticlunr_error.specs.Text.{Text}
-use Rattle.elasticlunr_nodes.specs.Table.{Table, IsTable, postings, posting, Entries, postings_of}
+use Rattle.elasticlunr_trie_nodes.specs.Table.{Table, IsTable, postings, posting, Entries, postings_of}
 use Rattle.elasticlunr_trie.specs.Tree.{IsTree, frequencies}
-use Rattle.elasticlunr_nodes.specs.Pairs.{IsStrictlySorted, value_of}
-use Rattle.elasticlunr_nodes.specs.Names.{Names}
+use Rattle.elasticlunr_trie_nodes.specs.Pairs.{IsStrictlySorted, value_of}
+use Rattle.elasticlunr_trie_nodes.specs.Names.{Names}
 use Rattle.elasticlunr_trie.specs.Children.{Children, child}
-use Rattle.elasticlunr_nodes.specs.Nodes.{children_of, entries_of}
-use Rattle.elasticlunr_nodes.specs.Trie.{rank, walk, IsForest, children_at, entries_at, step_of, table_of, IsTrie, AreCharacters, named, HaveOneParent}
+use Rattle.elasticlunr_trie_nodes.specs.Nodes.{children_of, entries_of}
+use Rattle.elasticlunr_trie_nodes.specs.Trie.{rank, walk, IsForest, children_at, entries_at, step_of, table_of, IsTrie, AreCharacters, named, HaveOneParent}
 use Rattle.elasticlunr_trie.specs.Finished.{value_at, IsNode}
 use Rattle.elasticlunr_trie.specs.Reading.{ReadsNode}
-use Rattle.elasticlunr_nodes.specs.declared.nodes.Node.{Node}
-use Rattle.elasticlunr_nodes.specs.declared.nodes.Place.{Place}
-use Rattle.elasticlunr_nodes.specs.declared.nodes.Place.TheVariants.{Root, At}
-use Rattle.elasticlunr_nodes.proofs.Places.{get_before, get_behind, get_past}
-use Rattle.elasticlunr_nodes.proofs.Forest.{same_place, walk_to, AreChildren, one_parent_each}
+use Rattle.elasticlunr_trie_nodes.specs.declared.nodes.Node.{Node}
+use Rattle.elasticlunr_trie_nodes.specs.declared.nodes.Place.{Place}
+use Rattle.elasticlunr_trie_nodes.specs.declared.nodes.Place.TheVariants.{Root, At}
+use Rattle.elasticlunr_trie_nodes.proofs.Places.{get_before, get_behind, get_past}
+use Rattle.elasticlunr_trie_nodes.proofs.Forest.{same_place, walk_to, AreChildren, one_parent_each}
 use Rattle.elasticlunr_trie.proofs.Finishing.{node_tree}
 use Rattle.elasticlunr_trie.proofs.Unique.{part_at, same_docs}
-use Rattle.elasticlunr_nodes.proofs.Entries.{bytes_of}
-use Rattle.elasticlunr_nodes.proofs.Named.{no_names}
+use Rattle.elasticlunr_trie_nodes.proofs.Entries.{bytes_of}
+use Rattle.elasticlunr_trie_nodes.proofs.Named.{no_names}
 
 -- the value that a place is read from
 abbrev pub data_at : Data → List Value → Place → Option Data

@@ -3,10 +3,10 @@ use Rattle.std.proofs.Common.{◌≡◌, ℕ, ◌<◌, inl, inr, List, length, l
 use Rattle.std.proofs.lemmas.Bool.{cases_eq}
 use Rattle.std.specs.List.{slice_get}
 use Rattle.std.specs.FinMap.{insert, remove}
-use Rattle.elasticlunr_nodes.specs.Frequencies.{Frequencies}
-use Rattle.elasticlunr_nodes.specs.Nodes.{children_of, entries_of, SameShape, ClearsNumber, SetsNumber}
-use Rattle.elasticlunr_nodes.specs.declared.nodes.Node.{Node}
-use Rattle.elasticlunr_nodes.proofs.Places.{get_set, get_set_other, get_there}
+use Rattle.elasticlunr_trie_nodes.specs.Frequencies.{Frequencies}
+use Rattle.elasticlunr_trie_nodes.specs.Nodes.{children_of, entries_of, SameShape, ClearsNumber, SetsNumber}
+use Rattle.elasticlunr_trie_nodes.specs.declared.nodes.Node.{Node}
+use Rattle.elasticlunr_trie_nodes.proofs.Places.{get_set, get_set_other, get_there}
 
 module _ (nodes : List Node) (k : ℕ) (node : Node) (in_range : k < length nodes) (is : node ≡ get_or nodes k node) (P : Frequencies) where
   abbrev other : Node

@@ -1,15 +1,15 @@
 -- Which nodes lead to a posting, and the nodes that are kept; for private clauses.
 use Rattle.std.specs.Prelude.{◌≡◌, ◌↔◌, ℕ, zero, suc, ◌+◌, ◌<◌, Bool, false, IsTrue, List, [], ◌∷◌, length, slice_get, Some, unwrap_or, if◌then◌else◌}
 use Rattle.elasticlunr_error.specs.Text.{Text}
-use Rattle.elasticlunr_nodes.specs.Frequencies.{Frequencies}
-use Rattle.elasticlunr_nodes.specs.Names.{Names}
+use Rattle.elasticlunr_trie_nodes.specs.Frequencies.{Frequencies}
+use Rattle.elasticlunr_trie_nodes.specs.Names.{Names}
 use Rattle.elasticlunr_trie.specs.Children.{Children, child}
-use Rattle.elasticlunr_nodes.specs.Nodes.{children_of, entries_of}
-use Rattle.elasticlunr_nodes.specs.Trie.{entries_at, step_of, walk, named}
+use Rattle.elasticlunr_trie_nodes.specs.Nodes.{children_of, entries_of}
+use Rattle.elasticlunr_trie_nodes.specs.Trie.{entries_at, step_of, walk, named}
 use Rattle.std.specs.FinMap.{get}
-use Rattle.elasticlunr_nodes.specs.declared.nodes.Node.{Node}
-use Rattle.elasticlunr_nodes.specs.declared.nodes.Place.{Place}
-use Rattle.elasticlunr_nodes.specs.declared.nodes.Place.TheVariants.{At}
+use Rattle.elasticlunr_trie_nodes.specs.declared.nodes.Node.{Node}
+use Rattle.elasticlunr_trie_nodes.specs.declared.nodes.Place.{Place}
+use Rattle.elasticlunr_trie_nodes.specs.declared.nodes.Place.TheVariants.{At}
 
 -- a path from the node k leads to a place with a posting
 pub record Bears (nodes : List Node) (k : ℕ) : Type 0 where

@@ -1,7 +1,7 @@
 -- What compacting leaves of a table.
 use Rattle.std.specs.Prelude.{◌≡◌, ◌↔◌, ◌⊎◌, [], IsTrue, IsSome}
 use Rattle.elasticlunr_error.specs.Text.{Text, Bytes}
-use Rattle.elasticlunr_nodes.specs.Table.{Table, knows, posting, IsPrefix}
+use Rattle.elasticlunr_trie_nodes.specs.Table.{Table, knows, posting, IsPrefix}
 
 -- the text is empty, or the beginning of one that has a posting
 abbrev pub LeadsToPosting : Table → Text → Type 0

@@ -1,8 +1,8 @@
 -- Where tokens lead, as a trie remembers it; for private clauses.
 use Rattle.std.specs.Prelude.{◌≡◌, ◌≢◌, Some, All, take}
 use Rattle.std.specs.Str.{chars}
-use Rattle.elasticlunr_nodes.specs.Trie.{Step, walk}
-use Rattle.elasticlunr_nodes.specs.declared.nodes.Place.TheVariants.{Root, At}
+use Rattle.elasticlunr_trie_nodes.specs.Trie.{Step, walk}
+use Rattle.elasticlunr_trie_nodes.specs.declared.nodes.Place.TheVariants.{Root, At}
 use Rattle.elasticlunr_trie.specs.declared.inverted_index.ends.End.{End}
 use Rattle.elasticlunr_trie.specs.declared.inverted_index.ends.Ends.{Ends}
 

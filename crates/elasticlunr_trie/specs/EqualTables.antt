@@ -4,7 +4,7 @@ use Rattle.std.specs.Bool.{Decides}
 use Rattle.std.specs.Cmp.{IsEquivalence, decided}
 use Rattle.elasticlunr_json.specs.Maps.{same_map}
 use Rattle.elasticlunr_json.specs.EqualMaps.{map_Decides, nat_Decides}
-use Rattle.elasticlunr_nodes.specs.Table.{Table, same_tables}
+use Rattle.elasticlunr_trie_nodes.specs.Table.{Table, same_tables}
 
 pub tables_Decides : (T U : Table) → Decides (same_tables T U) (T ≡ U)
 tables_Decides T U = map_Decides (same_map nat_eq) (map_Decides nat_eq nat_Decides) T U

@@ -1,4 +1,4 @@
-pub use Rattle.elasticlunr_nodes.specs.Table
+pub use Rattle.elasticlunr_trie_nodes.specs.Table
 pub mod Begun
 pub mod Ends
 pub mod Compacted

@@ -4,13 +4,13 @@ use Rattle.std.specs.FinMap.{entries, len}
 use Rattle.json.specs.Token.{Token}
 use Rattle.serde_json.specs.Data.{Data, null, number, unsigned, object, Members, no_members, member}
 use Rattle.elasticlunr_json.specs.Tokens.{tokens_of}
-use Rattle.elasticlunr_nodes.specs.Table.{Postings}
+use Rattle.elasticlunr_trie_nodes.specs.Table.{Postings}
 use Rattle.elasticlunr_trie.specs.Tree.{frequencies}
-use Rattle.elasticlunr_nodes.specs.Names.{Names, AreNames, AreRanks}
+use Rattle.elasticlunr_trie_nodes.specs.Names.{Names, AreNames, AreRanks}
 use Rattle.elasticlunr_trie.specs.Children.{Children}
-use Rattle.elasticlunr_nodes.specs.Nodes.{children_of, entries_of}
-use Rattle.elasticlunr_nodes.specs.Trie.{named, entries_at}
-use Rattle.elasticlunr_nodes.specs.declared.nodes.Node.{Node}
+use Rattle.elasticlunr_trie_nodes.specs.Nodes.{children_of, entries_of}
+use Rattle.elasticlunr_trie_nodes.specs.Trie.{named, entries_at}
+use Rattle.elasticlunr_trie_nodes.specs.declared.nodes.Node.{Node}
 use Rattle.elasticlunr_trie.specs.declared.inverted_index.write.Left.{Left}
 use Rattle.elasticlunr_trie.specs.declared.inverted_index.write.Order.{Order}
 use Rattle.elasticlunr_trie.specs.declared.inverted_index.write.Left.TheVariants.{WithPostings, WithoutPostings}

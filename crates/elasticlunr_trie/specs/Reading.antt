@@ -6,10 +6,10 @@ use Rattle.std.specs.FinMap.{entries, len}
 use Rattle.serde_json.specs.Data.{Data, object, Members}
 use Rattle.serde_json.specs.Find.{get_member}
 use Rattle.serde_json.specs.declared.value.Value.{Value}
-use Rattle.elasticlunr_nodes.specs.Pairs.{IsStrictlySorted}
+use Rattle.elasticlunr_trie_nodes.specs.Pairs.{IsStrictlySorted}
 use Rattle.elasticlunr_trie.specs.Children.{Children, child}
-use Rattle.elasticlunr_nodes.specs.Trie.{AreCharacters}
-use Rattle.elasticlunr_nodes.specs.Table.{Entries, postings_of}
+use Rattle.elasticlunr_trie_nodes.specs.Trie.{AreCharacters}
+use Rattle.elasticlunr_trie_nodes.specs.Table.{Entries, postings_of}
 use Rattle.elasticlunr_trie.specs.Tree.{frequencies}
 use Rattle.elasticlunr_trie.specs.Finished.{value_at, IsNode}
 

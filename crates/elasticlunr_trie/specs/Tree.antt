@@ -8,7 +8,7 @@ use Rattle.serde_json.specs.Data.{Data, null, boolean, number, string, array, ob
 use Rattle.serde_json.specs.Find.{get_member}
 use Rattle.elasticlunr_error.specs.Text.{Text, Bytes}
 use Rattle.elasticlunr_json.specs.Maps.{members}
-use Rattle.elasticlunr_nodes.specs.Table.{Table, knows, postings}
+use Rattle.elasticlunr_trie_nodes.specs.Table.{Table, knows, postings}
 
 -- the value of a posting
 abbrev pub frequency : ℕ → Data

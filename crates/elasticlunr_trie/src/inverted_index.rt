@@ -3,8 +3,8 @@ ghost use Rattle.std.specs.FinMap.{get as get_postings, len};
 ghost use Rattle.std.specs.Prelude.{◌≡◌, ◌↔◌, [], None, IsTrue, IfOk, IfErr, IsOk, OnOk, OnErr, IsOkUnless, false, unwrap_or, is_some, ◌≢◌};
 ghost use Rattle.std.specs.Str.{chars};
 ghost use Rattle.elasticlunr_error.specs.Text.{Text, Bytes};
-ghost use Rattle.elasticlunr_nodes.specs.Table.{Table, new_table, knows, posting, postings, IsTable, AddsToken, RemovesToken, AreChanged, additions, told_tokens, same_tables};
-ghost use Rattle.elasticlunr_nodes.specs.Copied.{copied_postings};
+ghost use Rattle.elasticlunr_trie_nodes.specs.Table.{Table, new_table, knows, posting, postings, IsTable, AddsToken, RemovesToken, AreChanged, additions, told_tokens, same_tables};
+ghost use Rattle.elasticlunr_trie_nodes.specs.Copied.{copied_postings};
 ghost use Rattle.serde_json.specs.View.{view};
 ghost use Rattle.elasticlunr_json.specs.Refused.{IsRefused};
 ghost use Rattle.elasticlunr_error.specs.declared.error.IndexError.TheVariants.{Memory};
@@ -26,11 +26,11 @@ mod write;
 use add::add_posting;
 use elasticlunr_error::IndexError;
 use elasticlunr_json::set_member;
-use elasticlunr_nodes::child::Child;
-use elasticlunr_nodes::docs::copy_docs;
-use elasticlunr_nodes::names::Names;
-use elasticlunr_nodes::nodes::{Node, Place, Reference, find, find_frequency, find_postings};
-use elasticlunr_nodes::start::Start;
+use elasticlunr_trie_nodes::child::Child;
+use elasticlunr_trie_nodes::docs::copy_docs;
+use elasticlunr_trie_nodes::names::Names;
+use elasticlunr_trie_nodes::nodes::{Node, Place, Reference, find, find_frequency, find_postings};
+use elasticlunr_trie_nodes::start::Start;
 use ends::Ends;
 use read::{only_member, read_nodes};
 pub use references::copied;
@@ -75,13 +75,13 @@ pub struct InvertedIndex {
 impl Model for InvertedIndex {
     ghost use Rattle.std.specs.FinMap as map;
     ghost use Rattle.std.specs.Coded.{coded_ℕ, coded_list};
-    ghost use Rattle.elasticlunr_nodes.specs.Table.{Table};
+    ghost use Rattle.elasticlunr_trie_nodes.specs.Table.{Table};
 
     ghost Value = { Table };
 
     ghost coded = { map.code (coded_list coded_ℕ) (map.code (coded_list coded_ℕ) coded_ℕ) };
 
-    ghost use Rattle.elasticlunr_nodes.specs.Trie.{table_of, step_of, IsIndex};
+    ghost use Rattle.elasticlunr_trie_nodes.specs.Trie.{table_of, step_of, IsIndex};
     ghost use Rattle.elasticlunr_trie.specs.Ends.{AreEnds};
 
     ghost view = { λ a. table_of a.root.items a.nodes.items a.names };
@@ -308,7 +308,7 @@ impl fmt::Debug for InvertedIndex {
 }
 
 impl PartialEq for InvertedIndex {
-    ghost use Rattle.elasticlunr_nodes.specs.Table.{same_tables};
+    ghost use Rattle.elasticlunr_trie_nodes.specs.Table.{same_tables};
     ghost use Rattle.elasticlunr_trie.specs.EqualTables.{tables_equivalence};
     ghost use Rattle.std.specs.Cmp.{partial_equiv_from_equiv};
 

@@ -6,7 +6,7 @@ ghost use Rattle.serde_json.specs.Data.{Data};
 ghost use Rattle.elasticlunr_error.specs.Text.{Text};
 ghost use Rattle.elasticlunr_error.specs.declared.error.IndexError.{IndexError};
 ghost use Rattle.elasticlunr_json.specs.Refused.{IsRefused, IsAnswer};
-ghost use Rattle.elasticlunr_nodes.specs.Table.{Table, new_table, knows, postings, same_tables, IsPrefix, IsTable, Change, AreChanged, IsAdded};
+ghost use Rattle.elasticlunr_trie_nodes.specs.Table.{Table, new_table, knows, postings, same_tables, IsPrefix, IsTable, Change, AreChanged, IsAdded};
 ghost use Rattle.elasticlunr_trie.specs.Tree.{IsTrieValue};
 
 /// A value is the trie value of one table at most.

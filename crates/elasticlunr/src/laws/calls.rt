@@ -8,11 +8,11 @@ ghost use Rattle.elasticlunr.specs.Index.{IsDocument, IsDocumentBy, plan_of, rea
 ghost use Rattle.elasticlunr.specs.Kept.{IsKeptDocument, KeptReads};
 ghost use Rattle.elasticlunr.specs.ReadDocuments.{MadeAreRead};
 ghost use Rattle.elasticlunr.specs.Reading.{LanguageReads};
-ghost use Rattle.elasticlunr_history.specs.Standing.{Plan};
+ghost use Rattle.elasticlunr_commands.specs.Standing.{Plan};
 
 use crate::index::Index;
 use elasticlunr_lang::Language;
-use elasticlunr_printed::laws::values::settings_and_commands_have_one_value;
+use elasticlunr_print::laws::values::settings_and_commands_have_one_value;
 use elasticlunr_text::laws::{a_run_has_one_answer, each_word_has_one_stem};
 
 /// Of a value for a field an index reads one list of tokens, and of a reference and values it makes

@@ -6,7 +6,7 @@ ghost use Rattle.elasticlunr.specs.Current.{additions, HaveOwnReferences, HaveSa
 ghost use Rattle.elasticlunr.specs.Kept.{HaveEqualPrints};
 
 use super::calls::a_kept_language_makes_one_document;
-use elasticlunr_printed::laws::values::agreeing_commands_have_equal_values;
+use elasticlunr_print::laws::values::agreeing_commands_have_equal_values;
 
 /// An index that was compacted last, or that each of its documents was added to once, prints what
 /// its current documents decide: neither the order of the calls nor what was there before matters.

@@ -5,7 +5,9 @@ ghost use Rattle.elasticlunr_store.specs.Contents.{IsContents, store_value};
 
 use super::DocumentStore;
 use elasticlunr_json::{Token, Tokens};
-use elasticlunr_maps::write::{write_document_lengths, write_document_texts, write_last_members};
+use elasticlunr_store_maps::write::{
+    write_document_lengths, write_document_texts, write_last_members,
+};
 use std::alloc::AllocError;
 
 impl DocumentStore {

@@ -2,20 +2,20 @@
 ghost use Rattle.std.specs.Prelude.{◌≡◌, ◌≢◌, ◌<◌, ◌∷◌, [], true, None, Some, length, OnOk, OnErr};
 ghost use Rattle.std.specs.Str.{chars, all_scalars};
 ghost use Rattle.elasticlunr_error.specs.Text.{Text};
-ghost use Rattle.elasticlunr_nodes.specs.Table.{AddsToken};
-ghost use Rattle.elasticlunr_nodes.specs.Pairs.{value_of};
-ghost use Rattle.elasticlunr_nodes.specs.Names.{AreNames};
-ghost use Rattle.elasticlunr_nodes.specs.Nodes.{AreListed, SetsNumber, SameNodes, SamePostings, SetsPosting};
-ghost use Rattle.elasticlunr_nodes.specs.Trie.{children_at, step_of, walk, IsIndex};
-ghost use Rattle.elasticlunr_nodes.specs.NodeTables.{node_table, AddsBelow};
-ghost use Rattle.elasticlunr_nodes.specs.Starts.{IsStart, KeepsPaths};
+ghost use Rattle.elasticlunr_trie_nodes.specs.Table.{AddsToken};
+ghost use Rattle.elasticlunr_trie_nodes.specs.Pairs.{value_of};
+ghost use Rattle.elasticlunr_trie_nodes.specs.Names.{AreNames};
+ghost use Rattle.elasticlunr_trie_nodes.specs.Nodes.{AreListed, SetsNumber, SameNodes, SamePostings, SetsPosting};
+ghost use Rattle.elasticlunr_trie_nodes.specs.Trie.{children_at, step_of, walk, IsIndex};
+ghost use Rattle.elasticlunr_trie_nodes.specs.NodeTables.{node_table, AddsBelow};
+ghost use Rattle.elasticlunr_trie_nodes.specs.Starts.{IsStart, KeepsPaths};
 
-use elasticlunr_nodes::branch::{attach, locate, new_branch};
-use elasticlunr_nodes::child::Child;
-use elasticlunr_nodes::lists::{list_new, list_node};
-use elasticlunr_nodes::names::Names;
-use elasticlunr_nodes::nodes::{Node, Place, Reference, postings_at};
-use elasticlunr_nodes::start::Start;
+use elasticlunr_trie_nodes::branch::{attach, locate, new_branch};
+use elasticlunr_trie_nodes::child::Child;
+use elasticlunr_trie_nodes::lists::{list_new, list_node};
+use elasticlunr_trie_nodes::names::Names;
+use elasticlunr_trie_nodes::nodes::{Node, Place, Reference, postings_at};
+use elasticlunr_trie_nodes::start::Start;
 use std::alloc::{AllocError, Global};
 
 // Sets a posting of a node.

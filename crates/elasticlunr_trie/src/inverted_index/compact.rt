@@ -1,24 +1,24 @@
 //! A trie without the paths that lead to no posting.
 ghost use Rattle.std.specs.Prelude.{◌≡◌, ◌↔◌, ◌⊎◌, ℕ, ◌<◌, [], length, Some, IsTrue, IfOk, IsOkUnless};
 ghost use Rattle.elasticlunr_error.specs.declared.error.IndexError.TheVariants.{Memory};
-ghost use Rattle.elasticlunr_nodes.specs.Table.{IsTable};
+ghost use Rattle.elasticlunr_trie_nodes.specs.Table.{IsTable};
 ghost use Rattle.elasticlunr_trie.specs.Compacted.{KeepsPostings, KnowsWhatLeads};
-ghost use Rattle.elasticlunr_nodes.specs.NodeTables.{node_table};
-ghost use Rattle.elasticlunr_nodes.specs.Pairs.{IsStrictlySorted};
-ghost use Rattle.elasticlunr_nodes.specs.Names.{AreNames};
+ghost use Rattle.elasticlunr_trie_nodes.specs.NodeTables.{node_table};
+ghost use Rattle.elasticlunr_trie_nodes.specs.Pairs.{IsStrictlySorted};
+ghost use Rattle.elasticlunr_trie_nodes.specs.Names.{AreNames};
 ghost use Rattle.elasticlunr_trie.specs.Children.{child};
-ghost use Rattle.elasticlunr_nodes.specs.Nodes.{AreAllNumbered, AreListed};
-ghost use Rattle.elasticlunr_nodes.specs.Trie.{IsTrie, IsIndex, HaveOneParent, step_of, table_of};
+ghost use Rattle.elasticlunr_trie_nodes.specs.Nodes.{AreAllNumbered, AreListed};
+ghost use Rattle.elasticlunr_trie_nodes.specs.Trie.{IsTrie, IsIndex, HaveOneParent, step_of, table_of};
 ghost use Rattle.elasticlunr_trie.specs.Compact.{AreNumbers, kept_children, HasFrequency, HasMarked, KeepsMarked, MarksBearing};
 
 use super::InvertedIndex;
 use super::ends::Ends;
 use elasticlunr_error::IndexError;
-use elasticlunr_nodes::child::Child;
-use elasticlunr_nodes::few::Few;
-use elasticlunr_nodes::names::Names;
-use elasticlunr_nodes::nodes::{Children, Node, Reference};
-use elasticlunr_nodes::numbered::renumber;
+use elasticlunr_trie_nodes::child::Child;
+use elasticlunr_trie_nodes::few::Few;
+use elasticlunr_trie_nodes::names::Names;
+use elasticlunr_trie_nodes::nodes::{Children, Node, Reference};
+use elasticlunr_trie_nodes::numbered::renumber;
 use std::alloc::{AllocError, Global};
 
 impl InvertedIndex {

@@ -2,14 +2,14 @@
 //! to walk there takes a step for each character, and waits at each.
 ghost use Rattle.std.specs.Prelude.{◌≡◌, ◌≢◌, ◌<◌, ℕ, Some, IfOk, IfSome, All, length, take};
 ghost use Rattle.std.specs.Str.{chars};
-ghost use Rattle.elasticlunr_nodes.specs.Starts.{IsStart, told};
-ghost use Rattle.elasticlunr_nodes.specs.Trie.{Step, step_of, walk};
-ghost use Rattle.elasticlunr_nodes.specs.declared.nodes.Place.TheVariants.{Root, At};
+ghost use Rattle.elasticlunr_trie_nodes.specs.Starts.{IsStart, told};
+ghost use Rattle.elasticlunr_trie_nodes.specs.Trie.{Step, step_of, walk};
+ghost use Rattle.elasticlunr_trie_nodes.specs.declared.nodes.Place.TheVariants.{Root, At};
 ghost use Rattle.elasticlunr_trie.specs.Ends.{AreEnds, IsEnd};
 
-use elasticlunr_nodes::child::Child;
-use elasticlunr_nodes::nodes::{Node, Place};
-use elasticlunr_nodes::start::Start;
+use elasticlunr_trie_nodes::child::Child;
+use elasticlunr_trie_nodes::nodes::{Node, Place};
+use elasticlunr_trie_nodes::start::Start;
 use std::alloc::{AllocError, Global};
 
 // How many bytes of a token a slot has room for. A longer token is walked.

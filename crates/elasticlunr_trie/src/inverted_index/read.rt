@@ -1,7 +1,7 @@
 //! Reading a trie back from a JSON value, one node after another.
 ghost use Rattle.std.specs.Prelude.{codes, ◌⊎◌, Some, true, encode_utf8, ◌∷◌, IfSome, ◌≡◌, ℕ, ◌<◌, ◌^◌, ◌↔◌, [], List, None, IsTrue, IfOk, IfErr, ◌≢◌};
 ghost use Rattle.elasticlunr_error.specs.Text.{Text, Bytes};
-ghost use Rattle.elasticlunr_nodes.specs.Table.{Table, IsTable, postings_of};
+ghost use Rattle.elasticlunr_trie_nodes.specs.Table.{Table, IsTable, postings_of};
 ghost use Rattle.std.specs.FinMap.{entries};
 ghost use Rattle.serde_json.specs.Data.{Data, object, number, unsigned, member, no_members};
 ghost use Rattle.serde_json.specs.Find.{get};
@@ -10,14 +10,14 @@ ghost use Rattle.elasticlunr_json.specs.Refused.{IsRefused};
 ghost use Rattle.elasticlunr_trie.specs.Tree.{frequency, frequencies, HasKeysInOrder, IsTree};
 ghost use Rattle.elasticlunr_trie.specs.Reading.{borrowed_values, ReadsChildren, ReadsNode, HasForeignKey};
 ghost use Rattle.std.specs.Str.{all_scalars};
-ghost use Rattle.elasticlunr_nodes.specs.Trie.{IsIndex, table_of};
+ghost use Rattle.elasticlunr_trie_nodes.specs.Trie.{IsIndex, table_of};
 
 use elasticlunr_error::IndexError;
-use elasticlunr_nodes::child::Child;
-use elasticlunr_nodes::few::Few;
-use elasticlunr_nodes::names::Names;
-use elasticlunr_nodes::nodes::{Children, Node, Reference};
-use elasticlunr_nodes::numbered::number_docs;
+use elasticlunr_trie_nodes::child::Child;
+use elasticlunr_trie_nodes::few::Few;
+use elasticlunr_trie_nodes::names::Names;
+use elasticlunr_trie_nodes::nodes::{Children, Node, Reference};
+use elasticlunr_trie_nodes::numbered::number_docs;
 use serde_json::{Map, Value};
 use std::alloc::Global;
 use std::collections::BTreeMap;

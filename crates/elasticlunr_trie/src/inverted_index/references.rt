@@ -5,15 +5,15 @@ ghost use Rattle.std.specs.Str.{chars};
 ghost use Rattle.elasticlunr_error.specs.Text.{Bytes, bytes_of, is_listed, text_cmp};
 ghost use Rattle.elasticlunr_error.specs.declared.error.IndexError.TheVariants.{Memory};
 ghost use Rattle.std.specs.FinMap.{get};
-ghost use Rattle.elasticlunr_nodes.specs.Names.{AreNames, ArePostings, named_pairs};
-ghost use Rattle.elasticlunr_nodes.specs.Table.{posting};
+ghost use Rattle.elasticlunr_trie_nodes.specs.Names.{AreNames, ArePostings, named_pairs};
+ghost use Rattle.elasticlunr_trie_nodes.specs.Table.{posting};
 ghost use Rattle.elasticlunr_trie.specs.References.{texts_in};
 
 use super::InvertedIndex;
 use elasticlunr_error::IndexError;
-use elasticlunr_nodes::names::Names;
-use elasticlunr_nodes::nodes::find_postings;
-use elasticlunr_nodes::posting::Posting;
+use elasticlunr_trie_nodes::names::Names;
+use elasticlunr_trie_nodes::nodes::find_postings;
+use elasticlunr_trie_nodes::posting::Posting;
 use std::alloc::{AllocError, Global};
 use std::collections::BTreeSet;
 

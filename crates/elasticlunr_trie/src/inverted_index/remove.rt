@@ -2,14 +2,14 @@
 ghost use Rattle.std.specs.Prelude.{◌≡◌, ℕ, ◌<◌, IsTrue, Some, length};
 ghost use Rattle.std.specs.Str.{chars};
 ghost use Rattle.std.specs.FinMap.{get};
-ghost use Rattle.elasticlunr_nodes.specs.Nodes.{postings_at, has, AreListed, ClearsNumber, LosesNumber, LosesReference};
-ghost use Rattle.elasticlunr_nodes.specs.Trie.{IsTrie, RemovesPosting};
+ghost use Rattle.elasticlunr_trie_nodes.specs.Nodes.{postings_at, has, AreListed, ClearsNumber, LosesNumber, LosesReference};
+ghost use Rattle.elasticlunr_trie_nodes.specs.Trie.{IsTrie, RemovesPosting};
 
-use elasticlunr_nodes::child::Child;
-use elasticlunr_nodes::lists::unlist;
-use elasticlunr_nodes::names::Names;
-use elasticlunr_nodes::nodes::{Node, Place, Reference, find};
-use elasticlunr_nodes::number::Number;
+use elasticlunr_trie_nodes::child::Child;
+use elasticlunr_trie_nodes::lists::unlist;
+use elasticlunr_trie_nodes::names::Names;
+use elasticlunr_trie_nodes::nodes::{Node, Place, Reference, find};
+use elasticlunr_trie_nodes::number::Number;
 use std::alloc::Global;
 use std::mem;
 

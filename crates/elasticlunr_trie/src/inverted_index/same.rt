@@ -2,16 +2,16 @@
 ghost use Rattle.std.specs.Prelude.{◌≡◌, ◌<◌, ◌↔◌, ℕ, Some, length, IsTrue, slice_get};
 ghost use Rattle.elasticlunr_error.specs.Text.{Bytes};
 ghost use Rattle.std.specs.FinMap.{get};
-ghost use Rattle.elasticlunr_nodes.specs.Names.{ArePostings, named_pairs, AreNames, AreNumbered, at};
-ghost use Rattle.elasticlunr_nodes.specs.Nodes.{postings_at, AreAllNumbered};
-ghost use Rattle.elasticlunr_nodes.specs.Trie.{named, IsTrie};
+ghost use Rattle.elasticlunr_trie_nodes.specs.Names.{ArePostings, named_pairs, AreNames, AreNumbered, at};
+ghost use Rattle.elasticlunr_trie_nodes.specs.Nodes.{postings_at, AreAllNumbered};
+ghost use Rattle.elasticlunr_trie_nodes.specs.Trie.{named, IsTrie};
 ghost use Rattle.elasticlunr_trie.specs.Same.{IsSameBelow};
 
-use elasticlunr_nodes::child::Child;
-use elasticlunr_nodes::names::Names;
-use elasticlunr_nodes::nodes::{Node, Place, children_at, frequency_of, postings_at};
-use elasticlunr_nodes::posting::Posting;
-use elasticlunr_nodes::postings::Postings;
+use elasticlunr_trie_nodes::child::Child;
+use elasticlunr_trie_nodes::names::Names;
+use elasticlunr_trie_nodes::nodes::{Node, Place, children_at, frequency_of, postings_at};
+use elasticlunr_trie_nodes::posting::Posting;
+use elasticlunr_trie_nodes::postings::Postings;
 
 // Has the name of a number this posting on the other side?
 fn same_posting(

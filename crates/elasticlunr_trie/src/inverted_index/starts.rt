@@ -3,21 +3,21 @@
 ghost use Rattle.std.specs.Prelude.{◌≡◌, map, All, IfOk, OnOk, OnErr};
 ghost use Rattle.std.specs.Str.{chars};
 ghost use Rattle.elasticlunr_trie.specs.Ends.{AreEnds};
-ghost use Rattle.elasticlunr_nodes.specs.Table.{AreChanged, IsChanged, additions, told_tokens};
-ghost use Rattle.elasticlunr_nodes.specs.Table.Change.{add};
-ghost use Rattle.elasticlunr_nodes.specs.Trie.{Step, step_of, IsTrie, IsIndex};
-ghost use Rattle.elasticlunr_nodes.specs.NodeTables.{node_table};
-ghost use Rattle.elasticlunr_nodes.specs.Starts.{IsStart, KeepsPaths, told};
+ghost use Rattle.elasticlunr_trie_nodes.specs.Table.{AreChanged, IsChanged, additions, told_tokens};
+ghost use Rattle.elasticlunr_trie_nodes.specs.Table.Change.{add};
+ghost use Rattle.elasticlunr_trie_nodes.specs.Trie.{Step, step_of, IsTrie, IsIndex};
+ghost use Rattle.elasticlunr_trie_nodes.specs.NodeTables.{node_table};
+ghost use Rattle.elasticlunr_trie_nodes.specs.Starts.{IsStart, KeepsPaths, told};
 ghost use Rattle.elasticlunr_trie.specs.Begun.{AreBegun};
 
 use super::add::add_posting;
 use super::ends::{Ends, begin, remember};
-use elasticlunr_nodes::branch::locate;
-use elasticlunr_nodes::child::Child;
-use elasticlunr_nodes::names::Names;
-use elasticlunr_nodes::nodes::{Node, Place, Reference, child, children_at};
-use elasticlunr_nodes::room::make_room;
-use elasticlunr_nodes::start::Start;
+use elasticlunr_trie_nodes::branch::locate;
+use elasticlunr_trie_nodes::child::Child;
+use elasticlunr_trie_nodes::names::Names;
+use elasticlunr_trie_nodes::nodes::{Node, Place, Reference, child, children_at};
+use elasticlunr_trie_nodes::room::make_room;
+use elasticlunr_trie_nodes::start::Start;
 use std::alloc::{AllocError, Global};
 
 // How many characters of each token are walked side by side. What follows them is mostly a path

@@ -1,11 +1,11 @@
 //! The JSON value of a trie, made from the last node to the first.
 ghost use Rattle.std.specs.Prelude.{Some, map, ◌≡◌, ℕ, ◌<◌, [], length, IfOk, OnOk, slice_set, ◌≢◌, slice_get};
-ghost use Rattle.elasticlunr_nodes.specs.Table.{Postings};
-ghost use Rattle.elasticlunr_nodes.specs.Pairs.{IsStrictlySorted};
-ghost use Rattle.elasticlunr_nodes.specs.Names.{AreNames, AreRanks, AreThere, under_names};
+ghost use Rattle.elasticlunr_trie_nodes.specs.Table.{Postings};
+ghost use Rattle.elasticlunr_trie_nodes.specs.Pairs.{IsStrictlySorted};
+ghost use Rattle.elasticlunr_trie_nodes.specs.Names.{AreNames, AreRanks, AreThere, under_names};
 ghost use Rattle.elasticlunr_trie.specs.Children.{child};
-ghost use Rattle.elasticlunr_nodes.specs.Nodes.{AreAllNumbered};
-ghost use Rattle.elasticlunr_nodes.specs.Trie.{IsTrie, table_of};
+ghost use Rattle.elasticlunr_trie_nodes.specs.Nodes.{AreAllNumbered};
+ghost use Rattle.elasticlunr_trie_nodes.specs.Trie.{IsTrie, table_of};
 ghost use Rattle.std.specs.FinMap.{entries};
 ghost use Rattle.serde_json.specs.Data.{Members, object, put};
 ghost use Rattle.serde_json.specs.View.{view, members_view};
@@ -13,10 +13,10 @@ ghost use Rattle.elasticlunr_trie.specs.Tree.{frequencies, IsTree};
 ghost use Rattle.elasticlunr_trie.specs.Finished.{HasChildren, KeepsOtherValues, IsNode};
 
 use elasticlunr_json::{put_member, set_member};
-use elasticlunr_nodes::child::Child;
-use elasticlunr_nodes::docs::in_order;
-use elasticlunr_nodes::names::{NameTexts, Names};
-use elasticlunr_nodes::nodes::Node;
+use elasticlunr_trie_nodes::child::Child;
+use elasticlunr_trie_nodes::docs::in_order;
+use elasticlunr_trie_nodes::names::{NameTexts, Names};
+use elasticlunr_trie_nodes::nodes::Node;
 use serde_json::{Map, Value};
 use std::alloc::{AllocError, Global};
 

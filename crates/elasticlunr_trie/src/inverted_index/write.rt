@@ -5,21 +5,21 @@ ghost use Rattle.json.specs.Tree.{json_tokens};
 ghost use Rattle.serde_json.specs.Data.{Data};
 ghost use Rattle.serde_json.specs.Written.{outline};
 ghost use Rattle.std.specs.FinMap.{empty};
-ghost use Rattle.elasticlunr_nodes.specs.Table.{IsTable};
-ghost use Rattle.elasticlunr_nodes.specs.Names.{Names, AreNumbered, AreThere, under_names};
-ghost use Rattle.elasticlunr_nodes.specs.Nodes.{AreAllNumbered, postings_at};
-ghost use Rattle.elasticlunr_nodes.specs.Trie.{IsTrie, named, table_of, entries_at};
+ghost use Rattle.elasticlunr_trie_nodes.specs.Table.{IsTable};
+ghost use Rattle.elasticlunr_trie_nodes.specs.Names.{Names, AreNumbered, AreThere, under_names};
+ghost use Rattle.elasticlunr_trie_nodes.specs.Nodes.{AreAllNumbered, postings_at};
+ghost use Rattle.elasticlunr_trie_nodes.specs.Trie.{IsTrie, named, table_of, entries_at};
 ghost use Rattle.elasticlunr_trie.specs.Tree.{IsTrieValue, frequencies};
 ghost use Rattle.elasticlunr_trie.specs.Printed.{IsOrder, place_members, node_tree, postings_tokens, left_members, node_members, stack_tokens, Advances, HasTrees};
 ghost use Rattle.elasticlunr_json.specs.Tokens.{tokens_of};
 
 use super::InvertedIndex;
 use elasticlunr_json::{Token, Tokens};
-use elasticlunr_nodes::child::Child;
-use elasticlunr_nodes::docs::in_order;
-use elasticlunr_nodes::names::NameTexts;
-use elasticlunr_nodes::nodes::{Node, Place, children_of, postings_at};
-use elasticlunr_nodes::postings::Postings;
+use elasticlunr_trie_nodes::child::Child;
+use elasticlunr_trie_nodes::docs::in_order;
+use elasticlunr_trie_nodes::names::NameTexts;
+use elasticlunr_trie_nodes::nodes::{Node, Place, children_of, postings_at};
+use elasticlunr_trie_nodes::postings::Postings;
 use std::alloc::{AllocError, Global};
 
 // What is left to write of an object: children, and before them or among them `df` and `docs` of a

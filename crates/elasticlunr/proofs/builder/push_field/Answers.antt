@@ -1,7 +1,7 @@
 use Rattle.std.proofs.Common.{IsTrue, inr, refl, sym, subst, ◌∙◌, true≢false}
 use Rattle.elasticlunr_text.specs.Text.{bytes_of}
 use Rattle.elasticlunr_text.specs.IndexError.TheVariants.{Memory}
-use Rattle.elasticlunr_history.specs.Fields.{has_name}
+use Rattle.elasticlunr_commands.specs.Fields.{has_name}
 use Rattle.elasticlunr.proofs.Failing.{passed_on, memory_duplicate, not_named, refused_errors}
 use Rattle.elasticlunr.proofs.builder.push_field.Goals as goal
 

@@ -1,12 +1,12 @@
 use Rattle.std.proofs.Common.{◌≡◌, ◌++◌, ap, subst, sym, ◌∙◌, refl, IfSome, string_bytes}
 use Rattle.elasticlunr_job.proofs.Stops.{err_more, ok_more}
-use Rattle.elasticlunr_message.specs.Forms.{asked_or_told}
+use Rattle.elasticlunr_diagnostics.specs.Forms.{asked_or_told}
 use Rattle.elasticlunr_input.specs.Indexes.{IsPlacedIfNotJson, IsRefusedInput}
 use Rattle.elasticlunr_input.specs.Inputs.{HasHead}
-use Rattle.elasticlunr_message.specs.Messages.{IfPlaced}
+use Rattle.elasticlunr_diagnostics.specs.Messages.{IfPlaced}
 use Rattle.elasticlunr_input.specs.RefusedPlaces.{IsInputPlace}
 use Rattle.elasticlunr_input.specs.Settled.{settings_told}
-use Rattle.elasticlunr_message.specs.declared.form.Form.TheVariants.{Job, Objects}
+use Rattle.elasticlunr_diagnostics.specs.declared.form.Form.TheVariants.{Job, Objects}
 use Rattle.elasticlunr_input.proofs.HeadLemmas.{exit_at}
 use Rattle.elasticlunr_input.proofs.InputLemmas.{err_three, lines_err, lines_ok, not_read, whole_err, whole_ok}
 use Rattle.elasticlunr_input.proofs.index.index_unmarked.Goals as goal

@@ -6,9 +6,9 @@ use Rattle.elasticlunr_input.specs.Indexes.{FailsInput}
 use Rattle.elasticlunr_input.specs.Refused.{FailObjects}
 use Rattle.elasticlunr_input.specs.RefusedPlaces.{IsInputPlace}
 use Rattle.elasticlunr_input.specs.Settled.{settings_told}
-use Rattle.elasticlunr_place.specs.Members.{IsPlaceOf}
-use Rattle.elasticlunr_message.specs.Messages.{IsMemoryOrPlaced}
-use Rattle.elasticlunr_message.specs.declared.form.Form.TheVariants as form
+use Rattle.elasticlunr_json_place.specs.Members.{IsPlaceOf}
+use Rattle.elasticlunr_diagnostics.specs.Messages.{IsMemoryOrPlaced}
+use Rattle.elasticlunr_diagnostics.specs.declared.form.Form.TheVariants as form
 use Rattle.elasticlunr_input.proofs.LinePlaces.{placed_as, some_for}
 use Rattle.elasticlunr_input.proofs.Refusals.{refused_for}
 use Rattle.elasticlunr_input.proofs.InputLemmas.{err_unless}

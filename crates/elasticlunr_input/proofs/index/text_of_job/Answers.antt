@@ -1,10 +1,10 @@
 use Rattle.std.proofs.Common.{inr, subst}
 use Rattle.serde_json.specs.View.{view}
-use Rattle.elasticlunr_parse.specs.Stop.{StopsWithReason}
+use Rattle.elasticlunr_job_format.specs.Stop.{StopsWithReason}
 use Rattle.elasticlunr_input.specs.FaultPlaces.{IsPlaceInJob}
 use Rattle.elasticlunr_input.specs.RefusedPlaces.{IsInputPlace}
 use Rattle.elasticlunr_input.specs.Settled.{settings_told, IsRefusedWith}
-use Rattle.elasticlunr_message.specs.declared.form.Form.TheVariants.{Job}
+use Rattle.elasticlunr_diagnostics.specs.declared.form.Form.TheVariants.{Job}
 use Rattle.elasticlunr_input.proofs.LinePlaces.{some_for}
 use Rattle.elasticlunr_input.proofs.index.text_of_job.Goals as goal
 

@@ -1,7 +1,7 @@
 use Rattle.std.proofs.Common.{map, ap, subst, sym, ◌∙◌, Some, string_bytes}
 use Rattle.serde_json.specs.View.{view}
 use Rattle.elasticlunr_job.proofs.Stops.{err_more, ok_more}
-use Rattle.elasticlunr_parse.specs.ObjectsTold.{options_told}
+use Rattle.elasticlunr_job_format.specs.ObjectsTold.{options_told}
 use Rattle.elasticlunr_input.specs.Inputs.{IsRefusedFirst}
 use Rattle.elasticlunr_input.specs.Settled.{settings_told}
 use Rattle.elasticlunr_input.proofs.HeadLemmas.{chained_first, chained_line, chained_lines, chained_unread, exit_at}

@@ -1,8 +1,8 @@
 use Rattle.std.proofs.Common.{map, string_bytes, subst}
 use Rattle.serde_json.specs.View.{view}
-use Rattle.elasticlunr_objects.specs.Objects.{IsLineOfObjects}
-use Rattle.elasticlunr_parse.specs.Objects as spec
-use Rattle.elasticlunr_parse.specs.ObjectsTold.{options_told}
+use Rattle.elasticlunr_documents.specs.Objects.{IsLineOfObjects}
+use Rattle.elasticlunr_job_format.specs.Objects as spec
+use Rattle.elasticlunr_job_format.specs.ObjectsTold.{options_told}
 use Rattle.elasticlunr_input.specs.Asked.{options_of}
 use Rattle.elasticlunr_input.specs.FaultPlaces.{IsPlaceInObjects}
 use Rattle.elasticlunr_input.specs.Refused.{FailObjects}

@@ -1,6 +1,6 @@
 use Rattle.std.proofs.Common.{◌<◌, ◌≤◌, ◌+◌, length, map, take, subst, sym, arith}
 use Rattle.elasticlunr.specs.Fields.{borrowed}
-use Rattle.elasticlunr_parse.specs.JobTold.{document_told}
+use Rattle.elasticlunr_job_format.specs.JobTold.{document_told}
 use Rattle.elasticlunr_input.specs.FirstFaults.{AllFit, IsFirstTooLong}
 use Rattle.elasticlunr_input.proofs.FirstFaults.{fit_all, fit_more, too_long_at}
 use Rattle.elasticlunr_input.proofs.jobs.first_too_long.Goals as goal

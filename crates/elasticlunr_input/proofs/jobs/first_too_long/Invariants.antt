@@ -1,6 +1,6 @@
 use Rattle.std.proofs.Common.{map, take}
 use Rattle.elasticlunr.specs.Fields.{borrowed}
-use Rattle.elasticlunr_parse.specs.JobTold.{document_told}
+use Rattle.elasticlunr_job_format.specs.JobTold.{document_told}
 use Rattle.elasticlunr_input.specs.FirstFaults.{AllFit}
 use Rattle.elasticlunr_input.proofs.jobs.first_too_long.Given as goal
 

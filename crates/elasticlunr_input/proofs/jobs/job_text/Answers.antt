@@ -2,12 +2,12 @@ use Rattle.std.proofs.Common.{string_bytes, subst}
 use Rattle.serde_json.specs.Data.{Data}
 use Rattle.serde_json.specs.View.{view}
 use Rattle.elasticlunr_job.specs.Answer.{FailsAt, IsLineOf}
-use Rattle.elasticlunr_parse.specs.Job.{Job, IsJob}
-use Rattle.elasticlunr_parse.specs.JobTold.{job_told}
-use Rattle.elasticlunr_parse.specs.Stop.{StopsWithReason}
-use Rattle.elasticlunr_parse.specs.declared.outcome.Refusal.TheVariants as refusal
-use Rattle.elasticlunr_parse.specs.declared.outcome.Stop.{Stop}
-use Rattle.elasticlunr_parse.specs.declared.outcome.Stop.TheVariants.{Memory, Refused}
+use Rattle.elasticlunr_job_format.specs.Job.{Job, IsJob}
+use Rattle.elasticlunr_job_format.specs.JobTold.{job_told}
+use Rattle.elasticlunr_job_format.specs.Stop.{StopsWithReason}
+use Rattle.elasticlunr_job_format.specs.declared.outcome.Refusal.TheVariants as refusal
+use Rattle.elasticlunr_job_format.specs.declared.outcome.Stop.{Stop}
+use Rattle.elasticlunr_job_format.specs.declared.outcome.Stop.TheVariants.{Memory, Refused}
 use Rattle.elasticlunr_job.proofs.Stops.{err_more, ok_more}
 use Rattle.elasticlunr_input.specs.Settled.{Settings, IsRefusedWith, settings_told, settled}
 use Rattle.elasticlunr_input.proofs.jobs.job_text.Goals as goal

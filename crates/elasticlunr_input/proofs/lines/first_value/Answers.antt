@@ -1,8 +1,8 @@
 use Rattle.std.proofs.Common.{◌≡◌, ◌∷◌, ◌++◌, [], map, true, false, cond, if◌then◌else◌, Some, sym, ap, ◌∙◌, true≢false}
 use Rattle.serde_json.specs.View.{view}
-use Rattle.elasticlunr_parse.specs.Lines.{is_blank, is_filled}
-use Rattle.elasticlunr_parse.specs.Reading.{reading}
-use Rattle.elasticlunr_parse.proofs.Readings.{reading_some, reading_none}
+use Rattle.elasticlunr_job_format.specs.Lines.{is_blank, is_filled}
+use Rattle.elasticlunr_job_format.specs.Reading.{reading}
+use Rattle.elasticlunr_job_format.proofs.Readings.{reading_some, reading_none}
 use Rattle.elasticlunr_input.proofs.lines.first_value.Goals as goal
 
 pub returns-in-Ok-clause-ok : goal.returns-in-Ok-clause-ok

@@ -1,9 +1,9 @@
 use Rattle.std.proofs.Common.{◌≡◌, ◌-◌, ◌∷◌, [], List, Bool, true, false, IfOk, IfSome, None, length, take, if◌then◌else◌, ap, subst, ◌∙◌}
 use Rattle.elasticlunr_text.specs.Text.{Bytes}
-use Rattle.elasticlunr_parse.specs.ObjectsTold.{options_told}
-use Rattle.elasticlunr_place.specs.Members.{under, move_told, path_told, IsPlaceOf}
-use Rattle.elasticlunr_place.specs.declared.member.Step.{Step}
-use Rattle.elasticlunr_place.specs.declared.member.Step.TheVariants as step
+use Rattle.elasticlunr_job_format.specs.ObjectsTold.{options_told}
+use Rattle.elasticlunr_json_place.specs.Members.{under, move_told, path_told, IsPlaceOf}
+use Rattle.elasticlunr_json_place.specs.declared.member.Step.{Step}
+use Rattle.elasticlunr_json_place.specs.declared.member.Step.TheVariants as step
 use Rattle.elasticlunr_input.specs.FaultPlaces.{is_of_member, problem_key}
 use Rattle.elasticlunr_input.proofs.lines.line_place.Goals as goal
 

@@ -1,10 +1,10 @@
 use Rattle.std.proofs.Common.{◌≡◌, Some, None, ap, inl, inr, sym, ◌∙◌, true≢false}
 use Rattle.serde_json.specs.View.{view}
-use Rattle.elasticlunr_parse.specs.ObjectsTold.{options_told}
-use Rattle.elasticlunr_parse.specs.Reading.{reading}
-use Rattle.elasticlunr_parse.proofs.Readings.{reading_none, reading_some}
-use Rattle.elasticlunr_place.specs.Members.{IsPlaceOf}
-use Rattle.elasticlunr_place.specs.Places.{IsPlaceIn}
+use Rattle.elasticlunr_job_format.specs.ObjectsTold.{options_told}
+use Rattle.elasticlunr_job_format.specs.Reading.{reading}
+use Rattle.elasticlunr_job_format.proofs.Readings.{reading_none, reading_some}
+use Rattle.elasticlunr_json_place.specs.Members.{IsPlaceOf}
+use Rattle.elasticlunr_json_place.specs.Places.{IsPlaceIn}
 use Rattle.elasticlunr_job.proofs.Stops.{ok_more}
 use Rattle.elasticlunr_input.specs.FaultPlaces.{problem_path}
 use Rattle.elasticlunr_input.specs.Inputs.{IsBelow, IsPlaceInLine}

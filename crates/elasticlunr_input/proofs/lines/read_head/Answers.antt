@@ -1,9 +1,9 @@
 use Rattle.std.proofs.Common.{◌≡◌, ◌+◌, ◌++◌, ◌∷◌, ◌==◌, [], true, false, count_by, if◌then◌else◌, inr, refl, sym, ap, subst, ◌∙◌, append_assoc}
 use Rattle.std.specs.Io.KnownBytes.{Consumes}
-use Rattle.elasticlunr_parse.specs.LineRead.{fed}
-use Rattle.elasticlunr_parse.specs.Lines.{filled_lines, is_blank}
-use Rattle.elasticlunr_parse.proofs.LineParts.{consumes_more}
-use Rattle.elasticlunr_objects.proofs.ReadLines.{feeds_next}
+use Rattle.elasticlunr_job_format.specs.LineRead.{fed}
+use Rattle.elasticlunr_job_format.specs.Lines.{filled_lines, is_blank}
+use Rattle.elasticlunr_job_format.proofs.LineParts.{consumes_more}
+use Rattle.elasticlunr_documents.proofs.ReadLines.{feeds_next}
 use Rattle.elasticlunr_input.proofs.HeadLemmas.{blank_next, head_filled, head_last}
 use Rattle.elasticlunr_input.proofs.lines.read_head.Goals as goal
 

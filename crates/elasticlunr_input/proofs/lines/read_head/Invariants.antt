@@ -1,7 +1,7 @@
 use Rattle.std.proofs.Common.{◌≡◌, ◌==◌, [], count_by}
 use Rattle.std.specs.Io.KnownBytes.{Consumes}
-use Rattle.elasticlunr_parse.specs.LineRead.{AreWhole}
-use Rattle.elasticlunr_parse.specs.Lines.{filled_lines}
+use Rattle.elasticlunr_job_format.specs.LineRead.{AreWhole}
+use Rattle.elasticlunr_job_format.specs.Lines.{filled_lines}
 use Rattle.elasticlunr_input.proofs.lines.read_head.Given as goal
 
 -- the lines so far are blank

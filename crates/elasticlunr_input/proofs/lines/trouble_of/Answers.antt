@@ -1,5 +1,5 @@
 use Rattle.std.proofs.Common.{inr, refl}
-use Rattle.elasticlunr_parse.specs.ObjectsTold.{options_told}
+use Rattle.elasticlunr_job_format.specs.ObjectsTold.{options_told}
 use Rattle.elasticlunr_input.proofs.HeadLemmas.{fails_document}
 use Rattle.elasticlunr_input.proofs.lines.trouble_of.Goals as goal
 

@@ -1,6 +1,6 @@
 use Rattle.std.proofs.Common.{None, IfSome, subst}
-use Rattle.elasticlunr_parse.specs.ObjectsTold.{options_told}
-use Rattle.elasticlunr_place.specs.Members.{IsPlaceOf}
+use Rattle.elasticlunr_job_format.specs.ObjectsTold.{options_told}
+use Rattle.elasticlunr_json_place.specs.Members.{IsPlaceOf}
 use Rattle.elasticlunr_input.specs.FaultPlaces.{problem_path}
 use Rattle.elasticlunr_input.proofs.LinePlaces.{lowered_below}
 use Rattle.elasticlunr_input.proofs.lines.value_refused.Goals as goal

@@ -1,8 +1,8 @@
 use Rattle.std.proofs.Common.{IfOk, IfErr, subst, string_bytes}
 use Rattle.elasticlunr_text.specs.Text.{Bytes}
-use Rattle.elasticlunr_parse.specs.LineRead.{AreAll}
-use Rattle.elasticlunr_parse.specs.ObjectsTold.{options_told}
-use Rattle.elasticlunr_objects.specs.Lines.{FailsLines, IsLineOfLines}
+use Rattle.elasticlunr_job_format.specs.LineRead.{AreAll}
+use Rattle.elasticlunr_job_format.specs.ObjectsTold.{options_told}
+use Rattle.elasticlunr_documents.specs.Lines.{FailsLines, IsLineOfLines}
 use Rattle.elasticlunr_input.proofs.lines.watched_line.Goals as goal
 
 pub returns-clause-ok : goal.returns-clause-ok

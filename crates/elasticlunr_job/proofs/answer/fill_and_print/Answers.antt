@@ -3,7 +3,7 @@ use Rattle.elasticlunr.specs.Index.{fields_of}
 use Rattle.elasticlunr_lang.specs.Known.{language_name}
 use Rattle.elasticlunr_job.specs.Answer.{HasTooMany}
 use Rattle.elasticlunr_job.specs.Filled.{Fits}
-use Rattle.elasticlunr_parse.specs.JobTold.{document_told, job_told}
+use Rattle.elasticlunr_job_format.specs.JobTold.{document_told, job_told}
 use Rattle.elasticlunr_job.proofs.Alike.{compacted_not, compacted_then, document_alike, fits_told, not_refused, plan_alike, same_settings, still_works, too_many_told, works_then}
 use Rattle.elasticlunr_job.proofs.Filling.{Any_at, All_more, All_whole, done, next_removed, next_taken}
 use Rattle.elasticlunr_job.proofs.Printing.{carried_line}

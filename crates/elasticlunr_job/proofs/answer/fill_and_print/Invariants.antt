@@ -5,7 +5,7 @@ use Rattle.elasticlunr_lang.specs.Known.{language_name}
 use Rattle.elasticlunr_job.specs.Commands.{language_tokens}
 use Rattle.elasticlunr_job.specs.Filled.{Fits}
 use Rattle.elasticlunr_job.proofs.Taken.{Follows, HasTaken}
-use Rattle.elasticlunr_parse.specs.JobTold.{document_told}
+use Rattle.elasticlunr_job_format.specs.JobTold.{document_told}
 use Rattle.elasticlunr_job.proofs.answer.fill_and_print.Given as goal
 
 -- the documents so far are added

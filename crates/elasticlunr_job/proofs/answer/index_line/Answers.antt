@@ -1,8 +1,8 @@
 use Rattle.std.proofs.Common.{ap, sym, ◌∙◌}
 use Rattle.serde_json.specs.View.{view}
-use Rattle.elasticlunr_parse.specs.Reading.{reading}
+use Rattle.elasticlunr_job_format.specs.Reading.{reading}
 use Rattle.elasticlunr_job.specs.Answer.{IsRefused}
-use Rattle.elasticlunr_parse.specs.declared.outcome.Refusal.TheVariants.{NotAJob}
+use Rattle.elasticlunr_job_format.specs.declared.outcome.Refusal.TheVariants.{NotAJob}
 use Rattle.elasticlunr_job.proofs.Stops.{refusal_exit}
 use Rattle.elasticlunr_job.proofs.answer.index_line.Goals as goal
 

@@ -4,8 +4,8 @@ use Rattle.elasticlunr.specs.Fields.{all_differ}
 use Rattle.elasticlunr.specs.Index.{choices_of}
 use Rattle.elasticlunr_job.specs.Answer.{FailsAt, HasTooMany}
 use Rattle.elasticlunr_job.specs.Filled.{Fits}
-use Rattle.elasticlunr_parse.specs.JobTold.{job_told}
-use Rattle.elasticlunr_parse.specs.declared.outcome.Refusal.TheVariants.{TooManyValues}
+use Rattle.elasticlunr_job_format.specs.JobTold.{job_told}
+use Rattle.elasticlunr_job_format.specs.declared.outcome.Refusal.TheVariants.{TooManyValues}
 use Rattle.elasticlunr_job.proofs.Alike.{holding_works}
 use Rattle.elasticlunr_job.proofs.Building.{begun_for, built_fields, built_for, given_fields, given_for}
 use Rattle.elasticlunr_job.proofs.Stops.{StopsWithReason-by, err_more, fields_exit, no_language, ok_both}

@@ -1,6 +1,6 @@
 use Rattle.std.proofs.Common.{◌≡◌, true, length}
 use Rattle.elasticlunr_text.specs.Text.{bytes_of}
-use Rattle.elasticlunr_history.specs.Fields.{all_differ}
+use Rattle.elasticlunr_commands.specs.Fields.{all_differ}
 use Rattle.elasticlunr_search.proofs.anew.all_differ.Given as goal
 
 -- where those that are left differ, all do

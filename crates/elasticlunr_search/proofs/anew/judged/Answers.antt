@@ -1,8 +1,8 @@
 use Rattle.std.proofs.Common.{sym, subst}
 use Rattle.elasticlunr.specs.Shape.{HasLanguage}
-use Rattle.elasticlunr_printed.proofs.Held.{language_held}
-use Rattle.elasticlunr_printed.proofs.ReadBack.{passed_reads}
-use Rattle.elasticlunr_printed.proofs.Shapes.{index_parts}
+use Rattle.elasticlunr_print.proofs.Held.{language_held}
+use Rattle.elasticlunr_print.proofs.ReadBack.{passed_reads}
+use Rattle.elasticlunr_print.proofs.Shapes.{index_parts}
 use Rattle.elasticlunr_search.proofs.Whole.{of_parts}
 use Rattle.elasticlunr_search.proofs.Stages.{stages_held}
 use Rattle.elasticlunr_search.proofs.anew.judged.Goals as goal

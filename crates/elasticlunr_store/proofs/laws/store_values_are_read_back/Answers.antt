@@ -1,7 +1,7 @@
 use Rattle.std.proofs.Common.{sym, ◌∙◌}
 use Rattle.elasticlunr_json.proofs.Refusals.{read_back}
 use Rattle.elasticlunr_store.specs.Contents.{IsStoreValue}
-use Rattle.elasticlunr_maps.proofs.Values.{one_contents}
+use Rattle.elasticlunr_store_maps.proofs.Values.{one_contents}
 use Rattle.elasticlunr_store.proofs.laws.store_values_are_read_back.Goals as goal
 
 pub returns : goal.returns

@@ -1,5 +1,5 @@
 use Rattle.elasticlunr_json.proofs.Refusals.{read_back}
-use Rattle.elasticlunr_nodes.specs.Table.{IsTable}
+use Rattle.elasticlunr_trie_nodes.specs.Table.{IsTable}
 use Rattle.elasticlunr_trie.specs.Tree.{IsTrieValue}
 use Rattle.elasticlunr_trie.proofs.Unique.{one_table, closed}
 use Rattle.elasticlunr_trie.proofs.laws.trie_values_are_read_back.Goals as goal

@@ -1,5 +1,5 @@
 use Rattle.std.proofs.Common.{subst}
-use Rattle.elasticlunr_printed.specs.Printed.{IsTextAfter}
+use Rattle.elasticlunr_print.specs.Printed.{IsTextAfter}
 use Rattle.elasticlunr.proofs.Calling.{commands_more, document_alike, one_commands, one_text, plan_alike}
 use Rattle.elasticlunr.proofs.laws.calls.equal_settings_print_equal_texts.Goals as goal
 

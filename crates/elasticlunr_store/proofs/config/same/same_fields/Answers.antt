@@ -2,7 +2,7 @@ use Rattle.std.proofs.Common.{◌&&◌, sym, ◌∙◌, bytes_eq}
 use Rattle.std.specs.Cmp.Lexicographic.{pointwise}
 use Rattle.elasticlunr_store.specs.Options.{same_field}
 use Rattle.elasticlunr_json.proofs.Sorted.{entries_seen}
-use Rattle.elasticlunr_maps.proofs.SameMaps.{pointwise_shown, apart_shown}
+use Rattle.elasticlunr_store_maps.proofs.SameMaps.{pointwise_shown, apart_shown}
 use Rattle.elasticlunr_store.proofs.config.same.same_fields.Goals as goal
 
 pub returns-then-len : goal.returns-then-len

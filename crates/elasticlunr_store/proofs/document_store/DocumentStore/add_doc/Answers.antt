@@ -1,8 +1,8 @@
 use Rattle.std.proofs.Common.{◌≡◌, cond, ap, sym, subst, ◌∙◌}
 use Rattle.std.specs.FinMap.{insert, empty}
 use Rattle.elasticlunr_store.specs.Contents.{IsConsistent, with_document, contents_of, text_map, document_texts, document_lengths}
-use Rattle.elasticlunr_maps.proofs.AreContents.{are_contents, small_lengths}
-use Rattle.elasticlunr_maps.proofs.Kept.{document_kept}
+use Rattle.elasticlunr_store_maps.proofs.AreContents.{are_contents, small_lengths}
+use Rattle.elasticlunr_store_maps.proofs.Kept.{document_kept}
 use Rattle.elasticlunr_store.proofs.document_store.DocumentStore.add_doc.Goals as goal
 use Rattle.elasticlunr_store.proofs.document_store.DocumentStore.add_doc.Goals.{then-self, else-self}
 

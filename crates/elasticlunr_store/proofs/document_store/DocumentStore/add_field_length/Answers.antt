@@ -1,8 +1,8 @@
 use Rattle.std.proofs.Common.{ap, sym, subst, ◌∙◌, arith}
 use Rattle.elasticlunr_store.specs.Contents.{IsConsistent, with_length, contents_of, document_texts, document_lengths}
 use Rattle.elasticlunr_store.specs.SmallLengths.{HasSmallLengths}
-use Rattle.elasticlunr_maps.proofs.AreContents.{are_contents, small_lengths}
-use Rattle.elasticlunr_maps.proofs.Kept.{length_kept, length_small}
+use Rattle.elasticlunr_store_maps.proofs.AreContents.{are_contents, small_lengths}
+use Rattle.elasticlunr_store_maps.proofs.Kept.{length_kept, length_small}
 use Rattle.elasticlunr_store.proofs.document_store.DocumentStore.add_field_length.Goals as goal
 
 pub invariant_of-self-2 : goal.invariant_of-self-2

@@ -3,9 +3,9 @@ use Rattle.std.specs.FinMap.{remove}
 use Rattle.std.proofs.lemmas.Map.Text.{btree_map_updates_text}
 use Rattle.elasticlunr_store.specs.Contents.{Contents, IsConsistent, contents_of, length_map, document_texts, document_lengths}
 use Rattle.elasticlunr_store.specs.SmallLengths.{HasSmallLengths}
-use Rattle.elasticlunr_maps.proofs.AreContents.{are_contents, small_lengths}
+use Rattle.elasticlunr_store_maps.proofs.AreContents.{are_contents, small_lengths}
 use Rattle.elasticlunr_json.proofs.Seen.{seen_removed}
-use Rattle.elasticlunr_maps.proofs.Kept.{without_lengths_kept, small_removed}
+use Rattle.elasticlunr_store_maps.proofs.Kept.{without_lengths_kept, small_removed}
 use Rattle.elasticlunr_store.proofs.document_store.DocumentStore.forget_doc.Goals as goal
 
 pub invariant_of-self : goal.invariant_of-self

@@ -4,9 +4,9 @@ use Rattle.std.specs.FinMap.{get, len, empty}
 use Rattle.serde_json.specs.Data.{object, string}
 use Rattle.elasticlunr_store.specs.Contents.{IsConsistent, contents_of, store_members, store_object, text_map, document_texts, document_lengths}
 use Rattle.elasticlunr_json.specs.Maps.{keyed, count}
-use Rattle.elasticlunr_maps.proofs.AreContents.{are_contents}
+use Rattle.elasticlunr_store_maps.proofs.AreContents.{are_contents}
 use Rattle.elasticlunr_json.proofs.Sorted.{len_seen}
-use Rattle.elasticlunr_maps.proofs.Values.{same_parts}
+use Rattle.elasticlunr_store_maps.proofs.Values.{same_parts}
 use Rattle.elasticlunr_json.proofs.ReadingMaps.{object_of, count_of, bool_of, not_both}
 use Rattle.elasticlunr_store.proofs.document_store.DocumentStore.from_value.Goals as goal
 use Rattle.elasticlunr_store.proofs.document_store.DocumentStore.from_value.Goals.{else-not-save-via-then-not-save+else-has_text, else-not-save-via-else-not-save}

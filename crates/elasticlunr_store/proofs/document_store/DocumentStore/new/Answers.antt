@@ -1,7 +1,7 @@
 use Rattle.std.proofs.Common.{[], sym, subst}
 use Rattle.elasticlunr_store.specs.Contents.{IsContents, contents_of}
-use Rattle.elasticlunr_maps.proofs.AreContents.{are_contents}
-use Rattle.elasticlunr_maps.proofs.Kept.{new_kept, small_empty}
+use Rattle.elasticlunr_store_maps.proofs.AreContents.{are_contents}
+use Rattle.elasticlunr_store_maps.proofs.Kept.{new_kept, small_empty}
 use Rattle.elasticlunr_store.proofs.document_store.DocumentStore.new.Goals as goal
 
 pub invariant_of-result : goal.invariant_of-result

@@ -1,9 +1,9 @@
 use Rattle.std.proofs.Common.{ap, sym, subst, ◌∙◌}
 use Rattle.std.proofs.lemmas.Map.Text.{btree_map_updates_text}
 use Rattle.elasticlunr_store.specs.Contents.{IsConsistent, without_document, contents_of, text_map, document_lengths}
-use Rattle.elasticlunr_maps.proofs.AreContents.{are_contents, small_lengths}
+use Rattle.elasticlunr_store_maps.proofs.AreContents.{are_contents, small_lengths}
 use Rattle.elasticlunr_json.proofs.Seen.{seen_removed}
-use Rattle.elasticlunr_maps.proofs.Kept.{removed_kept}
+use Rattle.elasticlunr_store_maps.proofs.Kept.{removed_kept}
 use Rattle.elasticlunr_store.proofs.document_store.DocumentStore.remove_doc.Goals as goal
 
 pub invariant_of-self : goal.invariant_of-self

@@ -2,7 +2,7 @@ use Rattle.std.proofs.Common.{ap, sym, ◌∙◌}
 use Rattle.serde_json.specs.Written.{has_float}
 use Rattle.elasticlunr_store.specs.Contents.{store_object, store_value, text_map}
 use Rattle.elasticlunr_json.proofs.Sorted.{len_seen}
-use Rattle.elasticlunr_maps.proofs.Values.{one_contents, no_float}
+use Rattle.elasticlunr_store_maps.proofs.Values.{one_contents, no_float}
 use Rattle.elasticlunr_store.proofs.document_store.DocumentStore.to_value.Goals as goal
 
 pub returns-clause-value : goal.returns-clause-value

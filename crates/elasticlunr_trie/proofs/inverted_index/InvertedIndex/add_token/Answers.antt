@@ -3,9 +3,9 @@ use Rattle.std.specs.Str.{chars}
 use Rattle.elasticlunr_error.specs.Text.{Text}
 use Rattle.std.proofs.lemmas.Bool.{eqb-true, eq-eqb}
 use mathlib.Core.Bool.{false≢true}
-use Rattle.elasticlunr_nodes.specs.Table.{AddsToken}
-use Rattle.elasticlunr_nodes.specs.Trie.{table_of}
-use Rattle.elasticlunr_nodes.proofs.Letters.{some_character, no_character}
+use Rattle.elasticlunr_trie_nodes.specs.Table.{AddsToken}
+use Rattle.elasticlunr_trie_nodes.specs.Trie.{table_of}
+use Rattle.elasticlunr_trie_nodes.proofs.Letters.{some_character, no_character}
 use Rattle.elasticlunr_trie.proofs.Ends.{ends_kept}
 use Rattle.elasticlunr_trie.proofs.inverted_index.InvertedIndex.add_token.Goals as goal
 

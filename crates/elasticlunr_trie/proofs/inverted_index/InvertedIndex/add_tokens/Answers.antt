@@ -1,8 +1,8 @@
 use Rattle.std.proofs.Common.{Result, Ok, Err, OnErr, map, ap, subst, ◌∙◌}
 use Rattle.std.proofs.lemmas.Result.{IfOk-from_err}
-use Rattle.elasticlunr_nodes.specs.Table.{AreChanged, additions}
-use Rattle.elasticlunr_nodes.specs.Trie.{table_of}
-use Rattle.elasticlunr_nodes.specs.Starts.{told}
+use Rattle.elasticlunr_trie_nodes.specs.Table.{AreChanged, additions}
+use Rattle.elasticlunr_trie_nodes.specs.Trie.{table_of}
+use Rattle.elasticlunr_trie_nodes.specs.Starts.{told}
 use Rattle.elasticlunr_trie.proofs.Ends.{ends_kept}
 use Rattle.elasticlunr_trie.proofs.inverted_index.InvertedIndex.add_tokens.Goals as goal
 

@@ -1,7 +1,7 @@
 use Rattle.std.proofs.Common.{◌≡◌, ◌↔◌, ◌⊎◌, [], IsTrue, IsSome, subst, ◌∙◌}
 use Rattle.elasticlunr_error.specs.Text.{Text, Bytes}
-use Rattle.elasticlunr_nodes.specs.Table.{IsPrefix, knows, posting}
-use Rattle.elasticlunr_nodes.specs.Trie.{table_of}
+use Rattle.elasticlunr_trie_nodes.specs.Table.{IsPrefix, knows, posting}
+use Rattle.elasticlunr_trie_nodes.specs.Trie.{table_of}
 use Rattle.elasticlunr_trie.proofs.Bounds.{nodes_table}
 use Rattle.elasticlunr_trie.proofs.inverted_index.InvertedIndex.compacted.Goals as goal
 

@@ -1,8 +1,8 @@
 use Rattle.std.proofs.Common.{sym, ap, ◌∙◌}
 use Rattle.std.specs.FinMap as map
 use Rattle.std.specs.Str.{chars}
-use Rattle.elasticlunr_nodes.specs.Table.{postings}
-use Rattle.elasticlunr_nodes.proofs.Named.{no_df, len_named}
+use Rattle.elasticlunr_trie_nodes.specs.Table.{postings}
+use Rattle.elasticlunr_trie_nodes.proofs.Named.{no_df, len_named}
 use Rattle.elasticlunr_trie.proofs.inverted_index.InvertedIndex.get_doc_frequency.Goals as goal
 
 pub returns-in-Some : goal.returns-in-Some

@@ -1,8 +1,8 @@
 use Rattle.std.proofs.Common.{sym, ap, ◌∙◌}
 use Rattle.std.specs.FinMap.{get}
 use Rattle.std.specs.Str.{chars}
-use Rattle.elasticlunr_nodes.specs.Trie.{look}
-use Rattle.elasticlunr_nodes.proofs.Tables.{get_table}
+use Rattle.elasticlunr_trie_nodes.specs.Trie.{look}
+use Rattle.elasticlunr_trie_nodes.proofs.Tables.{get_table}
 use Rattle.elasticlunr_trie.proofs.inverted_index.InvertedIndex.get_docs.Goals as goal
 
 pub returns-clause-ok : goal.returns-clause-ok

@@ -1,6 +1,6 @@
 use Rattle.std.proofs.Common.{ap, ◌∙◌, unwrap_or}
 use Rattle.std.specs.Str.{chars}
-use Rattle.elasticlunr_nodes.specs.Table.{posting}
+use Rattle.elasticlunr_trie_nodes.specs.Table.{posting}
 use Rattle.elasticlunr_trie.proofs.inverted_index.InvertedIndex.get_term_frequency.Goals as goal
 
 pub returns : goal.returns

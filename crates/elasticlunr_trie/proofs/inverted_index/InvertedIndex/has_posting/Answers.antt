@@ -1,6 +1,6 @@
 use Rattle.std.proofs.Common.{ap, ◌∙◌, is_some}
 use Rattle.std.specs.Str.{chars}
-use Rattle.elasticlunr_nodes.specs.Table.{posting}
+use Rattle.elasticlunr_trie_nodes.specs.Table.{posting}
 use Rattle.elasticlunr_trie.proofs.inverted_index.InvertedIndex.has_posting.Goals as goal
 
 pub returns : goal.returns

@@ -1,7 +1,7 @@
 use Rattle.std.proofs.Common.{sym, ap, ◌∙◌, is_some}
 use Rattle.std.specs.Str.{chars}
-use Rattle.elasticlunr_nodes.specs.Table.{knows}
-use Rattle.elasticlunr_nodes.proofs.Tables.{knows_walk}
+use Rattle.elasticlunr_trie_nodes.specs.Table.{knows}
+use Rattle.elasticlunr_trie_nodes.proofs.Tables.{knows_walk}
 use Rattle.elasticlunr_trie.proofs.inverted_index.InvertedIndex.has_token.Goals as goal
 
 pub returns : goal.returns

@@ -1,7 +1,7 @@
 use Rattle.std.proofs.Common.{[]}
 use Rattle.elasticlunr_trie.proofs.Blank.{blank_index, blank_table}
 use Rattle.elasticlunr_trie.proofs.Bounds.{nodes_table}
-use Rattle.elasticlunr_nodes.proofs.Tables.{empty_trie}
+use Rattle.elasticlunr_trie_nodes.proofs.Tables.{empty_trie}
 use Rattle.elasticlunr_trie.proofs.inverted_index.InvertedIndex.new.Goals as goal
 
 pub invariant_of-result : goal.invariant_of-result

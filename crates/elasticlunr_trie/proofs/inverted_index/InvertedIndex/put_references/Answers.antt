@@ -2,9 +2,9 @@ use Rattle.std.proofs.Common.{◌||◌, is_some, sym, ap, subst, ◌∙◌}
 use Rattle.std.specs.FinMap.{get, get-empty}
 use Rattle.std.specs.Str.{chars}
 use Rattle.elasticlunr_error.specs.Text.{is_listed, text_cmp}
-use Rattle.elasticlunr_nodes.specs.Names.{ArePostings, named_pairs}
-use Rattle.elasticlunr_nodes.specs.Table.{postings}
-use Rattle.elasticlunr_nodes.proofs.Named.{no_names, pairs_are, pairs_named}
+use Rattle.elasticlunr_trie_nodes.specs.Names.{ArePostings, named_pairs}
+use Rattle.elasticlunr_trie_nodes.specs.Table.{postings}
+use Rattle.elasticlunr_trie_nodes.proofs.Named.{no_names, pairs_are, pairs_named}
 use Rattle.elasticlunr_trie.specs.References.{texts_in}
 use Rattle.elasticlunr_trie.proofs.References.{or_none, on_err}
 use Rattle.elasticlunr_trie.proofs.inverted_index.InvertedIndex.put_references.Goals as goal

@@ -2,7 +2,7 @@ use Rattle.std.proofs.Common.{◌||◌, is_some, map, sym, ap, subst, ◌∙◌}
 use Rattle.std.specs.List.Sorted.{IsStrictlySortedBy}
 use Rattle.std.specs.Str.{chars}
 use Rattle.elasticlunr_error.specs.Text.{is_listed, text_cmp}
-use Rattle.elasticlunr_nodes.specs.Table.{posting}
+use Rattle.elasticlunr_trie_nodes.specs.Table.{posting}
 use Rattle.elasticlunr_trie.proofs.inverted_index.InvertedIndex.references.Goals as goal
 
 pub returns-clause-order : goal.returns-clause-order

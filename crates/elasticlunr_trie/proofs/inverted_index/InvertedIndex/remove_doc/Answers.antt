@@ -1,6 +1,6 @@
 use Rattle.std.proofs.Common.{ap, ◌∙◌}
-use Rattle.elasticlunr_nodes.specs.Table.{knows, posting}
-use Rattle.elasticlunr_nodes.proofs.Settled.{settled_parents, settled_paths, lost_trie, lost_known, lost_gone, lost_others}
+use Rattle.elasticlunr_trie_nodes.specs.Table.{knows, posting}
+use Rattle.elasticlunr_trie_nodes.proofs.Settled.{settled_parents, settled_paths, lost_trie, lost_known, lost_gone, lost_others}
 use Rattle.elasticlunr_trie.proofs.Ends.{ends_kept}
 use Rattle.elasticlunr_trie.proofs.inverted_index.InvertedIndex.remove_doc.Goals as goal
 

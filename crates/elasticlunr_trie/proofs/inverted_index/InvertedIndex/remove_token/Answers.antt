@@ -1,8 +1,8 @@
 use Rattle.std.proofs.Common.{subst}
 use Rattle.std.specs.Str.{chars}
-use Rattle.elasticlunr_nodes.specs.Table.{RemovesToken}
-use Rattle.elasticlunr_nodes.specs.Trie.{table_of, RemovesPosting}
-use Rattle.elasticlunr_nodes.proofs.Settled.{settled_parents, settled_paths}
+use Rattle.elasticlunr_trie_nodes.specs.Table.{RemovesToken}
+use Rattle.elasticlunr_trie_nodes.specs.Trie.{table_of, RemovesPosting}
+use Rattle.elasticlunr_trie_nodes.proofs.Settled.{settled_parents, settled_paths}
 use Rattle.elasticlunr_trie.proofs.Removing.{removed_trie, removed}
 use Rattle.elasticlunr_trie.proofs.Ends.{ends_kept}
 use Rattle.elasticlunr_trie.proofs.inverted_index.InvertedIndex.remove_token.Goals as goal

@@ -3,8 +3,8 @@ use Rattle.serde_json.specs.View.{members_view, view}
 use Rattle.serde_json.specs.Data.{put, object}
 use Rattle.serde_json.proofs.Views.{view-Object}
 use Rattle.std.proofs.lemmas.Result.{IfOk-from_err}
-use Rattle.elasticlunr_nodes.specs.Trie.{table_of}
-use Rattle.elasticlunr_nodes.specs.Table.{IsTable}
+use Rattle.elasticlunr_trie_nodes.specs.Trie.{table_of}
+use Rattle.elasticlunr_trie_nodes.specs.Table.{IsTable}
 use Rattle.elasticlunr_trie.proofs.Bounds.{nodes_table}
 use Rattle.elasticlunr_trie.proofs.Unique.{one_table, closed, closed_nodes}
 use Rattle.elasticlunr_trie.proofs.OneValue.{no_float}

@@ -1,5 +1,5 @@
 use Rattle.std.proofs.Common.{subst}
-use Rattle.elasticlunr_nodes.specs.Table.{IsTable}
+use Rattle.elasticlunr_trie_nodes.specs.Table.{IsTable}
 use Rattle.elasticlunr_trie.proofs.Bounds.{nodes_table}
 use Rattle.elasticlunr_trie.proofs.inverted_index.InvertedIndex.write.Goals as goal
 

@@ -1,6 +1,6 @@
 use Rattle.std.proofs.Common.{◌↔◌, IsTrue, subst, sym, ◌∙◌}
 use Rattle.elasticlunr_trie.specs.Same.{IsSameBelow}
-use Rattle.elasticlunr_nodes.specs.declared.nodes.Place.TheVariants.{Root}
+use Rattle.elasticlunr_trie_nodes.specs.declared.nodes.Place.TheVariants.{Root}
 use Rattle.elasticlunr_trie.specs.EqualTables.{tables_Decides}
 use Rattle.elasticlunr_trie.proofs.Alike.{same_roots, one_answer}
 use Rattle.elasticlunr_trie.proofs.inverted_index.InvertedIndexPartialEq.eq.Goals as goal

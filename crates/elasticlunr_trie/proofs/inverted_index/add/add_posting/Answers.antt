@@ -4,12 +4,12 @@ use Rattle.std.proofs.lemmas.List.{nil_from_length}
 use Rattle.std.specs.Str.{all_scalars}
 use Rattle.std.proofs.lemmas.Str.{scalars-chars}
 use Rattle.std.proofs.lemmas.Result.{IfOk-from_err}
-use Rattle.elasticlunr_nodes.specs.Table.{AddsToken}
-use Rattle.elasticlunr_nodes.specs.Trie.{step_of, table_of}
-use Rattle.elasticlunr_nodes.specs.declared.nodes.Place.TheVariants.{Root, At}
-use Rattle.elasticlunr_nodes.proofs.Forest.{within, rises}
-use Rattle.elasticlunr_nodes.proofs.Letters.{first_read, nothing_read}
-use Rattle.elasticlunr_nodes.proofs.Settled.{settled_trie, settled_parents, settled_paths, unseen, posting_added}
+use Rattle.elasticlunr_trie_nodes.specs.Table.{AddsToken}
+use Rattle.elasticlunr_trie_nodes.specs.Trie.{step_of, table_of}
+use Rattle.elasticlunr_trie_nodes.specs.declared.nodes.Place.TheVariants.{Root, At}
+use Rattle.elasticlunr_trie_nodes.proofs.Forest.{within, rises}
+use Rattle.elasticlunr_trie_nodes.proofs.Letters.{first_read, nothing_read}
+use Rattle.elasticlunr_trie_nodes.proofs.Settled.{settled_trie, settled_parents, settled_paths, unseen, posting_added}
 use Rattle.elasticlunr_trie.proofs.inverted_index.add.add_posting.Goals as goal
 
 on_err : {T E : Type 0} (r : Result T E) (P : Type 0) → P → OnErr r P

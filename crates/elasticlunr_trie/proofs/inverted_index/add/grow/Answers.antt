@@ -1,15 +1,15 @@
 use Rattle.std.proofs.Common.{◌≡◌, ◌+◌, ◌-◌, ◌≤◌, suc, IsTrue, Result, Ok, Err, OnErr, length, refl, sym, ap, subst, arith}
 use Rattle.std.specs.Str.{chars}
 use Rattle.std.proofs.lemmas.Result.{IfOk-from_err}
-use Rattle.elasticlunr_nodes.specs.Names.{AreNames}
-use Rattle.elasticlunr_nodes.specs.Nodes.{has, list_at}
-use Rattle.elasticlunr_nodes.specs.Trie.{step_of, IsIndex}
-use Rattle.elasticlunr_nodes.specs.Branch.{IsBranch}
-use Rattle.elasticlunr_nodes.specs.declared.nodes.Place.TheVariants.{Root}
-use Rattle.elasticlunr_nodes.proofs.Forest.{within}
-use Rattle.elasticlunr_nodes.proofs.Added.{names_entered, length-entered, number-below}
+use Rattle.elasticlunr_trie_nodes.specs.Names.{AreNames}
+use Rattle.elasticlunr_trie_nodes.specs.Nodes.{has, list_at}
+use Rattle.elasticlunr_trie_nodes.specs.Trie.{step_of, IsIndex}
+use Rattle.elasticlunr_trie_nodes.specs.Branch.{IsBranch}
+use Rattle.elasticlunr_trie_nodes.specs.declared.nodes.Place.TheVariants.{Root}
+use Rattle.elasticlunr_trie_nodes.proofs.Forest.{within}
+use Rattle.elasticlunr_trie_nodes.proofs.Added.{names_entered, length-entered, number-below}
 use Rattle.elasticlunr_trie.proofs.Growth.{branch_trie, branch_parents, branch_listed, branch_added, branch_paths}
-use Rattle.elasticlunr_nodes.proofs.Unseen.{kept_index, kept_table, keeps_same, same_trie, kept_at, branch_length}
+use Rattle.elasticlunr_trie_nodes.proofs.Unseen.{kept_index, kept_table, keeps_same, same_trie, kept_at, branch_length}
 use Rattle.elasticlunr_trie.proofs.inverted_index.add.grow.Goals as goal
 
 on_err : {T E : Type 0} (r : Result T E) (P : Type 0) → P → OnErr r P

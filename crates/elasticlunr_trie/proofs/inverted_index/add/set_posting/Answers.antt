@@ -1,9 +1,9 @@
 use Rattle.std.proofs.Common.{◌≤◌, length, OnErr, Result, Ok, Err, refl, sym, ap, subst, ◌∙◌, arith}
 use Rattle.std.specs.FinMap.{get}
 use Rattle.std.proofs.lemmas.Result.{IfOk-from_err}
-use Rattle.elasticlunr_nodes.specs.Names.{AreNames, number_of}
-use Rattle.elasticlunr_nodes.specs.Nodes.{AreListed, SetsPosting, SamePostings}
-use Rattle.elasticlunr_nodes.proofs.Added as added
+use Rattle.elasticlunr_trie_nodes.specs.Names.{AreNames, number_of}
+use Rattle.elasticlunr_trie_nodes.specs.Nodes.{AreListed, SetsPosting, SamePostings}
+use Rattle.elasticlunr_trie_nodes.proofs.Added as added
 use Rattle.elasticlunr_trie.proofs.inverted_index.add.set_posting.Goals as goal
 
 on_err : {T E : Type 0} (r : Result T E) (P : Type 0) → P → OnErr r P

@@ -1,7 +1,7 @@
 use Rattle.std.proofs.Common.{ap, ◌∙◌, arith, subst, length}
 use Rattle.std.proofs.lemmas.Result.{IfOk-from_err}
 use Rattle.elasticlunr_trie.specs.Compact.{KeepsBelow, kept_children}
-use Rattle.elasticlunr_nodes.specs.declared.nodes.Place.TheVariants.{Root}
+use Rattle.elasticlunr_trie_nodes.specs.declared.nodes.Place.TheVariants.{Root}
 use Rattle.elasticlunr_trie.proofs.Compact.{below_trie, compact_trie, compact_parents, compact_known, compact_postings}
 use Rattle.elasticlunr_trie.proofs.inverted_index.compact.compact.Goals as goal
 

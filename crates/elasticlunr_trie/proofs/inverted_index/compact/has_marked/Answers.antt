@@ -3,7 +3,7 @@ use mathlib.Core.Bool.{false≢true}
 use Rattle.std.proofs.lemmas.Bool.{cases_eq}
 use Rattle.std.proofs.lemmas.List.{get_or_read_under}
 use Rattle.elasticlunr_trie.specs.Compact.{is_marked}
-use Rattle.elasticlunr_nodes.proofs.Gap.{value_at_place}
+use Rattle.elasticlunr_trie_nodes.proofs.Gap.{value_at_place}
 use Rattle.elasticlunr_trie.proofs.Marks.{is_marked_or, child_place}
 use Rattle.elasticlunr_trie.proofs.inverted_index.compact.has_marked.Goals as goal
 

@@ -1,8 +1,8 @@
 use Rattle.std.proofs.Common.{◌≡◌, ◌<◌, true, false, [], ◌∷◌, Some, length, refl, sym, ap, subst, ◌∙◌, ◌++◌, take, append-nil, arith, get_or}
 use Rattle.std.proofs.lemmas.List.{take_more, get_or_read_under}
 use Rattle.elasticlunr_trie.specs.Compact.{is_marked, kept_children, new_number}
-use Rattle.elasticlunr_nodes.proofs.Places.{get_there}
-use Rattle.elasticlunr_nodes.proofs.Gap.{value_at_place}
+use Rattle.elasticlunr_trie_nodes.proofs.Places.{get_there}
+use Rattle.elasticlunr_trie_nodes.proofs.Gap.{value_at_place}
 use Rattle.elasticlunr_trie.proofs.Marks.{is_marked_or, kept_push, kept_one, kept_none}
 use Rattle.elasticlunr_trie.proofs.inverted_index.compact.keep_children.Goals as goal
 

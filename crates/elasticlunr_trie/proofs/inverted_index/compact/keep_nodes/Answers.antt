@@ -1,16 +1,16 @@
 use Rattle.std.proofs.Common.{◌+◌, sym, ap, ◌∙◌, arith, subst, Some}
 use Rattle.std.specs.FinMap.{entries}
 use Rattle.std.proofs.lemmas.Result.{IfOk-from_err}
-use Rattle.elasticlunr_nodes.specs.Pairs.{IsStrictlySorted}
-use Rattle.elasticlunr_nodes.specs.Names.{AreNames, ArePostings, named_pairs}
+use Rattle.elasticlunr_trie_nodes.specs.Pairs.{IsStrictlySorted}
+use Rattle.elasticlunr_trie_nodes.specs.Names.{AreNames, ArePostings, named_pairs}
 use Rattle.elasticlunr_trie.specs.Children.{child}
-use Rattle.elasticlunr_nodes.specs.Nodes.{AreListed, IsListed, children_of, entries_of, postings_at}
+use Rattle.elasticlunr_trie_nodes.specs.Nodes.{AreListed, IsListed, children_of, entries_of, postings_at}
 use Rattle.elasticlunr_trie.specs.Compact.{KeepsBelow, kept_children}
-use Rattle.elasticlunr_nodes.specs.declared.nodes.Place.TheVariants.{At}
-use Rattle.elasticlunr_nodes.proofs.Places.{get_there}
+use Rattle.elasticlunr_trie_nodes.specs.declared.nodes.Place.TheVariants.{At}
+use Rattle.elasticlunr_trie_nodes.proofs.Places.{get_there}
 use Rattle.elasticlunr_trie.proofs.Marks.{is_marked_or}
-use Rattle.elasticlunr_nodes.proofs.Named.{pairs_are, pairs_named, named_extended}
-use Rattle.elasticlunr_nodes.proofs.Gathered.{none_all_listed, listed_behind}
+use Rattle.elasticlunr_trie_nodes.proofs.Named.{pairs_are, pairs_named, named_extended}
+use Rattle.elasticlunr_trie_nodes.proofs.Gathered.{none_all_listed, listed_behind}
 use Rattle.elasticlunr_trie.proofs.Compact.{none_kept, left_out, put_behind}
 use Rattle.elasticlunr_trie.proofs.inverted_index.compact.keep_nodes.Goals as goal
 

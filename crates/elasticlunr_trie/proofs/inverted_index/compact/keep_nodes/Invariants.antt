@@ -1,5 +1,5 @@
-use Rattle.elasticlunr_nodes.specs.Names.{AreNames}
-use Rattle.elasticlunr_nodes.specs.Nodes.{AreListed}
+use Rattle.elasticlunr_trie_nodes.specs.Names.{AreNames}
+use Rattle.elasticlunr_trie_nodes.specs.Nodes.{AreListed}
 use Rattle.elasticlunr_trie.specs.Compact.{KeepsBelow}
 use Rattle.elasticlunr_trie.proofs.inverted_index.compact.keep_nodes.Given as goal
 

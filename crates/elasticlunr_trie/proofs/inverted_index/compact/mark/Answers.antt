@@ -1,11 +1,11 @@
 use Rattle.std.proofs.Common.{◌≡◌, ◌-◌, ◌↔◌, ◌⊎◌, ℕ, sym, ap, ◌∙◌, arith, subst, Some, length-set, IsTrue}
-use Rattle.elasticlunr_nodes.specs.Pairs.{IsStrictlySorted}
+use Rattle.elasticlunr_trie_nodes.specs.Pairs.{IsStrictlySorted}
 use Rattle.elasticlunr_trie.specs.Children.{child}
-use Rattle.elasticlunr_nodes.specs.Nodes.{children_of, entries_of}
+use Rattle.elasticlunr_trie_nodes.specs.Nodes.{children_of, entries_of}
 use Rattle.std.specs.FinMap.{get}
 use Rattle.elasticlunr_trie.specs.Compact.{is_marked}
-use Rattle.elasticlunr_nodes.specs.declared.nodes.Place.TheVariants.{At}
-use Rattle.elasticlunr_nodes.proofs.Places.{get_there}
+use Rattle.elasticlunr_trie_nodes.specs.declared.nodes.Place.TheVariants.{At}
+use Rattle.elasticlunr_trie_nodes.proofs.Places.{get_there}
 use Rattle.elasticlunr_trie.proofs.Compact.{one_marked}
 use Rattle.elasticlunr_trie.proofs.inverted_index.compact.mark.Goals as goal
 

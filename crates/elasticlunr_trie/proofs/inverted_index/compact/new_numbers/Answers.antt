@@ -3,7 +3,7 @@ use Rattle.std.specs.List.{slice_get}
 use Rattle.std.proofs.lemmas.Bool.{cases_eq}
 use Rattle.std.proofs.lemmas.List.{length-append}
 use Rattle.std.proofs.lemmas.Result.{IfOk-from_err}
-use Rattle.elasticlunr_nodes.proofs.Places.{get_before, get_behind}
+use Rattle.elasticlunr_trie_nodes.proofs.Places.{get_before, get_behind}
 use Rattle.elasticlunr_trie.specs.Compact.{is_marked, new_number}
 use Rattle.elasticlunr_trie.proofs.Marks.{is_marked_or, number_next, number_stays}
 use Rattle.elasticlunr_trie.proofs.inverted_index.compact.new_numbers.Goals.{then-marked, else-marked}

@@ -1,7 +1,7 @@
 use Rattle.std.proofs.Common.{◌≡◌, Some, chars, sym, subst, ◌∙◌}
 use Rattle.std.proofs.lemmas.Bool.{eqb-true}
-use Rattle.elasticlunr_nodes.specs.Trie.{step_of, walk}
-use Rattle.elasticlunr_nodes.specs.declared.nodes.Place.TheVariants.{Root, At}
+use Rattle.elasticlunr_trie_nodes.specs.Trie.{step_of, walk}
+use Rattle.elasticlunr_trie_nodes.specs.declared.nodes.Place.TheVariants.{Root, At}
 use Rattle.elasticlunr_trie.proofs.Ends.{start_end}
 use Rattle.elasticlunr_trie.proofs.inverted_index.ends.remember.Goals as goal
 

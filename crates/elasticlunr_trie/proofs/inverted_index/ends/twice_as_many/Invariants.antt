@@ -1,5 +1,5 @@
 use Rattle.std.proofs.Common.{All}
-use Rattle.elasticlunr_nodes.specs.Trie.{Step}
+use Rattle.elasticlunr_trie_nodes.specs.Trie.{Step}
 use Rattle.elasticlunr_trie.specs.Ends.{IsEnd}
 use Rattle.elasticlunr_trie.proofs.inverted_index.ends.twice_as_many.Given as goal
 

@@ -6,7 +6,7 @@ use Rattle.serde_json.specs.Find.{as_object}
 use Rattle.serde_json.specs.View.{members_view}
 use Rattle.serde_json.proofs.Views.{Entry, put_last}
 use Rattle.elasticlunr_trie.specs.Tree.{frequency, frequencies}
-use Rattle.elasticlunr_nodes.proofs.Entries.{bytes_of, sorted_entries}
+use Rattle.elasticlunr_trie_nodes.proofs.Entries.{bytes_of, sorted_entries}
 use Rattle.elasticlunr_json.proofs.ReadingMaps.{object_of, value_there}
 use Rattle.elasticlunr_trie.proofs.Reading.{one_more_posting}
 use Rattle.elasticlunr_trie.proofs.inverted_index.read.read_docs.Goals as goal

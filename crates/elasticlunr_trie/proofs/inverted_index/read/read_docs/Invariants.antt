@@ -5,7 +5,7 @@ use Rattle.serde_json.specs.View.{view, members_view}
 use Rattle.serde_json.specs.Find.{as_object}
 use Rattle.serde_json.proofs.Views.{Entry}
 use Rattle.elasticlunr_trie.specs.Tree.{frequencies}
-use Rattle.elasticlunr_nodes.proofs.Entries.{bytes_of}
+use Rattle.elasticlunr_trie_nodes.proofs.Entries.{bytes_of}
 use Rattle.elasticlunr_trie.proofs.inverted_index.read.read_docs.Given as goal
 
 -- a posting for each member that was read

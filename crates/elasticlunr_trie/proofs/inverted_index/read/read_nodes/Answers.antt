@@ -2,10 +2,10 @@ use Rattle.std.proofs.Common.{◌≡◌, [], sym, subst, ◌∙◌, true≢false
 use Rattle.std.proofs.lemmas.List.{nil_from_length}
 use Rattle.serde_json.specs.View.{view}
 use Rattle.std.proofs.lemmas.Result.{IfOk-from_err}
-use Rattle.elasticlunr_nodes.specs.Names.{AreNames}
-use Rattle.elasticlunr_nodes.specs.Nodes.{AreListed, IsListed}
+use Rattle.elasticlunr_trie_nodes.specs.Names.{AreNames}
+use Rattle.elasticlunr_trie_nodes.specs.Nodes.{AreListed, IsListed}
 use Rattle.elasticlunr_trie.specs.Reading.{borrowed_values, ReadsNode}
-use Rattle.elasticlunr_nodes.proofs.Gathered.{none_all_listed, listed_behind, places_extended}
+use Rattle.elasticlunr_trie_nodes.proofs.Gathered.{none_all_listed, listed_behind, places_extended}
 use Rattle.elasticlunr_trie.proofs.Reading.{length-borrowed, borrowed_there}
 use Rattle.elasticlunr_json.proofs.Refusals.{refused_again}
 use Rattle.elasticlunr_trie.proofs.Waiting.{IsRead, root_read, node_read, read_tree, read_trie, read_parents, root_refused}

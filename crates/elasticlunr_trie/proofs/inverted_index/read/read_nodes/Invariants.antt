@@ -1,7 +1,7 @@
 use Rattle.std.proofs.Common.{◌-◌, ◌^◌, length}
 use Rattle.serde_json.specs.View.{view}
-use Rattle.elasticlunr_nodes.specs.Names.{AreNames}
-use Rattle.elasticlunr_nodes.specs.Nodes.{AreListed}
+use Rattle.elasticlunr_trie_nodes.specs.Names.{AreNames}
+use Rattle.elasticlunr_trie_nodes.specs.Nodes.{AreListed}
 use Rattle.elasticlunr_trie.specs.Reading.{borrowed_values}
 use Rattle.elasticlunr_trie.proofs.Waiting.{IsRead}
 use Rattle.elasticlunr_trie.proofs.inverted_index.read.read_nodes.Given as goal

@@ -2,8 +2,8 @@ use Rattle.std.proofs.Common.{◌≡◌, ◌||◌, Some, [], length, map, refl, 
 use Rattle.std.proofs.lemmas.List.{get_or_read_under}
 use Rattle.std.specs.List.{slice_get}
 use Rattle.elasticlunr_error.specs.Text.{is_listed}
-use Rattle.elasticlunr_nodes.specs.Pairs.{key_at}
-use Rattle.elasticlunr_nodes.proofs.Named.{name_there}
+use Rattle.elasticlunr_trie_nodes.specs.Pairs.{key_at}
+use Rattle.elasticlunr_trie_nodes.proofs.Named.{name_there}
 use Rattle.elasticlunr_trie.specs.References.{texts_in}
 use Rattle.elasticlunr_trie.proofs.References.{names_among, put_one_more, names_posted, or_none, or_keeps, or_more, among_all, on_err}
 use Rattle.elasticlunr_trie.proofs.inverted_index.references.put_names.Goals as goal

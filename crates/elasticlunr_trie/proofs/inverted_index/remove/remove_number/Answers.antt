@@ -1,7 +1,7 @@
 use Rattle.std.proofs.Common.{length, refl, subst, ◌∙◌, arith}
 use Rattle.std.proofs.lemmas.List.{get_or_read_under}
-use Rattle.elasticlunr_nodes.specs.Nodes.{ClearsNumber}
-use Rattle.elasticlunr_nodes.proofs.Removed.{loses_none, loses_step, loses_skip, loses_all}
+use Rattle.elasticlunr_trie_nodes.specs.Nodes.{ClearsNumber}
+use Rattle.elasticlunr_trie_nodes.proofs.Removed.{loses_none, loses_step, loses_skip, loses_all}
 use Rattle.elasticlunr_trie.proofs.inverted_index.remove.remove_number.Goals as goal
 use Rattle.elasticlunr_trie.proofs.inverted_index.remove.remove_number.Goals.{then-at-len, else-at-len}
 

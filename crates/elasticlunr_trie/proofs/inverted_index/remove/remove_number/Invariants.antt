@@ -1,4 +1,4 @@
-use Rattle.elasticlunr_nodes.specs.Nodes.{LosesListed}
+use Rattle.elasticlunr_trie_nodes.specs.Nodes.{LosesListed}
 use Rattle.elasticlunr_trie.proofs.inverted_index.remove.remove_number.Given as goal
 
 -- the nodes so far have lost the reference

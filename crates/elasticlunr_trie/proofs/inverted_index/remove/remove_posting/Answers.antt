@@ -1,8 +1,8 @@
 use Rattle.std.proofs.Common.{Some, sym, ◌∙◌, ap, arith, length}
 use Rattle.std.specs.Str.{chars}
-use Rattle.elasticlunr_nodes.specs.Trie.{step_of}
-use Rattle.elasticlunr_nodes.specs.declared.nodes.Place.TheVariants.{Root, At}
-use Rattle.elasticlunr_nodes.proofs.Forest.{within}
+use Rattle.elasticlunr_trie_nodes.specs.Trie.{step_of}
+use Rattle.elasticlunr_trie_nodes.specs.declared.nodes.Place.TheVariants.{Root, At}
+use Rattle.elasticlunr_trie_nodes.proofs.Forest.{within}
 use Rattle.elasticlunr_trie.proofs.Removing.{clears_text, cleared_listed}
 use Rattle.elasticlunr_trie.proofs.inverted_index.remove.remove_posting.Goals as goal
 

@@ -1,5 +1,5 @@
 use Rattle.std.proofs.Common.{sym, ◌∙◌}
-use Rattle.elasticlunr_nodes.proofs.Removed.{loses_by_name}
+use Rattle.elasticlunr_trie_nodes.proofs.Removed.{loses_by_name}
 use Rattle.elasticlunr_trie.proofs.inverted_index.remove.remove_postings.Goals as goal
 
 pub returns-clause-loses : goal.returns-clause-loses

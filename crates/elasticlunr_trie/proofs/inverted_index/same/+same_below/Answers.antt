@@ -3,7 +3,7 @@ use mathlib.Core.Bool.{false≢true}
 use Rattle.std.proofs.lemmas.Bool.{cases_eq, eqb-true, eq-eqb}
 use Rattle.std.proofs.lemmas.List.{get_or_read_under}
 use Rattle.elasticlunr_trie.specs.Same.{look_from}
-use Rattle.elasticlunr_nodes.specs.declared.nodes.Place.TheVariants.{At}
+use Rattle.elasticlunr_trie_nodes.specs.declared.nodes.Place.TheVariants.{At}
 use Rattle.elasticlunr_trie.proofs.Alike.{AreAlike, right_count, right_key, right_postings, right_below, all_right, in_nodes, in_nodes2, same_from, moved_child, moved_below}
 use Rattle.elasticlunr_trie.proofs.inverted_index.same.+same_below.Goals as goal
 

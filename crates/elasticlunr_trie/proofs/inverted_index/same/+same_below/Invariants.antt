@@ -1,7 +1,7 @@
 use Rattle.std.proofs.Common.{◌-◌, ◌+◌, ◌<◌, ◌≤◌, ◌↔◌, ℕ, length, get_or}
-use Rattle.elasticlunr_nodes.specs.Trie.{rank}
+use Rattle.elasticlunr_trie_nodes.specs.Trie.{rank}
 use Rattle.elasticlunr_trie.specs.Same.{look_from, IsSameBelow}
-use Rattle.elasticlunr_nodes.specs.declared.nodes.Place.TheVariants.{At}
+use Rattle.elasticlunr_trie_nodes.specs.declared.nodes.Place.TheVariants.{At}
 use Rattle.elasticlunr_trie.proofs.Alike.{AreAlike}
 use Rattle.elasticlunr_trie.proofs.inverted_index.same.+same_below.Given as goal
 

@@ -3,9 +3,9 @@ use mathlib.Core.Bool.{false≢true}
 use Rattle.std.proofs.lemmas.Bool.{cases_eq}
 use Rattle.std.proofs.lemmas.List.{get_or_read_under}
 use Rattle.std.specs.List.{slice_get}
-use Rattle.elasticlunr_nodes.specs.Names.{at}
-use Rattle.elasticlunr_nodes.specs.Pairs.{key_at}
-use Rattle.elasticlunr_nodes.proofs.Named.{found_at, found_from, get_pairs_named, name_there}
+use Rattle.elasticlunr_trie_nodes.specs.Names.{at}
+use Rattle.elasticlunr_trie_nodes.specs.Pairs.{key_at}
+use Rattle.elasticlunr_trie_nodes.proofs.Named.{found_at, found_from, get_pairs_named, name_there}
 use Rattle.elasticlunr_trie.proofs.inverted_index.same.includes.Goals as goal
 
 pub same_posting-requires : goal.same_posting-requires

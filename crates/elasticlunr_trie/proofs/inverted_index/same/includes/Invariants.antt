@@ -1,6 +1,6 @@
 use Rattle.std.proofs.Common.{◌≡◌, ℕ, ◌<◌, Some, get_or, []}
-use Rattle.elasticlunr_nodes.specs.Names.{at}
-use Rattle.elasticlunr_nodes.specs.Pairs.{key_at}
+use Rattle.elasticlunr_trie_nodes.specs.Names.{at}
+use Rattle.elasticlunr_trie_nodes.specs.Pairs.{key_at}
 use Rattle.elasticlunr_trie.proofs.inverted_index.same.includes.Given as goal
 
 -- the pairs so far are on the other side

@@ -2,7 +2,7 @@ use Rattle.std.proofs.Common.{◌≡◌, true, ℕ, Option, Some, None, eqb, ref
 use mathlib.Core.Bool.{false≢true}
 use Rattle.std.specs.Option.{option_eq}
 use Rattle.std.proofs.lemmas.Bool.{eq-eqb, eqb-true}
-use Rattle.elasticlunr_nodes.specs.Names.{at}
+use Rattle.elasticlunr_trie_nodes.specs.Names.{at}
 use Rattle.elasticlunr_trie.proofs.inverted_index.same.same_posting.Goals as goal
 
 some_told : (o : Option ℕ) (n : ℕ) → option_eq eqb o (Some n) ≡ true → o ≡ Some n

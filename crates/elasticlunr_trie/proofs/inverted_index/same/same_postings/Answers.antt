@@ -1,7 +1,7 @@
 use Rattle.std.proofs.Common.{sym, subst, ◌∙◌}
 use mathlib.Core.Bool.{false≢true}
-use Rattle.elasticlunr_nodes.specs.Names.{ArePostings}
-use Rattle.elasticlunr_nodes.proofs.Named.{pairs_are, same_both_ways, one_way, other_way}
+use Rattle.elasticlunr_trie_nodes.specs.Names.{ArePostings}
+use Rattle.elasticlunr_trie_nodes.proofs.Named.{pairs_are, same_both_ways, one_way, other_way}
 use Rattle.elasticlunr_trie.proofs.inverted_index.same.same_postings.Goals as goal
 
 pub includes-requires-clause-postings : goal.includes-requires-clause-postings

@@ -1,7 +1,7 @@
 use Rattle.std.proofs.Common.{Result, Ok, Err, OnOk, refl, sym, ◌∙◌, length}
 use Rattle.std.proofs.lemmas.Bool.{eqb-true, eq-eqb}
 use mathlib.Core.Bool.{false≢true}
-use Rattle.elasticlunr_nodes.proofs.Letters.{some_character, no_character}
+use Rattle.elasticlunr_trie_nodes.proofs.Letters.{some_character, no_character}
 use Rattle.elasticlunr_trie.proofs.inverted_index.starts.add_start.Goals as goal
 
 on_ok : {T E : Type 0} {P Q : Type 0} (r : Result T E) → (P → Q) → OnOk r P → OnOk r Q

@@ -1,8 +1,8 @@
 use Rattle.std.proofs.Common.{◌≡◌, Result, Ok, Err, OnErr, map, take, sym, subst, arith}
 use Rattle.std.proofs.lemmas.List.{take_all}
-use Rattle.elasticlunr_nodes.specs.Table.{AreChanged, additions}
-use Rattle.elasticlunr_nodes.specs.Trie.{table_of, IsIndex}
-use Rattle.elasticlunr_nodes.specs.Starts.{told}
+use Rattle.elasticlunr_trie_nodes.specs.Table.{AreChanged, additions}
+use Rattle.elasticlunr_trie_nodes.specs.Trie.{table_of, IsIndex}
+use Rattle.elasticlunr_trie_nodes.specs.Starts.{told}
 use Rattle.elasticlunr_trie.proofs.Starts.{start_kept, changed_on, begun}
 use Rattle.elasticlunr_trie.proofs.inverted_index.starts.add_starts.Goals as goal
 

@@ -1,8 +1,8 @@
 use Rattle.std.proofs.Common.{map, All, take}
-use Rattle.elasticlunr_nodes.specs.Table.{AreChanged, additions}
-use Rattle.elasticlunr_nodes.specs.Trie.{step_of, IsIndex}
-use Rattle.elasticlunr_nodes.specs.NodeTables.{node_table}
-use Rattle.elasticlunr_nodes.specs.Starts.{IsStart, KeepsPaths, told}
+use Rattle.elasticlunr_trie_nodes.specs.Table.{AreChanged, additions}
+use Rattle.elasticlunr_trie_nodes.specs.Trie.{step_of, IsIndex}
+use Rattle.elasticlunr_trie_nodes.specs.NodeTables.{node_table}
+use Rattle.elasticlunr_trie_nodes.specs.Starts.{IsStart, KeepsPaths, told}
 use Rattle.elasticlunr_trie.proofs.inverted_index.starts.add_starts.Given as goal
 
 -- the starts lead where they led, and those before this one are added

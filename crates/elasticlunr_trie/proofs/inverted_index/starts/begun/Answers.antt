@@ -1,8 +1,8 @@
 use Rattle.std.proofs.Common.{map, sym, ap, ◌∙◌, ◌++◌}
 use Rattle.std.proofs.lemmas.List.{append-nil, drop_all}
-use Rattle.elasticlunr_nodes.specs.Starts.{told}
-use Rattle.elasticlunr_nodes.specs.Table.{told_tokens}
-use Rattle.elasticlunr_nodes.specs.Trie.{step_of}
+use Rattle.elasticlunr_trie_nodes.specs.Starts.{told}
+use Rattle.elasticlunr_trie_nodes.specs.Table.{told_tokens}
+use Rattle.elasticlunr_trie_nodes.specs.Trie.{step_of}
 use Rattle.elasticlunr_trie.proofs.Starts.{pushed, none_yet}
 use Rattle.elasticlunr_trie.proofs.inverted_index.starts.begun.Goals as goal
 

@@ -1,4 +1,4 @@
-use Rattle.elasticlunr_nodes.specs.Trie.{step_of}
+use Rattle.elasticlunr_trie_nodes.specs.Trie.{step_of}
 use Rattle.elasticlunr_trie.specs.Ends.{AreEnds}
 use Rattle.elasticlunr_trie.proofs.inverted_index.starts.remember_all.Given as goal
 

@@ -1,6 +1,6 @@
 use Rattle.std.proofs.Common.{map, ap, ◌∙◌}
-use Rattle.elasticlunr_nodes.specs.Starts.{told}
-use Rattle.elasticlunr_nodes.specs.Trie.{step_of}
+use Rattle.elasticlunr_trie_nodes.specs.Starts.{told}
+use Rattle.elasticlunr_trie_nodes.specs.Trie.{step_of}
 use Rattle.elasticlunr_trie.proofs.Starts.{walked_on}
 use Rattle.elasticlunr_trie.proofs.inverted_index.starts.starts_of.Goals as goal
 

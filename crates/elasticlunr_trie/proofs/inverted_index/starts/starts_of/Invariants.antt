@@ -1,7 +1,7 @@
 use Rattle.std.proofs.Common.{◌≡◌, map, All}
-use Rattle.elasticlunr_nodes.specs.Table.{told_tokens}
-use Rattle.elasticlunr_nodes.specs.Trie.{step_of}
-use Rattle.elasticlunr_nodes.specs.Starts.{IsStart, told}
+use Rattle.elasticlunr_trie_nodes.specs.Table.{told_tokens}
+use Rattle.elasticlunr_trie_nodes.specs.Trie.{step_of}
+use Rattle.elasticlunr_trie_nodes.specs.Starts.{IsStart, told}
 use Rattle.elasticlunr_trie.proofs.inverted_index.starts.starts_of.Given as goal
 
 abbrev pub invariant-loop : goal.invariant-loop

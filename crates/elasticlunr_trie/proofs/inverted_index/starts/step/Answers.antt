@@ -1,11 +1,11 @@
 use Rattle.std.proofs.Common.{sym, ap, ◌∙◌, ◌++◌, ◌∷◌, []}
 use Rattle.std.specs.Str.{chars}
 use Rattle.std.specs.Prelude.{encode_utf8}
-use Rattle.elasticlunr_nodes.specs.Pairs.{value_of}
-use Rattle.elasticlunr_nodes.specs.Trie.{step_of}
-use Rattle.elasticlunr_nodes.proofs.Letters.{one_more}
-use Rattle.elasticlunr_nodes.proofs.Forest.{walk_to}
-use Rattle.elasticlunr_nodes.specs.declared.nodes.Place.TheVariants.{Root}
+use Rattle.elasticlunr_trie_nodes.specs.Pairs.{value_of}
+use Rattle.elasticlunr_trie_nodes.specs.Trie.{step_of}
+use Rattle.elasticlunr_trie_nodes.proofs.Letters.{one_more}
+use Rattle.elasticlunr_trie_nodes.proofs.Forest.{walk_to}
+use Rattle.elasticlunr_trie_nodes.specs.declared.nodes.Place.TheVariants.{Root}
 use Rattle.elasticlunr_trie.proofs.inverted_index.starts.step.Goals as goal
 
 -- the character is taken off the text that is left

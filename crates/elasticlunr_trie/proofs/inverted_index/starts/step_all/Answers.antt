@@ -2,8 +2,8 @@ use Rattle.std.proofs.Common.{◌∙◌}
 use Rattle.std.proofs.Math.Seq.{map-set_same}
 use Rattle.std.proofs.lemmas.List.{length-set}
 use Rattle.std.proofs.lemmas.List.Elements.{All-set}
-use Rattle.elasticlunr_nodes.specs.Trie.{step_of}
-use Rattle.elasticlunr_nodes.specs.Starts.{IsStart, told}
+use Rattle.elasticlunr_trie_nodes.specs.Trie.{step_of}
+use Rattle.elasticlunr_trie_nodes.specs.Starts.{IsStart, told}
 use Rattle.elasticlunr_trie.proofs.inverted_index.starts.step_all.Goals as goal
 
 pub loop-i-preserved : goal.loop-i-preserved

@@ -1,6 +1,6 @@
 use Rattle.std.proofs.Common.{◌≡◌, map, All, length}
-use Rattle.elasticlunr_nodes.specs.Trie.{step_of}
-use Rattle.elasticlunr_nodes.specs.Starts.{IsStart, told}
+use Rattle.elasticlunr_trie_nodes.specs.Trie.{step_of}
+use Rattle.elasticlunr_trie_nodes.specs.Starts.{IsStart, told}
 use Rattle.elasticlunr_trie.proofs.inverted_index.starts.step_all.Given as goal
 
 abbrev pub invariant-loop-i : goal.invariant-loop-i

@@ -6,10 +6,10 @@ use Rattle.serde_json.specs.Data.{object, put}
 use Rattle.serde_json.specs.View.{members_view}
 use Rattle.serde_json.proofs.Views.{view-Object}
 use Rattle.elasticlunr_error.specs.Text.{text_cmp}
-use Rattle.elasticlunr_nodes.specs.Names.{under_names}
+use Rattle.elasticlunr_trie_nodes.specs.Names.{under_names}
 use Rattle.elasticlunr_trie.specs.Tree.{frequencies}
-use Rattle.elasticlunr_nodes.proofs.Gathered.{name_of}
-use Rattle.elasticlunr_nodes.proofs.Ranked.{behind, under_behind_more, under_behind_split}
+use Rattle.elasticlunr_trie_nodes.proofs.Gathered.{name_of}
+use Rattle.elasticlunr_trie_nodes.proofs.Ranked.{behind, under_behind_more, under_behind_split}
 use Rattle.elasticlunr_trie.proofs.Behind.{put_behind_all}
 use Rattle.elasticlunr_trie.proofs.inverted_index.value.docs_value.Goals as goal
 

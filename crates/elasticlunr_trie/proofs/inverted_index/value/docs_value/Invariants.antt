@@ -1,8 +1,8 @@
 use Rattle.std.proofs.Common.{◌≡◌, take}
 use Rattle.serde_json.specs.View.{members_view}
-use Rattle.elasticlunr_nodes.specs.Names.{under_names}
+use Rattle.elasticlunr_trie_nodes.specs.Names.{under_names}
 use Rattle.elasticlunr_trie.specs.Tree.{frequencies}
-use Rattle.elasticlunr_nodes.proofs.Ranked.{behind}
+use Rattle.elasticlunr_trie_nodes.proofs.Ranked.{behind}
 use Rattle.elasticlunr_trie.proofs.inverted_index.value.docs_value.Given as goal
 
 -- a member for each posting so far

@@ -5,7 +5,7 @@ use Rattle.serde_json.specs.View.{members_view, view}
 use Rattle.serde_json.specs.Data.{put}
 use Rattle.elasticlunr_trie.specs.Children.{child}
 use Rattle.elasticlunr_trie.specs.Finished.{HasChildren, KeepsOtherValues}
-use Rattle.elasticlunr_nodes.proofs.Gap.{value_at_place}
+use Rattle.elasticlunr_trie_nodes.proofs.Gap.{value_at_place}
 use Rattle.elasticlunr_trie.proofs.Finishing.{no_children_yet, one_more_child, child_before, child_within, child_more, child_push}
 use Rattle.elasticlunr_trie.proofs.inverted_index.value.put_children.Goals as goal
 

@@ -3,19 +3,19 @@ use Rattle.serde_json.specs.View.{members_view, view}
 use Rattle.serde_json.specs.Data.{object}
 use Rattle.serde_json.proofs.Views.{view-Object}
 use Rattle.std.proofs.lemmas.Result.{IfOk-from_err}
-use Rattle.elasticlunr_nodes.specs.Pairs.{IsStrictlySorted}
+use Rattle.elasticlunr_trie_nodes.specs.Pairs.{IsStrictlySorted}
 use Rattle.elasticlunr_trie.specs.Children.{child}
-use Rattle.elasticlunr_nodes.specs.Nodes.{children_of, entries_of, postings_at}
-use Rattle.elasticlunr_nodes.specs.Trie.{table_of, named}
+use Rattle.elasticlunr_trie_nodes.specs.Nodes.{children_of, entries_of, postings_at}
+use Rattle.elasticlunr_trie_nodes.specs.Trie.{table_of, named}
 use Rattle.elasticlunr_trie.specs.Tree.{IsTree, frequencies}
 use Rattle.elasticlunr_trie.specs.Finished.{IsNode}
 use Rattle.std.specs.FinMap as map
-use Rattle.elasticlunr_nodes.proofs.Places.{get_there}
+use Rattle.elasticlunr_trie_nodes.proofs.Places.{get_there}
 use Rattle.elasticlunr_trie.proofs.Finishing.{finished_step, node_tree, no_nodes_yet, IsFinishedFrom}
-use Rattle.elasticlunr_nodes.specs.Names.{ArePostings, named_pairs, under_names}
-use Rattle.elasticlunr_nodes.proofs.Ranked.{behind, count_shown}
-use Rattle.elasticlunr_nodes.proofs.Named.{no_df, no_entries, pairs_are, pairs_named}
-use Rattle.elasticlunr_nodes.specs.declared.nodes.Place.TheVariants.{Root, At}
+use Rattle.elasticlunr_trie_nodes.specs.Names.{ArePostings, named_pairs, under_names}
+use Rattle.elasticlunr_trie_nodes.proofs.Ranked.{behind, count_shown}
+use Rattle.elasticlunr_trie_nodes.proofs.Named.{no_df, no_entries, pairs_are, pairs_named}
+use Rattle.elasticlunr_trie_nodes.specs.declared.nodes.Place.TheVariants.{Root, At}
 use Rattle.elasticlunr_trie.proofs.inverted_index.value.root_value.Goals as goal
 
 pub loop-i-init : goal.loop-i-init

@@ -1,5 +1,5 @@
 use Rattle.std.proofs.Common.{sym, ap, ◌∙◌, Some}
-use Rattle.elasticlunr_nodes.proofs.Places.{get_there, get_set_other}
+use Rattle.elasticlunr_trie_nodes.proofs.Places.{get_there, get_set_other}
 use Rattle.elasticlunr_trie.proofs.inverted_index.value.take_value.Goals as goal
 
 pub returns-clause-taken : goal.returns-clause-taken

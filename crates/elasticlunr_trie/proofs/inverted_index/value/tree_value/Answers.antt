@@ -3,9 +3,9 @@ use Rattle.std.specs.Prelude.{IfOk}
 use Rattle.std.proofs.lemmas.Result.{IfOk-from_err}
 use Rattle.std.proofs.lemmas.List.{length-append}
 use Rattle.serde_json.specs.View.{view}
-use Rattle.elasticlunr_nodes.specs.Names.{AreNames, AreRanks}
-use Rattle.elasticlunr_nodes.specs.Nodes.{AreAllNumbered}
-use Rattle.elasticlunr_nodes.specs.Trie.{table_of}
+use Rattle.elasticlunr_trie_nodes.specs.Names.{AreNames, AreRanks}
+use Rattle.elasticlunr_trie_nodes.specs.Nodes.{AreAllNumbered}
+use Rattle.elasticlunr_trie_nodes.specs.Trie.{table_of}
 use Rattle.elasticlunr_trie.specs.Tree.{IsTree}
 use Rattle.elasticlunr_trie.proofs.inverted_index.value.tree_value.Goals as goal
 

@@ -1,7 +1,7 @@
 use Rattle.std.proofs.Common.{ap, ◌∙◌, ◌++◌}
 use Rattle.std.specs.List.{slice_get}
-use Rattle.elasticlunr_nodes.specs.Nodes.{entries_of}
-use Rattle.elasticlunr_nodes.specs.Trie.{named}
+use Rattle.elasticlunr_trie_nodes.specs.Nodes.{entries_of}
+use Rattle.elasticlunr_trie_nodes.specs.Trie.{named}
 use Rattle.elasticlunr_trie.specs.Printed.{place_members, node_members, node_tree, stack_tokens}
 use Rattle.elasticlunr_json.specs.Tokens.{tokens_of}
 use Rattle.elasticlunr_trie.proofs.Printing.{stack_push}

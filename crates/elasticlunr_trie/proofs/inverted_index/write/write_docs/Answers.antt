@@ -1,12 +1,12 @@
 use Rattle.std.proofs.Common.{◌≡◌, ◌∷◌, ◌++◌, sym, ap, subst, ◌∙◌, append_assoc, codes, decimal}
 use Rattle.json.specs.Token.{Token}
 use Rattle.std.specs.FinMap.{entries}
-use Rattle.elasticlunr_nodes.specs.Names.{ArePostings, named_pairs, under_names}
-use Rattle.elasticlunr_nodes.specs.Trie.{named}
+use Rattle.elasticlunr_trie_nodes.specs.Names.{ArePostings, named_pairs, under_names}
+use Rattle.elasticlunr_trie_nodes.specs.Trie.{named}
 use Rattle.elasticlunr_trie.specs.Tree.{frequencies}
 use Rattle.elasticlunr_json.specs.Tokens.{tokens_of}
-use Rattle.elasticlunr_nodes.proofs.Named.{pairs_are, pairs_named}
-use Rattle.elasticlunr_nodes.proofs.Ranked.{behind, count_shown}
+use Rattle.elasticlunr_trie_nodes.proofs.Named.{pairs_are, pairs_named}
+use Rattle.elasticlunr_trie_nodes.proofs.Ranked.{behind, count_shown}
 use Rattle.elasticlunr_json.proofs.Rows.{four}
 use Rattle.elasticlunr_trie.proofs.inverted_index.write.write_docs.Goals as goal
 

@@ -1,6 +1,6 @@
 use Rattle.std.proofs.Common.{◌≡◌, ◌++◌, length}
 use Rattle.std.specs.FinMap.{empty}
-use Rattle.elasticlunr_nodes.specs.Trie.{named}
+use Rattle.elasticlunr_trie_nodes.specs.Trie.{named}
 use Rattle.elasticlunr_json.specs.Tokens.{tokens_of}
 use Rattle.elasticlunr_trie.specs.Printed.{stack_tokens, place_members, node_tree}
 use Rattle.elasticlunr_trie.proofs.inverted_index.write.write_members.Given as goal

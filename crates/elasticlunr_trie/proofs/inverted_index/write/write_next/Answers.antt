@@ -1,5 +1,5 @@
 use Rattle.std.proofs.Common.{◌≡◌, ap, sym, ◌∙◌, ◌++◌, [], arith, ℕ, length}
-use Rattle.elasticlunr_nodes.specs.Trie.{entries_at, named}
+use Rattle.elasticlunr_trie_nodes.specs.Trie.{entries_at, named}
 use Rattle.elasticlunr_trie.specs.Printed.{place_members, children_members, node_tree, left_members, stack_tokens, postings_before}
 use Rattle.elasticlunr_json.specs.Tokens.{tokens_of}
 use Rattle.elasticlunr_trie.specs.declared.inverted_index.write.Left.TheVariants.{WithPostings, WithoutPostings}

@@ -1,11 +1,11 @@
 use Rattle.std.proofs.Common.{◌++◌, ◌∷◌, sym, ap, ◌∙◌, append_assoc, codes, decimal, get_or, drop, arith, length-drop, ◌+◌}
 use Rattle.std.proofs.lemmas.List.{nil_from_length}
 use Rattle.json.specs.Token.{Token}
-use Rattle.elasticlunr_nodes.specs.Names.{under_names}
+use Rattle.elasticlunr_trie_nodes.specs.Names.{under_names}
 use Rattle.elasticlunr_trie.specs.Tree.{frequencies}
 use Rattle.elasticlunr_json.specs.Tokens.{tokens_of}
-use Rattle.elasticlunr_nodes.proofs.Gathered.{name_of}
-use Rattle.elasticlunr_nodes.proofs.Ranked.{behind, under_behind_rest}
+use Rattle.elasticlunr_trie_nodes.proofs.Gathered.{name_of}
+use Rattle.elasticlunr_trie_nodes.proofs.Ranked.{behind, under_behind_rest}
 use Rattle.elasticlunr_trie.proofs.inverted_index.write.write_ranked.Goals as goal
 
 pub loop-number-preserved : goal.loop-number-preserved

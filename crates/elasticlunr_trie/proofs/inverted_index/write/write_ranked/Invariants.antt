@@ -1,8 +1,8 @@
 use Rattle.std.proofs.Common.{◌≡◌, ◌++◌, drop}
-use Rattle.elasticlunr_nodes.specs.Names.{under_names}
+use Rattle.elasticlunr_trie_nodes.specs.Names.{under_names}
 use Rattle.elasticlunr_trie.specs.Tree.{frequencies}
 use Rattle.elasticlunr_json.specs.Tokens.{tokens_of}
-use Rattle.elasticlunr_nodes.proofs.Ranked.{behind}
+use Rattle.elasticlunr_trie_nodes.proofs.Ranked.{behind}
 use Rattle.elasticlunr_trie.proofs.inverted_index.write.write_ranked.Given as goal
 
 -- what was written, and the postings that are left

@@ -1,7 +1,7 @@
 use Rattle.std.proofs.Common.{refl, codes}
 use Rattle.serde_json.specs.Data.{object, member, no_members}
 use Rattle.std.specs.FinMap.{empty}
-use Rattle.elasticlunr_nodes.specs.Trie.{named}
+use Rattle.elasticlunr_trie_nodes.specs.Trie.{named}
 use Rattle.elasticlunr_trie.specs.Printed.{place_members, node_tree}
 use Rattle.elasticlunr_json.specs.Tokens.{tokens_of}
 use Rattle.elasticlunr_trie.proofs.Printed.{has_trees, root_tree}

@@ -1,0 +1,58 @@
+//! The command `elasticlunr`: builds an index of documents in a file, says what is wrong in them,
+//! and searches an index. It ends with status 0 where it did what was asked for, 2 where the input
+//! was refused, 1 where a file failed or memory was wanting, and 64 where the command line is wrong.
+#![tactic(auto)]
+
+mod build;
+mod files;
+mod given;
+mod languages;
+mod search;
+mod tell;
+mod words;
+
+use crate::build::{Use, build};
+use crate::languages::list_languages;
+use crate::search::search;
+use crate::words::command_line;
+use clap::ArgMatches;
+use clap::error::ErrorKind;
+use elasticlunr_diagnostics::ended::{Ended, status};
+use std::process::ExitCode;
+use std::{env, io};
+
+fn main(rt: HostRuntime) -> ExitCode {
+    let ended = match run(&rt) {
+        Ok(ended) => ended,
+        Err(_) => Ended::Failed,
+    };
+    ExitCode::from(status(ended))
+}
+
+/// Does what the command line asks for.
+fn run(rt: &HostRuntime) -> io::Result<Ended> {
+    let alloc = rt.alloc();
+    let words: Vec<String> = env::args(rt)?.collect(alloc)?;
+    let command = command_line(alloc)?;
+    match command.try_get_matches_from(words.as_slice()) {
+        Ok(matches) => perform(rt, &matches),
+        Err(error) => {
+            error.print(rt)?;
+            Ok(match error.kind() {
+                ErrorKind::OutOfMemory => Ended::Failed,
+                ErrorKind::DisplayHelp | ErrorKind::DisplayVersion => Ended::Done,
+                _ => Ended::Misused,
+            })
+        }
+    }
+}
+
+/// Does what a sub-command asks for.
+fn perform(rt: &HostRuntime, matches: &ArgMatches<'_>) -> io::Result<Ended> {
+    match matches.subcommand() {
+        Some(("build", given)) => build(rt, given, Use::Write),
+        Some(("search", given)) => search(rt, given),
+        Some(("check", given)) => build(rt, given, Use::Check),
+        _ => list_languages(rt),
+    }
+}

@@ -1,0 +1,66 @@
+//! What goes to the error stream.
+
+use elasticlunr_diagnostics::ended::Ended;
+use elasticlunr_diagnostics::message::{Message, Trouble};
+use elasticlunr_diagnostics::shown::shown;
+use std::io;
+
+/// How many warnings have a line; the others are counted.
+const SHOWN: usize = 10;
+
+/// Writes a line. What it quotes of an input is written so that a terminal takes none of it for a
+/// command.
+pub(crate) fn say(rt: &HostRuntime, line: &str) -> io::Result<()> {
+    let line = shown(rt.alloc(), line)?;
+    eprintln!(rt; "{line}")
+}
+
+/// Says that a file failed.
+pub(crate) fn failed(rt: &HostRuntime, file: &str, error: &io::Error) -> io::Result<Ended> {
+    let line = format!(in rt.alloc(); "elasticlunr: {file}: {error}")?;
+    say(rt, line.as_str())?;
+    Ok(Ended::Failed)
+}
+
+/// Says why there is no index.
+pub(crate) fn troubled(rt: &HostRuntime, file: &str, trouble: Trouble) -> io::Result<Ended> {
+    match trouble {
+        Trouble::Refused(message) => {
+            tell(rt, file, &message)?;
+            Ok(Ended::Refused)
+        }
+        Trouble::Device(e) => failed(rt, file, &e),
+        Trouble::Memory => {
+            eprintln!(rt; "elasticlunr: out of memory")?;
+            Ok(Ended::Failed)
+        }
+    }
+}
+
+/// Says a message of a file.
+fn tell(rt: &HostRuntime, file: &str, message: &Message) -> io::Result<()> {
+    let said = &message.text;
+    let line = match message.place {
+        Some(place) => {
+            let (line, column) = (place.line, place.column);
+            format!(in rt.alloc(); "{file}:{line}:{column}: {said}")?
+        }
+        None => format!(in rt.alloc(); "{file}: {said}")?,
+    };
+    say(rt, line.as_str())
+}
+
+/// Says what is unwise in the documents of a file.
+pub(crate) fn warn(rt: &HostRuntime, file: &str, warnings: &[String]) -> io::Result<()> {
+    for said in warnings.iter().take(SHOWN) {
+        let line = format!(in rt.alloc(); "{file}: warning: {said}")?;
+        say(rt, line.as_str())?;
+    }
+    let more = warnings.len().saturating_sub(SHOWN);
+    if more > 0 {
+        let ending = if more == 1 { "" } else { "s" };
+        let line = format!(in rt.alloc(); "{file}: and {more} more warning{ending}")?;
+        say(rt, line.as_str())?;
+    }
+    Ok(())
+}

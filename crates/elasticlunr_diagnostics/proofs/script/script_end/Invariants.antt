@@ -1,0 +1,13 @@
+-- white space alone was seen
+use Rattle.std.proofs.Common.{◌≡◌, ◌<◌, ◌≤◌, ℕ, true, length, get_or}
+use Rattle.elasticlunr_job_format.specs.Lines.{is_space}
+use Rattle.elasticlunr_diagnostics.proofs.script.script_end.Given as goal
+
+abbrev pub invariant-loop-end : goal.invariant-loop-end
+invariant-loop-end l = record {
+  within : l.end ≤ length l.text;
+  blank : (k : ℕ) → l.end ≤ k → k < length l.text → is_space (get_or l.text k 0) ≡ true;
+}
+
+abbrev pub decreases-loop-end : goal.decreases-loop-end
+decreases-loop-end l = l.end

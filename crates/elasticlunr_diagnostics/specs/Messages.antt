@@ -1,0 +1,36 @@
+-- Why there is no index, and the place that a message speaks of.
+use Rattle.std.specs.Option.{SomeIff}
+use Rattle.std.specs.Prelude.{◌≡◌, ◌+◌, ◌<◌, ◌^◌, ⊤, ℕ, Option, Some, None, IfSome, IsSome}
+use Rattle.elasticlunr_diagnostics.specs.declared.message.Trouble.{Trouble}
+use Rattle.elasticlunr_diagnostics.specs.declared.message.Trouble.TheVariants.{Refused, Memory, Device}
+use Rattle.elasticlunr_json_place.specs.Whole.{below}
+use Rattle.elasticlunr_json_place.specs.declared.place.Place.{Place}
+
+-- memory is wanting, or it is refused for this reason
+abbrev pub IsMemoryOr : Type 0 → Trouble → Type 0
+IsMemoryOr reason Memory = ⊤
+IsMemoryOr reason (Device _) = ⊥
+IsMemoryOr reason (Refused _) = reason
+
+-- memory is wanting, or the reader failed: nothing is refused
+abbrev pub IsMemoryOrDevice : Trouble → Type 0
+IsMemoryOrDevice Memory = ⊤
+IsMemoryOrDevice (Device _) = ⊤
+IsMemoryOrDevice (Refused _) = ⊥
+
+-- memory is wanting, or it is refused, and the message has a place
+abbrev pub IsMemoryOrPlaced : Trouble → Type 0
+IsMemoryOrPlaced Memory = ⊤
+IsMemoryOrPlaced (Device _) = ⊥
+IsMemoryOrPlaced (Refused message) = IsSome message.place
+
+-- the place of a refusal is so, where its message has one
+abbrev pub IfPlaced : (Place → Type 0) → Trouble → Type 0
+IfPlaced Is Memory = ⊤
+IfPlaced Is (Device _) = ⊤
+IfPlaced Is (Refused message) = IfSome message.place Is
+
+-- a place is so many lines below another one, where that is known, and its line has a number then
+abbrev pub IsLowered : (at : Option Place) → ℕ → (place : Option Place) → Type 0
+IsLowered None lines place = place ≡ None
+IsLowered (Some at) lines place = SomeIff place (lines + at.line < 2 ^ 64) (below lines at)

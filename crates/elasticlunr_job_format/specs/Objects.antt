@@ -1,0 +1,74 @@
+-- Documents as JSON objects: the documents of a job that they are, and what is wrong with one that is none.
+use Rattle.std.specs.Prelude.{◌≡◌, ◌+◌, ℕ, List, [], Bool, take, slice_get, Option, Some, None, IsSome}
+use Rattle.std.specs.Fmt.{decimal}
+use Rattle.std.specs.List.{AllZip}
+use Rattle.serde_json.specs.Data.{Data, number, string, unsigned}
+use Rattle.serde_json.specs.Find.{as_object, as_str, get}
+use Rattle.elasticlunr_error.specs.Text.{Bytes}
+use Rattle.elasticlunr_job_format.specs.Job.{Document, get_or}
+use Rattle.elasticlunr_job_format.specs.Kinds.{kind_of}
+use Rattle.elasticlunr_job_format.specs.declared.kind.Kind.{Kind}
+use Rattle.elasticlunr_job_format.specs.declared.objects.Problem.{Problem}
+use Rattle.elasticlunr_job_format.specs.declared.objects.Problem.TheVariants.{NotJson, NotAnObject, NoReference, NotAReference, NotAText}
+
+-- how documents are read of objects, and what is made of them
+pub record Options : Type 0 where
+  pub reference_key : Bytes
+  pub fields : List Bytes
+  pub language : Bytes
+  pub save : Bool
+  pub pretty : Bool
+
+-- the reference that a member is: a text as it is, a whole number as its decimal digits
+abbrev pub reference_of : Data → Option Bytes
+reference_of (string text) = Some text
+reference_of (number (unsigned n)) = Some (decimal n)
+reference_of _ = None
+
+-- the text under the key of a field, the empty one where there is none
+abbrev pub HasText : Data → Bytes → Bytes → Type 0
+HasText d field text = get_or field d (string []) ≡ string text
+
+-- the texts of these fields, in order
+abbrev pub HasTexts : Data → List Bytes → List Bytes → Type 0
+HasTexts d fields texts = AllZip (HasText d) fields texts
+
+-- the value is this document: an object with a reference under its key, and with the text of each field, in order
+pub record IsDocumentOf (options : Options) (d : Data) (doc : Document) : Type 0 where
+  pub is_object : IsSome (as_object d)
+  pub reference : (member : Data) × (get options.reference_key d ≡ Some member) × (reference_of member ≡ Some doc.reference)
+  pub values : HasTexts d options.fields doc.values
+
+-- the values are these documents, in order
+abbrev pub AreDocumentsOf : Options → List Data → List Document → Type 0
+AreDocumentsOf options items docs = AllZip (IsDocumentOf options) items docs
+
+-- there is a member under the key, and it is no text
+abbrev pub HasNoText : Data → Bytes → Kind → Type 0
+HasNoText d field found = (member : Data) × (get field d ≡ Some member) × (as_str member ≡ None) × (found ≡ kind_of member)
+
+-- the first field whose member is no text
+pub record IsFirstWithoutText (d : Data) (fields : List Bytes) (i : ℕ) (found : Kind) : Type 0 where
+  pub field : Bytes
+  pub texts : List Bytes
+  pub before : HasTexts d (take i fields) texts
+  pub there : slice_get fields i ≡ Some field
+  pub no_text : HasNoText d field found
+
+-- the check that the value fails first: it is an object, it has a reference, each field has a text
+abbrev pub HasProblem : Options → Data → Problem → Type 0
+HasProblem options d NotJson = ⊥
+HasProblem options d (NotAnObject found) = (as_object d ≡ None) × (found ≡ kind_of d)
+HasProblem options d NoReference = IsSome (as_object d) × (get options.reference_key d ≡ None)
+HasProblem options d (NotAReference found) = (member : Data) × (get options.reference_key d ≡ Some member) × (reference_of member ≡ None) × (found ≡ kind_of member)
+HasProblem options d (NotAText i found) = (member : Data) × (reference : Bytes) × (get options.reference_key d ≡ Some member) × (reference_of member ≡ Some reference) × IsFirstWithoutText d options.fields i found
+
+-- the first value, by its number from 1, that is no document, and the check that it fails first
+pub record IsFirstProblem (options : Options) (items : List Data) (place : ℕ) (problem : Problem) : Type 0 where
+  pub i : ℕ
+  pub item : Data
+  pub before : List Document
+  pub place_is : place ≡ i + 1
+  pub documents : AreDocumentsOf options (take i items) before
+  pub there : slice_get items i ≡ Some item
+  pub has : HasProblem options item problem

@@ -1,0 +1,144 @@
+//! Documents as JSON objects, in the form that `addDoc` of elasticlunr.js takes.
+//!
+//! The member under the reference key is the reference, a text or a whole number. The member under
+//! a field's name is its text, the empty text where it is absent. Other members are passed over.
+
+ghost use Rattle.std.specs.Prelude.{◌≡◌, IfOk, IfErr, option_map, string_bytes};
+ghost use Rattle.serde_json.specs.View.{view};
+ghost use Rattle.elasticlunr_job_format.specs.Objects.{HasNoText, HasProblem, HasText, HasTexts, IsDocumentOf, reference_of};
+ghost use Rattle.elasticlunr_job_format.specs.ObjectsTold.{HasFieldProblem, IsMemoryOr, object_told, options_told, texts_told};
+
+use crate::kind::{Kind, kind_of};
+use serde_json::Value;
+use std::alloc::{AllocError, AllocFailed, Global};
+
+/// How documents are read of objects, and how their index is built and printed. The language goes
+/// by its name, as `German`.
+#[derive(Drop)]
+pub struct Options<'a> {
+    pub reference_key: &'a str,
+    pub fields: Vec<&'a str>,
+    pub language: &'a str,
+    pub save: bool,
+    pub pretty: bool,
+}
+
+/// What is wrong with a document: the first check that it fails.
+#[derive(Clone, Copy)]
+pub enum Problem {
+    /// It is a line that is not JSON.
+    NotJson,
+    /// It is of this kind, and no object.
+    NotAnObject(Kind),
+    /// It has no member under the reference key.
+    NoReference,
+    /// That member is of this kind, and neither a text nor a whole number of 64 bits.
+    NotAReference(Kind),
+    /// The member of the field with this place is of this kind, and no text.
+    NotAText(usize, Kind),
+}
+
+/// Why a document was not added.
+#[derive(Clone, Copy)]
+pub enum AddError {
+    Problem(Problem),
+    Memory,
+}
+
+impl From<AllocError> for AddError {
+    ghost use Rattle.elasticlunr_job_format.specs.declared.objects.AddError.TheVariants.{Memory};
+    ghost use Rattle.std.specs.Prelude.{◌≡◌};
+
+    ghost from_gives = { λ _ e. e ≡ Memory };
+
+    fn from(_refused: AllocError) -> AddError {
+        AddError::Memory
+    }
+}
+
+impl<T: Drop> From<AllocFailed<T>> for AddError {
+    ghost use Rattle.elasticlunr_job_format.specs.declared.objects.AddError.TheVariants.{Memory};
+    ghost use Rattle.std.specs.Prelude.{◌≡◌};
+
+    ghost from_gives = { λ _ e. e ≡ Memory };
+
+    fn from(_refused: AllocFailed<T>) -> AddError {
+        AddError::Memory
+    }
+}
+
+/// A document, as read of an object: its reference, its texts in the order of the fields, and the
+/// object itself.
+#[derive(Drop)]
+pub struct Object<'a> {
+    pub reference: String,
+    pub values: Vec<&'a str>,
+    pub value: &'a Value,
+}
+
+/// The reference that a member is, if it is one.
+fn reference_of(alloc: Global, member: &Value) -> Result<Option<String>, AllocError>
+    ensures { IfOk result (λ found. option_map string_bytes found ≡ reference_of (view member.now)) }
+{
+    if let Some(text) = member.as_str() {
+        return Ok(Some(String::from_str(alloc, text)?));
+    }
+    match member.as_u64() {
+        Some(n) => Ok(Some(format!(in alloc; "{n}")?)),
+        None => Ok(None),
+    }
+}
+
+/// The text under the key of a field, or the kind of what is there.
+fn text_under<'a>(value: &'a Value, field: &str) -> Result<&'a str, Kind>
+    ensures ok { IfOk result (λ text. HasText (view value.now) field.now text.now) }
+    ensures err { IfErr result (HasNoText (view value.now) field.now) }
+{
+    match value.get(field) {
+        Some(member) => member.as_str().ok_or(kind_of(member)),
+        None => Ok(""),
+    }
+}
+
+/// The texts of the fields, in order.
+fn values_of<'a>(alloc: Global, fields: &[&str], value: &'a Value) -> Result<Vec<&'a str>, AddError>
+    ensures ok { IfOk result (λ found.
+        HasTexts (view value.now) (texts_told fields.now) (texts_told found.items)) }
+    ensures err { IfErr result (IsMemoryOr (HasFieldProblem (view value.now) (texts_told fields.now))) }
+{
+    let mut found = Vec::with_capacity(alloc, fields.len())?;
+    for (i, field) in fields.iter().enumerate() {
+        match text_under(value, *field) {
+            Ok(text) => found.push(text)?,
+            Err(kind) => return Err(AddError::Problem(Problem::NotAText(i, kind))),
+        }
+    }
+    Ok(found)
+}
+
+/// The document that a value is. Its reference alone is copied.
+pub fn object_of<'a>(
+    alloc: Global,
+    options: &Options<'_>,
+    value: &'a Value,
+) -> Result<Object<'a>, AddError>
+    ensures ok { IfOk result (λ object. IsDocumentOf (options_told options.now) (view value.now) (object_told object)) }
+    ensures whole { IfOk result (λ object. object.value.now ≡ value.now) }
+    ensures err { IfErr result (IsMemoryOr (HasProblem (options_told options.now) (view value.now))) }
+{
+    if !value.is_object() {
+        return Err(AddError::Problem(Problem::NotAnObject(kind_of(value))));
+    }
+    let Some(member) = value.get(options.reference_key) else {
+        return Err(AddError::Problem(Problem::NoReference));
+    };
+    let Some(reference) = reference_of(alloc, member)? else {
+        return Err(AddError::Problem(Problem::NotAReference(kind_of(member))));
+    };
+    let values = values_of(alloc, &options.fields, value)?;
+    Ok(Object {
+        reference,
+        values,
+        value,
+    })
+}

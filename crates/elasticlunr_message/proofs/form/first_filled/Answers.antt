@@ -1,8 +1,0 @@
-use Rattle.std.proofs.Common.{rules, tests}
-use Rattle.std.proofs.lemmas.Iterator.Search.{find_from_yields_List}
-use Rattle.std.proofs.lemmas.Iterator.Splits.{YieldsList-from_slice_split}
-use Rattle.elasticlunr_parse.specs.Lines.{is_filled}
-use Rattle.elasticlunr_message.proofs.form.first_filled.Goals as goal
-
-pub returns : goal.returns
-returns c = find_from_yields_List is_filled _ _ _ c.find.ensures.ran (YieldsList-from_slice_split _ _ c.args.text.now c.split.ensures.rest c.split.ensures.done c.split.ensures.closure (λ x r q k. search (rules, tests))) (λ x r q k. search (rules, tests))

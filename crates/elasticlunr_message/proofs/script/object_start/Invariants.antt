@@ -1,7 +1,0 @@
--- no object begins where one was looked for
-use Rattle.std.proofs.Common.{◌≡◌, ◌<◌, ℕ, false, drop}
-use Rattle.elasticlunr_message.specs.Script.{begins_object}
-use Rattle.elasticlunr_message.proofs.script.object_start.Given as goal
-
-abbrev pub invariant-loop-start : goal.invariant-loop-start
-invariant-loop-start l = (k : ℕ) → k < l.start → begins_object (drop k l.script) ≡ false

@@ -1,7 +1,0 @@
-use Rattle.std.proofs.Common.{ap, ◌∙◌}
-use Rattle.elasticlunr_nodes.specs.Frequencies.{frequencies_of}
-use Rattle.elasticlunr_nodes.proofs.Frequencies.{seen_empty}
-use Rattle.elasticlunr_nodes.proofs.postings.Postings.new.Goals as goal
-
-pub returns : goal.returns
-returns c = ap frequencies_of c.new.ensures ∙ seen_empty

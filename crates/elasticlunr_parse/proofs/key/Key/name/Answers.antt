@@ -1,6 +1,0 @@
-use Rattle.std.proofs.Common.{sym, ap}
-use Rattle.elasticlunr_parse.specs.JobKeys.{key_name}
-use Rattle.elasticlunr_parse.proofs.key.Key.name.Goals as goal
-
-pub returns-in-Ref : goal.returns-in-Ref
-returns-in-Ref c = sym (ap key_name c.in-Ref.is)

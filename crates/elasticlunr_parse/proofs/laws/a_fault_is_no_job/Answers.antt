@@ -1,5 +1,0 @@
-use Rattle.elasticlunr_parse.proofs.JobFaults.{fault_no_job}
-use Rattle.elasticlunr_parse.proofs.laws.a_fault_is_no_job.Goals as goal
-
-pub returns : goal.returns
-returns c = fault_no_job

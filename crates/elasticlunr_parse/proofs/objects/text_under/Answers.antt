@@ -1,4 +1,0 @@
-use Rattle.elasticlunr_parse.proofs.objects.text_under.Goals as goal
-
-pub returns-in-None-clause-err : goal.returns-in-None-clause-err
-returns-in-None-clause-err c = tt

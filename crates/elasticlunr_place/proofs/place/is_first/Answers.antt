@@ -1,5 +1,0 @@
-use Rattle.std.proofs.Common.{refl}
-use Rattle.elasticlunr_place.proofs.place.is_first.Goals as goal
-
-pub returns : goal.returns
-returns c = refl

@@ -1,7 +1,0 @@
--- Places below lines.
-use Rattle.std.specs.Prelude.{◌+◌, ℕ}
-use Rattle.elasticlunr_place.specs.declared.place.Place.{Place}
-
--- the place so many lines below
-abbrev pub below : ℕ → Place → Place
-below lines place = record { line = lines + place.line; column = place.column }

@@ -1,6 +1,0 @@
-use Rattle.elasticlunr_printed.proofs.Plain.{no_float}
-use Rattle.elasticlunr_printed.proofs.PlainValues.{value_plain}
-use Rattle.elasticlunr_printed.proofs.laws.values.values_have_no_float.Goals as goal
-
-pub returns : goal.returns
-returns c plan tables contents v is = no_float v (value_plain plan tables contents v is)

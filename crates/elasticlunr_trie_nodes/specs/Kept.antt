@@ -1,0 +1,10 @@
+-- Where a list keeps its items; for private clauses.
+use Rattle.std.specs.Prelude.{List, [], ◌∷◌}
+use Rattle.elasticlunr_trie_nodes.specs.declared.few.Kept.{Kept}
+use Rattle.elasticlunr_trie_nodes.specs.declared.few.Kept.TheVariants.{None, One, Many}
+
+module _ {T : Type 0} where
+  abbrev pub kept_items : Kept T → List T
+  kept_items None = []
+  kept_items (One x) = x ∷ []
+  kept_items (Many b) = b.value.items

@@ -1,6 +1,5 @@
-# The two commands: `make run` proves, builds and runs the program, `make test` passes the tests. Besides, `make try`
-# runs the program at once, without a proof, `make demo` shows the search page, and `make compare` compares the program with
-# the original crate.
+# `make run` proves, builds and runs the program, and `make test` runs the tests. `make try` runs the program at once, without
+# a proof, `make demo` shows the search page, and `make compare` compares the program with the original crate.
 PREFIX ?= /usr/local
 PROGRAM = crates/elasticlunr_index/out/elasticlunr_index
 COMMAND = crates/elasticlunr_cli/out/elasticlunr_cli
@@ -8,41 +7,41 @@ PORT ?= 8095
 
 .PHONY: run try build command script calls demo test compare install
 
-# A job on standard input, or an example where standard input is a terminal or empty.
+# Reads a job from standard input, and takes an example where that is a terminal or empty.
 run: build
-	@python3 bench/run.py
+	@python3 tools/run.py
 
 # The same without a proof, for a first look.
 try:
-	@python3 bench/run.py --try
+	@python3 tools/run.py --try
 
 build:
-	@python3 bench/build.py elasticlunr_index
+	@python3 tools/build.py elasticlunr_index
 
 # The command `elasticlunr`.
 command:
-	@python3 bench/build.py elasticlunr_cli
+	@python3 tools/build.py elasticlunr_cli
 
 # The program that prints the script for browsers.
 script:
-	@python3 bench/build.py elasticlunr_script
+	@python3 tools/build.py elasticlunr_script
 
 # The program that runs the tables of vectors, and the test that makes calls of the library alone.
 calls:
-	@python3 bench/build.py elasticlunr_vectors
+	@python3 tools/build.py elasticlunr_vectors
 	@cd crates/elasticlunr_test_calls && rt test > /dev/null
 
 # The search page over the indexes of examples/ in three languages, on http://127.0.0.1:$(PORT)/.
 demo: build
-	@python3 bench/browser_demo.py $(PORT)
+	@python3 tools/demo.py $(PORT)
 
-# `rt ci` (proves every crate from nothing, tries the mutants, runs the tests and the programs) and, meanwhile, the
-# checks of bench/ on the programs that it built.
+# Runs `rt ci`, which proves every crate from nothing, tries the mutants, and runs the tests and the programs, and at the same
+# time the checks of tests/ on these programs.
 test:
-	@bench/test.sh
+	@tools/test.sh
 
-# Replays random documents on the original crate, and prints speed and memory of both. The original stands on the
-# newest crates that Debian has, or on those of the release that BESIDE names: its stemmer is slower over an older `regex`.
+# Compares random documents with the original crate, and prints speed and memory of both. The original is built over the newest
+# crates that Debian has, or over those of the release that BESIDE names: its stemmer is slower over an older `regex`.
 compare: build
 	@bench/compare/compare.sh
 

@@ -1,12 +1,11 @@
 #!/usr/bin/env python3
-"""Writes a job of English documents to standard output: text files of the machine, cut up.
+"""Writes a job of English documents to standard output. Their words are those of text files on the machine.
 
 usage: make_job.py [--docs N] [--words N] [FOLDER ..]
 
-The words of all text files below the folders, in the order of their paths, are dealt out to
-the documents, N words each; where they run out they begin again. Each document has a title of
-five words and a body of the others. Without folders the documentation of perl, vim and git is
-taken, as far as it is installed.
+The documents get the words of all text files below the folders, in the order of the files' paths, N words each. After the
+last word comes the first one again. Each document has a title of five words and a body of the others. Without folders the
+texts are the documentation of perl, vim and git, as far as it is installed.
 """
 import argparse
 import json

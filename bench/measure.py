@@ -1,12 +1,12 @@
 #!/usr/bin/env python3
-"""Runs a program on a file, and says its status, the seconds and the megabytes that it took at most.
+"""Runs a program on a file, and prints its status, its seconds and the megabytes that it took at most.
 
 usage: measure.py STACK IN OUT PROGRAM [ARGUMENT ..]
 
-STACK are the bytes of its stack, or 0 for those that the machine gives. OUT is the file that gets what
-it prints, or `-`: then that is read from a pipe and dropped, so that no disk is measured. It is a process of its own,
-since the memory of a program is counted from the size of the one that starts it. Other scripts call
-`measured`. A run that takes too long is killed, which its status then says.
+STACK is the size of its stack in bytes, or 0 for the machine's default. OUT is the file that gets what it prints, or `-`:
+then this is read from a pipe and dropped, so that no disk is measured. A run that takes too long is killed, and its status
+says so. Other scripts call `measured`, which runs this one: the memory of a program counts from the size of the process that
+starts it, so that process has to be small.
 """
 import os
 import resource
@@ -16,9 +16,9 @@ import sys
 import time
 from typing import NamedTuple
 
-LIMIT = 600  # seconds that a run may take
-PIPED = "-"  # the name of no file: what is printed goes through a pipe
-CHUNK = 1 << 20  # bytes that are read of a pipe at once
+LIMIT = 600  # the time limit of a run in seconds
+PIPED = "-"  # instead of a file: what the program prints goes through a pipe
+CHUNK = 1 << 20  # bytes that are read from a pipe at once
 
 
 class Measured(NamedTuple):
@@ -27,13 +27,13 @@ class Measured(NamedTuple):
     megabytes: int
 
 
-def measured(command, asked, answered, stack=None):
-    """Runs a command on the file `asked`, and writes what it prints to the file `answered`, or drops it (`PIPED`)."""
-    words = [sys.executable, __file__, str(stack or 0), asked, answered, *command]
-    below = subprocess.run(words, stdout=subprocess.PIPE, stderr=subprocess.PIPE)
-    if below.returncode != 0:
-        return Measured("not started, or no answer: " + below.stderr.decode(errors="replace").strip()[-200:], 0, 0)
-    status, seconds, megabytes = below.stdout.split()
+def measured(command, given, printed, stack=None):
+    """Runs a command on the file `given`, and writes what it prints to the file `printed`, or drops it (`PIPED`)."""
+    words = [sys.executable, __file__, str(stack or 0), given, printed, *command]
+    ended = subprocess.run(words, stdout=subprocess.PIPE, stderr=subprocess.PIPE)
+    if ended.returncode != 0:
+        return Measured("not started, or no answer: " + ended.stderr.decode(errors="replace").strip()[-200:], 0, 0)
+    status, seconds, megabytes = ended.stdout.split()
     return Measured(int(status), float(seconds), int(megabytes))
 
 
@@ -44,9 +44,9 @@ def set_limits(stack):
 
 
 def main():
-    stack, asked, answered, *command = sys.argv[1:]
-    with open(asked, "rb") as source, open(os.devnull if answered == PIPED else answered, "wb") as file:
-        sink = subprocess.PIPE if answered == PIPED else file
+    stack, given, printed, *command = sys.argv[1:]
+    with open(given, "rb") as source, open(os.devnull if printed == PIPED else printed, "wb") as file:
+        sink = subprocess.PIPE if printed == PIPED else file
         begun = time.monotonic()
         program = subprocess.Popen(command, stdin=source, stdout=sink, preexec_fn=lambda: set_limits(int(stack)))
         signal.signal(signal.SIGALRM, lambda *_: program.kill())

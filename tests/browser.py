@@ -1,58 +1,67 @@
 #!/usr/bin/env python3
-"""Holds elasticlunr.js in a real browser against what the built programs print.
+"""Compares what elasticlunr.js does in a real browser with what the built programs print.
 
-Each case has a name and passes or fails. What a case needs (Chromium, its driver, selenium, node, elasticlunr.min.js) is
-installed or fetched first where that can be done; where it can't, the cases that need it are named as skipped.
+usage: browser.py [WORD ..]
+
+Each case has a name, and passes or fails. What the cases need (Chromium, its driver, selenium, node, elasticlunr.min.js) is
+installed or downloaded first where that can be done; elsewhere the cases that need it are named as skipped. With words, only
+the cases run that have one of them in their names.
 """
 import os
 import signal
 import sys
 import tempfile
 
-import browser_cases
-import browser_tools
+sys.path.insert(0, os.path.join(os.path.dirname(__file__), ".."))
 
-SECONDS = 540
+from tests import browser_cases, browser_tools
+from tests.report import Results, is_asked
 
-
-def too_long(_signal, _frame):
-    raise SystemExit(f"browser: not ended after {SECONDS} seconds")
+SECONDS = 540  # the time limit of all cases
 
 
-def run(cases, world, counts):
-    for name, case in cases:
-        try:
-            told = case(world)
-            counts["passed"] += 1
-            if told:
-                print(f"{name}: {told}")
-        except Exception as error:  # one case that fails ends no other
-            counts["failed"] += 1
-            print(f"{name}: FAILED: {type(error).__name__}: {str(error)[:1500]}")
-        sys.stdout.flush()
+class OutOfTime(BaseException):
+    """Not an Exception, because a failed case ends none of the others."""
+
+
+def stop(_signal, _frame):
+    raise OutOfTime
+
+
+def run(name, case, world, results):
+    try:
+        figures = case(world)
+        results.note(True, "")
+        if figures:
+            print(f"{name}: {figures}", flush=True)
+    except Exception as error:
+        results.note(False, f"{name}: {type(error).__name__}: {str(error)[:1500]}")
+
+
+def run_all(world, lacking, results):
+    for needs, cases in browser_cases.groups():
+        missing = [need for need in needs if need in lacking]
+        for name, case in cases:
+            if not is_asked(name):
+                continue
+            if missing:
+                results.skipped += 1
+                print(f"{name}: skipped, without {' and '.join(missing)}", flush=True)
+            else:
+                run(name, case, world, results)
 
 
 def main():
-    signal.signal(signal.SIGALRM, too_long)
-    signal.alarm(SECONDS)
-    wanted = sys.argv[1:]
-    chosen = lambda cases: [case for case in cases if not wanted or any(word in case[0] for word in wanted)]
     lacking = browser_tools.prepare()
-    counts = {"passed": 0, "failed": 0}
-    skipped = []
-    with tempfile.TemporaryDirectory() as folder:
-        with browser_tools.World(folder, lacking) as world:
-            for needs, cases in browser_cases.groups():
-                missing = [need for need in needs if need in lacking]
-                if missing:
-                    skipped += [name for name, _ in chosen(cases)]
-                    for name, _ in chosen(cases):
-                        print(f"{name}: skipped, without {' and '.join(missing)}")
-                else:
-                    run(chosen(cases), world, counts)
-    tail = f", {len(skipped)} skipped" if skipped else ""
-    print(f"browser: {counts['passed']} passed, {counts['failed']} failed{tail}")
-    return 1 if counts["failed"] else 0
+    results = Results("browser")
+    signal.signal(signal.SIGALRM, stop)
+    signal.alarm(SECONDS)
+    try:
+        with tempfile.TemporaryDirectory() as folder, browser_tools.World(folder, lacking) as world:
+            run_all(world, lacking, results)
+    except OutOfTime:
+        results.note(False, f"browser: not ended after {SECONDS} seconds")
+    return results.report()
 
 
 if __name__ == "__main__":

@@ -1,4 +1,4 @@
-"""A book of some hundred sections, made of the words below and always the same: for each section its number, title and text."""
+"""A book of some hundred sections, made of the words below and the same each time: the number, title and text of each."""
 import random
 
 THINGS = """anchor apple arch axe bakery barn basket beach bell bench bicycle blanket boat bottle bowl branch bread bridge brush
@@ -22,29 +22,29 @@ FRAMES = ["the {k} {t} stands near the {u}", "nobody who was {d} a {t} forgot th
           "some speak of {d} the {t}, others of a {k} {u}", "the {u}, too, was {k}; the {t} wasn't", "why is {d} a {v} so {k}?"]
 
 
-def title(chance):
-    thing, other = chance.sample(THINGS, 2)
-    kind, doing = chance.choice(KINDS), chance.choice(DOINGS)
-    return chance.choice([f"{doing} the {kind} {thing}", f"the {thing} and the {other}", f"{doing} a {thing} by the {other}",
+def title(rng):
+    thing, other = rng.sample(THINGS, 2)
+    kind, doing = rng.choice(KINDS), rng.choice(DOINGS)
+    return rng.choice([f"{doing} the {kind} {thing}", f"the {thing} and the {other}", f"{doing} a {thing} by the {other}",
                           f"on {kind} {thing}s", f"a {kind} {thing} for each {other}"]).capitalize()
 
 
-def text(chance, own):
+def text(rng, own):
     sentences = []
-    for _ in range(chance.randint(4, 14)):
-        thing, other, third = chance.sample(THINGS, 3)
-        frame = chance.choice(FRAMES)
-        sentence = frame.format(t=thing, u=other, v=third, k=chance.choice(KINDS), d=chance.choice(DOINGS))
+    for _ in range(rng.randint(4, 14)):
+        thing, other, third = rng.sample(THINGS, 3)
+        frame = rng.choice(FRAMES)
+        sentence = frame.format(t=thing, u=other, v=third, k=rng.choice(KINDS), d=rng.choice(DOINGS))
         sentences.append(sentence[0].upper() + sentence[1:] + ("" if sentence.endswith("?") else "."))
-    sentences.insert(chance.randint(0, len(sentences)), f"This section is about {own.lower()}.")
+    sentences.insert(rng.randint(0, len(sentences)), f"This section is about {own.lower()}.")
     return " ".join(sentences)
 
 
 def book(sections=320):
-    chance, made, titles = random.Random(20261122), [], set()
+    rng, made, titles = random.Random(20261122), [], set()
     while len(made) < sections:
-        own = title(chance)
+        own = title(rng)
         if own not in titles:
             titles.add(own)
-            made.append((str(len(made)), own, text(chance, own)))
+            made.append((str(len(made)), own, text(rng, own)))
     return made

@@ -1,17 +1,14 @@
-"""The cases: each has a name, and answers what there is to tell or raises why it fails."""
+"""The cases in the browser. Each has a name; it returns figures to be shown, or nothing, and raises why it fails."""
 import json
 import os
 import socket
 import subprocess
 import sys
 
-import browser_anywhere
-import browser_book
-import browser_page
-import browser_policy
-import browser_speed
-from browser_pages import PAGES
-from browser_tools import SCRIPT, SECONDS, TOP, program
+from tests import browser_book, browser_page, browser_policy, browser_results, browser_speed
+from tests.browser_sentences import PAGES
+from tests.browser_tools import SECONDS, must
+from tools.repository import TOP, lines_of, program, read, run
 
 BROWSER = ["chromium", "chromedriver", "selenium", "elasticlunr.min.js"]
 ALL = "elasticlunr-languages.js"
@@ -23,10 +20,6 @@ LAST = 0x110000
 
 def own_script(language):
     return f"elasticlunr-{language.lower()}.js"
-
-
-def must(holds, told):
-    assert holds, told if isinstance(told, str) else json.dumps(told, ensure_ascii=False)
 
 
 def refuses(call, part):
@@ -41,20 +34,25 @@ def refuses(call, part):
 
 # The committed scripts, and the program.
 
+def script_of(given):
+    """What elasticlunr_script prints for the names of languages, and its status."""
+    ended = run([program("elasticlunr_script")], given.encode())
+    return ended.out.decode(), ended.status
+
+
 def committed(name, given):
     def case(_world):
-        with open(os.path.join(TOP, "browser", name), encoding="utf-8") as file:
-            must(program(SCRIPT, given) == (file.read(), 0), f"browser/{name} is not what elasticlunr_script prints")
+        must(script_of(given) == (read(f"browser/{name}"), 0), f"browser/{name} is not what elasticlunr_script prints")
     return f"{name} is what the program prints", case
 
 
 def refused_name(_world):
     for given in ["Klingon\n", "german\n", "German\n\n", "German English\n"]:
-        must(program(SCRIPT, given) == ("refused: unknown language\n", 2), given)
+        must(script_of(given) == ("refused: unknown language\n", 2), given)
 
 
 def several(_world):
-    text, status = program(SCRIPT, "German\nKorean")
+    text, status = script_of("German\nKorean")
     held = [name in text for name in ["trimmer-de", "stopWordFilter-de", "trimmer-ko", "stopWordFilter-ko", "stemmer-ko", "trimmer-fr"]]
     must(status == 0 and held == [True] * 5 + [False], held)
 
@@ -62,8 +60,7 @@ def several(_world):
 def script_sizes(_world):
     size = lambda name: round(os.path.getsize(os.path.join(TOP, "browser", name)) / 1000)
     own = [size(own_script(language)) for language in PAGES]
-    with open(os.path.join(TOP, "README.md"), encoding="utf-8") as file:
-        must(f"all languages in {size(ALL)} kB; that of one language has {min(own)} to {max(own)} kB." in file.read(), [size(ALL), own])
+    must(f"all languages in {size(ALL)} kB; that of one language has {min(own)} to {max(own)} kB." in read("README.md"), [size(ALL), own])
 
 
 def scripts():
@@ -75,9 +72,9 @@ def scripts():
 
 def in_node(world, lines):
     program_text = "\n".join(["const elasticlunr = require('./elasticlunr.min.js');", *lines])
-    ended = subprocess.run(["node", "-e", program_text], cwd=world.folder, stdout=subprocess.PIPE, stderr=subprocess.PIPE, timeout=SECONDS)
-    must(ended.returncode == 0, ended.stderr.decode())
-    return ended.stdout.decode().strip()
+    ended = run(["node", "-e", program_text], cwd=world.folder, seconds=SECONDS)
+    must(ended.status == 0, ended.err.decode())
+    return ended.out.decode().strip()
 
 
 def node(names):
@@ -120,9 +117,9 @@ def unloaded(language):
 
 
 def same_tokens(world, scripts, name):
-    told = world.call(scripts, "compare", name + ".job.json", name + ".json")
-    must(told["fields"] and told["postings"] and not told["differ"], told)
-    return f"{told['postings']} postings of {told['fields']} texts"
+    answer = world.call(scripts, "compare", name + ".job.json", name + ".json")
+    must(answer["fields"] and answer["postings"] and not answer["differ"], answer)
+    return f"{answer['postings']} postings of {answer['fields']} texts"
 
 
 def tokens(language, names):
@@ -135,18 +132,18 @@ def tokens(language, names):
 def words(language):
     def case(world):
         site(world, language)
-        told = world.call([ALL], "ask", language + ".json", language + "-alone.json", words_of(language))
-        must(told["found"] > 40 and not told["differ"], told)
-        return f"{told['found']} found, {told['dropped']} that the index leaves out"
+        answer = world.call([ALL], "ask", language + ".json", language + "-alone.json", words_of(language))
+        must(answer["found"] > 40 and not answer["differ"], answer)
+        return f"{answer['found']} found, {answer['dropped']} that the index leaves out"
     return f"{language}: each word as it stands finds its page", case
 
 
 def beginnings(language):
     def case(world):
         site(world, language)
-        told = world.call([ALL], "beginnings", language + ".json")
-        must(told["found"] > 40 and not told["differ"], told)
-        return f"{told['found']} found"
+        answer = world.call([ALL], "beginnings", language + ".json")
+        must(answer["found"] > 40 and not answer["differ"], answer)
+        return f"{answer['found']} found"
     return f"{language}: the beginning of a word finds its page with expand", case
 
 
@@ -173,9 +170,9 @@ def characters(language, alone):
                     docs.append([f"{block:X}", " ".join(codes if alone else map(AROUND.get(language, "x{}z").format, codes))])
             if docs:
                 world.index("characters", {"fields": ["text"], "docs": docs, "lang": language, "save": False})
-                told = world.call([ALL], "compare", "characters.job.json", "characters.json")
-                must(not told["differ"], told["differ"])
-                postings += told["postings"]
+                answer = world.call([ALL], "compare", "characters.job.json", "characters.json")
+                must(not answer["differ"], answer["differ"])
+                postings += answer["postings"]
         must(alone or postings > 1111000, f"only {postings} postings")
         return f"{postings} postings"
     return f"{language}: every character {'alone' if alone else 'inside a word'}", case
@@ -189,12 +186,12 @@ def is_known(code):
 
 def own_tokenizer(world):
     """Without a script, English differs at these characters alone."""
-    told = world.call([own_script("English")], "otherwise", 0, LAST)
-    must(told and 0x85 in told and 0xFEFF in told and 0x3A9 in told, told)
-    must(len(told) < 2000, len(told))
-    strange = [f"{code:X}" for code in told if not is_known(code)]
+    answer = world.call([own_script("English")], "otherwise", 0, LAST)
+    must(answer and 0x85 in answer and 0xFEFF in answer and 0x3A9 in answer, answer)
+    must(len(answer) < 2000, len(answer))
+    strange = [f"{code:X}" for code in answer if not is_known(code)]
     must(len(strange) < 60, strange)  # capitals that are newer than this Python's Unicode
-    return f"{len(told)} characters"
+    return f"{len(answer)} characters"
 
 
 def every_character():
@@ -223,7 +220,7 @@ def titles(bool_word, least, most):
 
 
 def sizes(world):
-    """Short numbers as references, and a list of addresses beside the index."""
+    """Short numbers as references, and a list of addresses next to the index."""
     sections = browser_book.book()
     address = lambda number, title: f"book/part-{int(number) // 40 + 1}/{title.lower().replace(' ', '-')}.html"
     world.index("short", book_job(save=False))
@@ -232,16 +229,16 @@ def sizes(world):
     size = lambda *names: sum(os.path.getsize(os.path.join(world.folder, name)) for name in names)
     short, long = size("short.json", "addresses.json"), size("long.json")
     must(short * 2 < long, f"{short} and {long} bytes")
-    return f"{short} bytes in place of {long}"
+    return f"{short} bytes instead of {long}"
 
 
 def order(world):
-    """A `tf` in millionths, rounded down, changes no order of results but between scores that are equal to six digits."""
+    """Frequencies in millionths, rounded down, only change the order of results whose scores are equal to six digits."""
     world.index("book", book_job())
     asked = [title for _, title, _ in browser_book.book()]
-    told = world.call([own_script("English")], "reorder", "book.job.json", "book.json", asked)
-    must(told["queries"] == len(asked) and told["same"] > 0 and not told["differ"], told)
-    return f"{told['same']} neighbours in order"
+    answer = world.call([own_script("English")], "reorder", "book.job.json", "book.json", asked)
+    must(answer["queries"] == len(asked) and answer["same"] > 0 and not answer["differ"], answer)
+    return f"{answer['same']} neighbours in order"
 
 
 def books():
@@ -252,8 +249,8 @@ def books():
 # What README says of languages and of references.
 
 def lang_search(world, language, docs, queries, **settings):
-    world.index("told", {"fields": ["body"], "docs": docs, "lang": language})
-    return world.call([ALL], "search", "told.json", queries, settings)
+    world.index("queried", {"fields": ["body"], "docs": docs, "lang": language})
+    return world.call([ALL], "search", "queried.json", queries, settings)
 
 
 SAMPLES = {"Latin": "Zebra", "Cyrillic": "Москва", "Hangul": "자전거", "Arabic": "مدينة", "Greek": "θάλασσα", "numbers": "1998"}
@@ -264,16 +261,15 @@ LETTERS = {"in Latin letters": {"Latin"}, "in all letters": set(SAMPLES) - {"num
 def table_row(language):
     """What README's table says of a language: the script, what is found and what isn't."""
     def case(world):
-        with open(os.path.join(TOP, "README.md"), encoding="utf-8") as file:
-            rows = [[cell.strip() for cell in line.split("|")[2:5]] for line in file if line.startswith(f"| {language} |")]
+        rows = [[cell.strip() for cell in line.split("|")[2:5]] for line in lines_of("README.md") if line.startswith(f"| {language} |")]
         must(len(rows) == 1, rows)
         script, finds, leaves = rows[0]
         name = script.split("`")[1]
         must(name == own_script(language), name)
         parts = finds.split(", ")
         expected = LETTERS[parts[0]] | ({"numbers"} if "numbers" in parts else set())
-        world.index("told", {"fields": ["body"], "docs": [["1", " ".join(SAMPLES.values())]], "lang": language})
-        answers = world.call([name], "search", "told.json", list(SAMPLES.values()), {})
+        world.index("queried", {"fields": ["body"], "docs": [["1", " ".join(SAMPLES.values())]], "lang": language})
+        answers = world.call([name], "search", "queried.json", list(SAMPLES.values()), {})
         found = {kind for kind, refs in zip(SAMPLES, answers) if refs}
         must(found == expected, sorted(found))
         must(("numbers" in leaves) == ("numbers" not in found) and ("in other letters" in leaves) == (len(expected - {"numbers"}) < 5), leaves)
@@ -310,15 +306,15 @@ def bad_references(world):
 
 
 def astral(world):
-    world.index("told", {"fields": ["body"], "docs": [["1", "the 𝒳𐐨𝒵 and x𝒴z word"]], "lang": "Arabic"})
-    must(world.call([ALL], "search", "told.json", ["𝒳𐐨𝒵", "x𝒴z"], {}) == [["1"], ["1"]], "with the script")
-    world.index("told", {"fields": ["body"], "docs": [["1", "the x𝒴z word"]]})
-    must(world.call([], "search", "told.json", ["x𝒴z"], {}) == [[]], "without the script")
+    world.index("queried", {"fields": ["body"], "docs": [["1", "the 𝒳𐐨𝒵 and x𝒴z word"]], "lang": "Arabic"})
+    must(world.call([ALL], "search", "queried.json", ["𝒳𐐨𝒵", "x𝒴z"], {}) == [["1"], ["1"]], "with the script")
+    world.index("queried", {"fields": ["body"], "docs": [["1", "the x𝒴z word"]]})
+    must(world.call([], "search", "queried.json", ["x𝒴z"], {}) == [[]], "without the script")
 
 
 def one_field(world):
-    world.index("told", {"fields": ["title", "body"], "docs": [["1", "alpha", "beta"], ["2", "alpha beta", "gamma"]]})
-    answers = world.call([ALL], "search", "told.json", ["alpha beta"], {"bool": "AND"})
+    world.index("queried", {"fields": ["title", "body"], "docs": [["1", "alpha", "beta"], ["2", "alpha beta", "gamma"]]})
+    answers = world.call([ALL], "search", "queried.json", ["alpha beta"], {"bool": "AND"})
     must(answers == [["2"]], answers)
 
 
@@ -327,7 +323,7 @@ def demo(world):
     with socket.socket() as chosen:
         chosen.bind(("127.0.0.1", 0))
         port = chosen.getsockname()[1]
-    server = subprocess.Popen([sys.executable, os.path.join(TOP, "bench/browser_demo.py"), str(port)], stdout=subprocess.PIPE, stderr=subprocess.DEVNULL)
+    server = subprocess.Popen([sys.executable, os.path.join(TOP, "tools/demo.py"), str(port)], stdout=subprocess.PIPE, stderr=subprocess.DEVNULL)
     try:
         must(server.stdout.readline().decode().startswith(f"http://127.0.0.1:{port}/ "), "not served")
         for site_name, text, title in [("english", "installing", "Installing the search box"), ("german", "öffnet", "Die Suche einrichten"), ("korean", "강가를", "강변 산책")]:
@@ -353,7 +349,7 @@ def readme():
 
 
 def pages():
-    return [case for cases_of in [browser_page, browser_anywhere, browser_policy, browser_speed] for case in cases_of.cases()]
+    return [case for cases_of in [browser_page, browser_results, browser_policy, browser_speed] for case in cases_of.cases()]
 
 
 def groups():

@@ -1,20 +1,17 @@
-"""The cases of the search page itself: typed, read and looked at as a reader does."""
+"""The cases of the search page itself: they type, read and look as a reader does."""
 import html
 import json
 import os
-import shutil
 import time
 
-import browser_book
-from browser_pages import PAGES
-from browser_tools import ELASTICLUNR, PARTS, TOP, index_of
+from tests import browser_book
+from tests.browser_sentences import PAGES
+from tests.browser_tools import must
+from tools import search_page
+from tools.repository import printed, read, write
 
 WAIT = 10
 SITES = {language: [[ref + ".html", *texts] for ref, *texts in pages] for language, pages in PAGES.items()}
-
-
-def must(holds, told):
-    assert holds, told if isinstance(told, str) else json.dumps(told, ensure_ascii=False)
 
 
 BODY = '<body data-index="search_index.json">'
@@ -22,20 +19,16 @@ ADDRESSES = '<body data-index="search_index.json" data-addresses="addresses.json
 
 
 def site(world, name, docs, lang="English", index=None, leave_out=(), edits=None, **more):
-    """A folder as README tells to make it, with edits of the page: what is there with the texts in its place."""
+    """Makes a folder as README says, and edits the page: each text that is a key of `edits` becomes its value."""
     folder = os.path.join(world.folder, name)
-    os.makedirs(folder, exist_ok=True)
-    for source in [ELASTICLUNR, *(os.path.join(TOP, "browser", part) for part in PARTS)]:
-        if os.path.basename(source) not in leave_out:
-            shutil.copy(source, folder)
+    search_page.copy(folder, leave_out)
+    page = os.path.join(folder, "search.html")
     for old, new in (edits or {}).items():
-        page = os.path.join(name, "search.html")
-        with open(os.path.join(world.folder, page), encoding="utf-8") as file:
-            text = file.read()
-        must(text.count(old) == 1, f"the page has not one {old}")
-        world.write(page, text.replace(old, new))
+        text = read(page)
+        must(text.count(old) == 1, f"{old} is not in the page once")
+        write(page, text.replace(old, new))
     if index is None:
-        index = index_of({"fields": ["title", "body"], "docs": [list(doc) for doc in docs], "lang": lang, **more})
+        index = printed({"fields": ["title", "body"], "docs": [list(doc) for doc in docs], "lang": lang, **more})
     if "search_index.json" not in leave_out:
         world.write(name + "/search_index.json", index)
     return name + "/search.html"
@@ -43,7 +36,7 @@ def site(world, name, docs, lang="English", index=None, leave_out=(), edits=None
 
 ASK = """
 const [texts, done] = arguments, query = document.getElementById("query"), results = document.getElementById("results");
-const choice = document.querySelector("input[name=bool]:checked"), told = [];
+const choice = document.querySelector("input[name=bool]:checked"), shown = [];
 const isBusy = () => results.getAttribute("aria-busy") === "true";
 const drawn = () => new Promise((go) => new MutationObserver(() => isBusy() || go()).observe(results, { attributes: true }));
 (async () => {
@@ -55,9 +48,9 @@ const drawn = () => new Promise((go) => new MutationObserver(() => isBusy() || g
     results.getBoundingClientRect();
     const milliseconds = performance.now() - begun, status = document.getElementById("status").textContent;
     const refs = Array.from(results.querySelectorAll("small"), (small) => small.textContent);
-    told.push({ text, milliseconds, status, refs, marks: results.querySelectorAll("mark").length });
+    shown.push({ text, milliseconds, status, refs, marks: results.querySelectorAll("mark").length });
   }
-  done(told);
+  done(shown);
 })();
 """
 
@@ -82,7 +75,7 @@ class Page:
             time.sleep(0.02)
 
     def settle(self):
-        """Waits until the page has drawn what was asked for last."""
+        """Waits until the page has drawn the results of the last search."""
         self.until(lambda: self.script("document.querySelector('[aria-busy=true]') === null"))
 
     def all(self, what):
@@ -117,7 +110,8 @@ class Page:
         return self.driver.execute_script("return " + text)
 
     def ask(self, texts):
-        """Asks for each text by the choice, which searches at once: what the page shows, and the milliseconds it took."""
+        """Searches for each text, by a change of the choice, which searches at once: what the page shows, and the milliseconds
+        that it took."""
         return self.driver.execute_async_script(ASK, texts)
 
 
@@ -204,7 +198,7 @@ def enter_on_result(world):
 
 
 def composing(world):
-    """While a syllable is being composed, Escape, the arrow keys and Enter are the input method's."""
+    """While a syllable is being composed, Escape, the arrow keys and Enter go to the input method."""
     page = Page(world, site(world, "korean", SITES["Korean"], "Korean"))
     command = page.driver.execute_cdp_cmd
     world.write("korean/festival.html", "<title>festival</title>")
@@ -219,7 +213,7 @@ def composing(world):
         must(page.query().get_attribute("value") == "축제", [name, page.query().get_attribute("value")])
     must(page.script("composed") == [["Escape", True, True], ["ArrowDown", True, False], ["ArrowUp", True, False], ["Enter", True, True]], page.script("composed"))
     command("Input.insertText", {"text": "제"})
-    # Where the composition ends before its last key comes, the key has the number 229.
+    # Where the composition ends before its last key is pressed, that key has the number 229.
     for name in ["Escape", "Enter"]:
         held = f"document.getElementById('query').dispatchEvent(new KeyboardEvent('keydown', {{ key: '{name}', keyCode: 229, bubbles: true, cancelable: true }}))"
         must(page.script(held) is False and page.titles() == ["봄 축제"], name)
@@ -228,7 +222,7 @@ def composing(world):
 
 
 def rest_of_address(world):
-    """The page changes the query in its address and keeps the rest as it is written."""
+    """The page changes the query in its address and keeps the rest byte for byte."""
     page = Page(world, site(world, "english", SITES["English"]) + "?a=%20&q=ivy&flag&b=x+y&%71=two#part%201")
     where = lambda: page.script("location.search + location.hash")
     must(page.titles() == ["Notes on a Façade Garden"] and where() == "?a=%20&q=ivy&flag&b=x+y#part%201", where())
@@ -246,9 +240,9 @@ def rest_of_address(world):
 
 
 def names_of_files(world):
-    """Names of files may hold what separates the parts of an address; what begins with a scheme is an address."""
+    """Names of files may have the characters that separate the parts of an address; a name with a scheme is an address."""
     names = [("100% #1?.json", "list #2.json"), ("sub folder/50%25/a&b=ü.json", "../named/+.json"), (world.url + "named/whole.json?v=1#x", world.url + "named/list%20%232.json")]
-    index = index_of({"fields": ["title", "body"], "docs": [["7", "Seven", "same"]]})
+    index = printed({"fields": ["title", "body"], "docs": [["7", "Seven", "same"]]})
     for file in [names[0][0], names[1][0], "whole.json"]:
         world.write("named/" + file, index)
     for file in [names[0][1], "+.json"]:
@@ -264,7 +258,7 @@ def names_of_files(world):
 
 
 def fails_once(world):
-    """What is thrown by a search is said, with no old results below it, and the next key press searches again."""
+    """The page says what a search throws, with no old results below it, and the next key press searches again."""
     page = Page(world, site(world, "many", [[str(number), f"Page {number}", "the same words"] for number in range(45)]))
     page.type("sam")
     page.script("(window.search = elasticlunr.Index.prototype.search, elasticlunr.Index.prototype.search = () => { throw new Error('out of order'); }, 0)")
@@ -329,7 +323,7 @@ def as_text(world):
     must(not page.all("#results a"), "a script as an address")
 
 
-# What a browser takes for a script, though not written as `javascript:` at first sight, and what else no link may lead to.
+# Addresses that a browser takes for a script, though they are not written as `javascript:`, and others that no link may have.
 HOSTILE = [" javascript:", "java\nscript:", "java\tscript:", "java\rscript:", "\u0001javascript:", "javascript\t:", "\n \tJaVaScRiPt:", "JAVASCRIPT:",
            "vbscript:", "data:text/html,", "blob:", "file:///", "view-source:javascript:", "feed:javascript:", "mailto:", "ftp://"]
 CONTROLS = [chr(code) for code in [*range(0x20), 0x7F, *range(0x80, 0xA0), 0xA0, 0x2028, 0xFEFF]]
@@ -353,7 +347,7 @@ def hostile_references(world):
     must(all(any(link.endswith(end) for link in links) for end in friendly.values()), links)
     must(not any("script:" in link and "%" not in link for link in links), [link for link in links if "script:" in link])
     must("\u0001javascript:" + run in page.script("Array.from(document.querySelectorAll('#results small'), (small) => small.textContent)"), "not shown as text")
-    # Each title is clicked on, link or not; one that leads somewhere is stopped before the browser goes there.
+    # Clicks on each title, whether it is a link or not. No link is followed.
     page.script("(addEventListener('click', (event) => event.preventDefault()), document.querySelectorAll('#results b').forEach((title) => title.click()))")
     must(page.driver.title == "Search", "a script was run")
 
@@ -419,7 +413,7 @@ SIDES = """Array.from(document.querySelectorAll('#results li'), (item) => {
 
 
 def right_to_left(world):
-    """Heading, excerpt and address of a result begin on one side, and the focus ring is as wide as the heading."""
+    """Heading, excerpt and address of a result begin on the same side, and the focus ring is as wide as the heading."""
     docs = [["sea.html", "البحر في الصباح", "خرج الصيّادون"], ["guide.html", "Guide to البحر", "A text"], ["port.html", "دليل elasticlunr البحر", "ميناء"]]
     page = Page(world, site(world, "sides", docs, "Arabic"))
     page.type("البحر")
@@ -429,7 +423,7 @@ def right_to_left(world):
 
 
 def contrast(first, second):
-    """The contrast of two colors, as WCAG counts it."""
+    """The contrast of two colors, as WCAG computes it."""
     def light(color):
         parts = [int(part) / 255 for part in color[color.index("(") + 1:-1].split(",")[:3]]
         linear = [part / 12.92 if part <= 0.04045 else ((part + 0.055) / 1.055) ** 2.4 for part in parts]
@@ -473,9 +467,9 @@ def cases():
         ("page: markup in texts is shown as text", as_text),
         ("page: references that would run a script", hostile_references),
         ("page: addresses that would run a script", hostile_addresses),
-        ("page: addresses beside the index", addresses),
+        ("page: addresses next to the index", addresses),
         ("page: an index without texts", not_saved),
-        ("page: names of files with signs of addresses", names_of_files),
+        ("page: names of files with special characters", names_of_files),
         ("page: a search that fails", fails_once),
         ("page: a document that can't be drawn", one_that_fails),
         ("page: what a screen reader says", spoken),

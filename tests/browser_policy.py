@@ -1,16 +1,15 @@
 """The cases of what a site sets for the page: its own words, and a strict Content-Security-Policy."""
 import json
-import os
 import re
 
-from browser_page import ADDRESSES, BODY, SITES, Page, must, site
-from browser_tools import POLICY, TOP
+from tests.browser_page import ADDRESSES, BODY, SITES, Page, site
+from tests.browser_tools import POLICY, must
+from tools.repository import read
 
 
 def part(path, before, after):
-    """What stands in a file between these two texts."""
-    with open(os.path.join(TOP, path), encoding="utf-8") as file:
-        return file.read().split(before, 1)[1].split(after, 1)[0]
+    """What a file has between these two texts."""
+    return read(path).split(before, 1)[1].split(after, 1)[0]
 
 
 STRICT = part("docs/BROWSER.md", "```text\n", "\n```")
@@ -31,9 +30,9 @@ def in_german(world):
     must(page.all("fieldset")[0].accessible_name == "Seiten finden mit" and page.query().accessible_name == "Suchen", "names")
     must(page.query().get_attribute("placeholder") == "Suchen" and page.script("document.getElementById('more').textContent") == "Mehr", "box and button")
     statuses = {"hefe": "1 Seite", "w": "3 Seiten", "hefe regen": GERMAN["noneHasAll"], "und": GERMAN["nothing"], "": ""}
-    must([told["status"] for told in page.ask(list(statuses))] == list(statuses.values()), page.ask(list(statuses)))
+    must([shown["status"] for shown in page.ask(list(statuses))] == list(statuses.values()), page.ask(list(statuses)))
     page.all("input[value=OR]")[0].click()
-    must([told["status"] for told in page.ask(["hefe regen", "xylophon"])] == ["2 Seiten", GERMAN["noneHasAny"]], "any word")
+    must([shown["status"] for shown in page.ask(["hefe regen", "xylophon"])] == ["2 Seiten", GERMAN["noneHasAny"]], "any word")
     page.script("(elasticlunr.Index.prototype.search = () => { throw new Error('so'); }, 0)")
     must(page.ask(["hefe"])[0]["status"] == "Die Suche ist gescheitert: so", page.status())
 
@@ -50,21 +49,21 @@ RUSSIAN = {"one": "{count} страница", "few": "{count} страницы",
 
 
 def plurals(world):
-    """The form of a number is that of the page's language; English words that stay are counted in English."""
+    """The form of a number is that of the page's language; words that stay English have English forms."""
     docs = [[str(number), f"Page {number}", " ".join(f"upto{most}" for most in [1, 3, 5, 21, 22] if number < most)] for number in range(22)]
     counts = ["upto1", "upto3", "upto5", "upto21", "upto22"]
     for words, expected in [({"pages": RUSSIAN}, ["1 страница", "3 страницы", "5 страниц", "21 страница", "22 страницы"]),
                             ({"pages": {"other": "({count})"}}, ["(1)", "(3)", "(5)", "(21)", "(22)"]),
                             ({"more": "Ещё"}, ["1 page", "3 pages", "5 pages", "21 pages", "22 pages"])]:
         page = Page(world, site(world, "plurals", docs, edits=own_words("ru", words)))
-        must([told["status"] for told in page.ask(counts)] == expected, page.ask(counts))
+        must([shown["status"] for shown in page.ask(counts)] == expected, page.ask(counts))
 
 
 WATCH = "addEventListener('securitypolicyviolation', (event) => (window.violations ||= []).push([event.effectiveDirective, event.blockedURI]))"
 
 
 def violations(world, name):
-    """Uses the page under the policy in all the ways it has, and gives what the browser reports."""
+    """Uses all parts of the page under the policy, and gives what the browser reports."""
     watch = world.browser().execute_cdp_cmd("Page.addScriptToEvaluateOnNewDocument", {"source": WATCH})
     try:
         page = Page(world, name)
@@ -90,7 +89,7 @@ def violations(world, name):
         world.driver.execute_cdp_cmd("Page.removeScriptToEvaluateOnNewDocument", watch)
 
 
-FORGERIES = {  # what the policy refuses, put before the end of the page, and the directive that is reported
+FORGERIES = {  # what the policy must refuse at the end of the page, and the directive that the browser must report
     "an inline script": ("<script>document.title = 'run'</script>", "script-src-elem"),
     "an inline style": ("<style>body { color: red }</style>", "style-src-elem"),
     "markup by a script": ("<script src='forged.js'></script>", "require-trusted-types-for"),

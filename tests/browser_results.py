@@ -1,10 +1,10 @@
-"""The cases of what the page finds: with `all words` the documents that have each word in one field or another."""
+"""The cases of what the page finds: with `all words`, the documents that have each word in some field."""
 import json
 import random
 
-import browser_book
-import model_tokens
-from browser_page import ADDRESSES, BODY, Page, must, site
+from tests import browser_book, model_tokens
+from tests.browser_page import ADDRESSES, BODY, Page, site
+from tests.browser_tools import must
 
 SHOWN = 20
 
@@ -15,12 +15,12 @@ def two_fields(world):
     page = Page(world, site(world, "two-fields", docs))
     asked = {"installing windows": "135", "windows installing": "135", "inst wind": "135", "the installing of windows": "135", "INSTALLED install windows": "135",
              "install": "1345", "installing summer": "", "doors wind": "5", "doors folder": "", "installing xylophone": ""}
-    for told in page.ask(list(asked)):
-        count = len(asked[told["text"]])
-        must(sorted(told["refs"]) == list(asked[told["text"]]), told)
-        must(told["status"] == (f"{count} pages" if count > 1 else "1 page" if count else "No page has all of this."), told)
+    for shown in page.ask(list(asked)):
+        count = len(asked[shown["text"]])
+        must(sorted(shown["refs"]) == list(asked[shown["text"]]), shown)
+        must(shown["status"] == (f"{count} pages" if count > 1 else "1 page" if count else "No page has all of this."), shown)
     page.all("input[value=OR]")[0].click()
-    must([sorted(told["refs"]) for told in page.ask(["installing summer", "doors folder"])] == [list("12345"), list("145")], "any word")
+    must([sorted(shown["refs"]) for shown in page.ask(["installing summer", "doors folder"])] == [list("12345"), list("145")], "any word")
 
 
 def tokens(texts):
@@ -28,17 +28,17 @@ def tokens(texts):
 
 
 def queries(sections, number):
-    """Words of titles with words of texts, of one section or of two, some of them cut short."""
-    chance = random.Random(20261126)
+    """Random words of titles with words of texts, of one section or of two, some of them cut short."""
+    rng = random.Random(20261126)
     for at in range(number):
-        _, title, text = chance.choice(sections)
-        _, _, other = chance.choice(sections)
-        words = [chance.choice(title.split()), chance.choice(text.split()), chance.choice((text if at % 2 else other).split())]
-        yield " ".join(word[: chance.choice([3, 4, 20])] for word in words[: chance.choice([2, 3])])
+        _, title, text = rng.choice(sections)
+        _, _, other = rng.choice(sections)
+        words = [rng.choice(title.split()), rng.choice(text.split()), rng.choice((text if at % 2 else other).split())]
+        yield " ".join(word[: rng.choice([3, 4, 20])] for word in words[: rng.choice([2, 3])])
 
 
 def in_book(world):
-    """Holds what is found to the model's tokens of each section, and its order to that of elasticlunr.js with OR."""
+    """What the page finds follows from the model's tokens of each section, and its order is that of elasticlunr.js with OR."""
     sections = browser_book.book()
     held = {ref: tokens(texts) for ref, *texts in sections}
     asked = list(queries(sections, 60))
@@ -46,11 +46,11 @@ def in_book(world):
     orders = world.call(["elasticlunr-languages.js"], "search", "book.json", asked, {"expand": True})
     page = Page(world, site(world, "book-anywhere", sections))
     several = 0
-    for told, order in zip(page.ask(asked), orders):
-        starts = tokens([told["text"]])
+    for shown, order in zip(page.ask(asked), orders):
+        starts = tokens([shown["text"]])
         expected = {ref for ref in held if starts and all(any(token.startswith(start) for token in held[ref]) for start in starts)}
-        must(told["refs"] == [ref for ref in order if ref in expected][:SHOWN], [told["text"], told["refs"], sorted(expected)])
-        must(not expected or told["status"].startswith(f"{len(expected)} page"), told)
+        must(shown["refs"] == [ref for ref in order if ref in expected][:SHOWN], [shown["text"], shown["refs"], sorted(expected)])
+        must(not expected or shown["status"].startswith(f"{len(expected)} page"), shown)
         several += len(expected) > 1
     must(several > 20, several)
     return f"{len(asked)} queries, {several} with several pages"
@@ -60,7 +60,7 @@ def titles(world):
     sections = browser_book.book()[::5]
     page = Page(world, site(world, "book-titles", browser_book.book()))
     by_ref = {ref: title for ref, title, _ in sections}
-    wrong = [told for told, ref in zip(page.ask(list(by_ref.values())), by_ref) if told["refs"][0] != ref]
+    wrong = [shown for shown, ref in zip(page.ask(list(by_ref.values())), by_ref) if shown["refs"][0] != ref]
     must(not wrong, wrong[:3])
 
 
@@ -75,9 +75,9 @@ def names_of_properties(world):
     page = Page(world, name)
     by_title = {title: href.rsplit("/", 1)[1] for title, href in zip(*(page.type("same") or page.titles(), page.script("Array.from(document.querySelectorAll('#results a'), (link) => link.href)")))}
     must(by_title == {f"Notes on {name}": "proto.html" if name == "__proto__" else name for name in NAMES} | {"Notes": "plain.html"}, by_title)
-    told = {told["text"]: told for told in page.ask(["constructor", "same constr", "notes tostring"])}
-    must(sorted(told["constructor"]["refs"]) == ["constructor", "plain.html"] and told["constructor"]["marks"] == 2, told)
-    must(sorted(told["same constr"]["refs"]) == ["constructor", "plain.html"] and told["notes tostring"]["refs"] == ["toString"], told)
+    shown = {shown["text"]: shown for shown in page.ask(["constructor", "same constr", "notes tostring"])}
+    must(sorted(shown["constructor"]["refs"]) == ["constructor", "plain.html"] and shown["constructor"]["marks"] == 2, shown)
+    must(sorted(shown["same constr"]["refs"]) == ["constructor", "plain.html"] and shown["notes tostring"]["refs"] == ["toString"], shown)
 
 
 def other_values(world):

@@ -1,25 +1,26 @@
 """The cases of how fast the page answers a key press.
 
-Each press is timed inside the page by performance.now(): the search, all that it draws, and the layout, but not the delay before
-a search. The choice is what starts it, which searches at once. Where the machine is busy, what counts in its place is the time
-that the browser's main thread ran meanwhile, by Chromium's own metrics; of several presses the median counts.
+Each press is timed inside the page by performance.now(): the search, everything that it draws, and the layout, but not the
+delay before a search. A change of the choice starts the search, because that searches at once. Where the machine is busy, the
+time counts instead that the browser's main thread ran, by Chromium's own metrics. The median of several presses counts.
 """
 import json
 import os
 import random
 import statistics
 
-from browser_page import Page, must, site
+from tests.browser_page import Page, site
+from tests.browser_tools import must
 
-BOUND = 50  # milliseconds of a key press
+BOUND = 50  # milliseconds that a key press may take
 SYLLABLES = "ba de fi go lu ma ne pi ro su ta ve wi ko za tri sta plo gre".split()
 
 
 def long_texts(pages, size):
-    chance = random.Random(20261126)
-    words = ["".join(chance.choice(SYLLABLES) for _ in range(chance.randint(1, 4))) for _ in range(8000)]
+    rng = random.Random(20261126)
+    words = ["".join(rng.choice(SYLLABLES) for _ in range(rng.randint(1, 4))) for _ in range(8000)]
     for number in range(pages):
-        chosen = [words[int(chance.random() ** 2 * len(words))] + chance.choice(["", "", "", ",", "."]) for _ in range(size)]
+        chosen = [words[int(rng.random() ** 2 * len(words))] + rng.choice(["", "", "", ",", "."]) for _ in range(size)]
         yield [f"{number}.html", f"Words of page {number}", " ".join(chosen + ["zebra"])]
 
 
@@ -35,26 +36,26 @@ def thread_time(page):
 
 
 def timed(page, texts):
-    """For each text what the page shows, with the milliseconds by the clock and of the thread."""
+    """For each text what the page shows, with the milliseconds by the clock and those of the thread."""
     page.driver.execute_cdp_cmd("Performance.enable", {"timeDomain": "threadTicks"})
     for text in texts:
         before = thread_time(page)
-        told = page.ask([text])[0]
-        yield {**told, "thread": thread_time(page) - before}
+        shown = page.ask([text])[0]
+        yield {**shown, "thread": thread_time(page) - before}
 
 
 def in_time(page, texts):
-    told = list(timed(page, texts))
-    clock = statistics.median(press["milliseconds"] for press in told)
-    thread = statistics.median(press["thread"] for press in told)
-    must(min(clock, thread) < BOUND, [[press["text"], round(press["milliseconds"]), round(press["thread"])] for press in told])
-    return told, f"{clock:.0f} ms by the clock, {thread:.0f} ms of the thread (medians of {len(told)} key presses)"
+    shown = list(timed(page, texts))
+    clock = statistics.median(press["milliseconds"] for press in shown)
+    thread = statistics.median(press["thread"] for press in shown)
+    must(min(clock, thread) < BOUND, [[press["text"], round(press["milliseconds"]), round(press["thread"])] for press in shown])
+    return shown, f"{clock:.0f} ms by the clock, {thread:.0f} ms of the thread (medians of {len(shown)} key presses)"
 
 
 def of_long_texts(world):
     page = Page(world, long_site(world))
-    told, figures = in_time(page, ["b", "ba", "bad", "bade", "bade f", "bade fi", "w", "wo", "wor", "word", "words p", "words pa", "trista", "trista gre"])
-    must([len(press["refs"]) for press in told] == [20] * len(told) and all(press["marks"] >= 20 for press in told), told)
+    shown, figures = in_time(page, ["b", "ba", "bad", "bade", "bade f", "bade fi", "w", "wo", "wor", "word", "words p", "words pa", "trista", "trista gre"])
+    must([len(press["refs"]) for press in shown] == [20] * len(shown) and all(press["marks"] >= 20 for press in shown), shown)
     return figures
 
 
@@ -69,7 +70,7 @@ WHILE_DRAWN = f"""(() => {{
 
 
 def in_parts(world):
-    """A word at the end of each text, looked for while nothing is cut: the page draws in parts, and a new search ends the drawing."""
+    """The page finds a word at the end of each long text, draws the results in parts, and a new search stops the drawing."""
     page = Page(world, long_site(world))
     drawn, is_busy = page.script(WHILE_DRAWN)
     must(drawn < 20 and is_busy == "true", [drawn, is_busy])
@@ -82,13 +83,13 @@ DOTS = "." * 40000
 
 
 def of_long_words(world):
-    """Dots between two letters, and one word of a million characters: they are found by a beginning, and shown in part."""
+    """A beginning finds dots between two letters, and one word of a million characters, and the page shows a part of them."""
     docs = [["dots", "Plain", f"a{DOTS}b and x{DOTS}b"], ["word", "Plain", "w" * 1000000], ["title", "T" * 100000, f"-{DOTS} plain"]]
     page = Page(world, site(world, "long-words", docs))
-    told, figures = in_time(page, ["p", "pl", "pla", "plai", "plain", "w", "ww", "www", "x", "x.", "x..", "ttt", "tttt", "ttt plain"])
-    found = {press["text"]: press["refs"] for press in told}
+    shown, figures = in_time(page, ["p", "pl", "pla", "plai", "plain", "w", "ww", "www", "x", "x.", "x..", "ttt", "tttt", "ttt plain"])
+    found = {press["text"]: press["refs"] for press in shown}
     must(len(found["plain"]) == 3 and found["www"] == ["word"] and found["x.."] == ["dots"] and found["tttt"] == found["ttt plain"] == ["title"], found)
-    must(all(press["marks"] for press in told), told)
+    must(all(press["marks"] for press in shown), shown)
     must(page.script("document.getElementById('results').textContent.length") < 2000, "shown whole")
     return figures
 

@@ -1,4 +1,4 @@
-"""What the cases in the browser run on: the programs, a server on this machine alone, and Chromium."""
+"""What the cases in the browser run on: a server on this machine alone, and Chromium; and what they need installed."""
 import functools
 import http.server
 import json
@@ -8,16 +8,17 @@ import subprocess
 import sys
 import threading
 
-TOP = os.path.dirname(os.path.dirname(os.path.abspath(__file__)))
-INDEX = os.path.join(TOP, "crates/elasticlunr_index/out/elasticlunr_index")
-SCRIPT = os.path.join(TOP, "crates/elasticlunr_script/out/elasticlunr_script")
-FETCHED = os.path.join(TOP, "browser/out")
-ELASTICLUNR = os.path.join(FETCHED, "elasticlunr.min.js")
-PARTS = ["search.html", "search.css", "search.js", "elasticlunr-languages.js"]  # of the page, below browser/
-PACKAGES = {"chromium": "chromium", "chromedriver": "chromium-driver", "node": "nodejs"}
+from tools import search_page
+from tools.repository import TOP, printed, write
+
+PACKAGES = {"chromium": "chromium", "chromedriver": "chromium-driver", "node": "nodejs"}  # of Debian, for each program
 SYSTEM_PYTHON = "/usr/bin/python3"
 SECONDS = 120
-POLICY = "policy.txt"  # of a served folder: the Content-Security-Policy of its files
+POLICY = "policy.txt"  # in a served folder: the Content-Security-Policy of its files
+
+
+def must(holds, why):
+    assert holds, why if isinstance(why, str) else json.dumps(why, ensure_ascii=False)
 
 
 def has_selenium(python):
@@ -27,7 +28,7 @@ def has_selenium(python):
 
 
 def install(packages):
-    """Installs Debian's packages where apt is there and may, and says first which and why."""
+    """Installs Debian's packages where there is apt-get and the user is root, and says first which and what for."""
     if not packages or not shutil.which("apt-get") or os.geteuid() != 0:
         return
     print(f"browser_tools.py: installs {', '.join(packages)} by apt-get, to search in a browser and in node", file=sys.stderr, flush=True)
@@ -40,8 +41,8 @@ def install(packages):
 
 
 def prepare():
-    """Installs and fetches what is missing, and names what is missing still. Debian's selenium is for its own Python: where
-    this one has none, the script goes on in that one."""
+    """Installs and downloads what is missing, and names what is still missing. Debian's selenium is for Debian's own Python:
+    where this one has none, the script starts again in that one."""
     missing = [package for tool, package in PACKAGES.items() if not shutil.which(tool)]
     if not has_selenium(sys.executable) and not has_selenium(SYSTEM_PYTHON):
         missing.append("python3-selenium")
@@ -51,23 +52,9 @@ def prepare():
     lacking = {tool for tool in PACKAGES if not shutil.which(tool)}
     if not has_selenium(sys.executable):
         lacking.add("selenium")
-    try:
-        subprocess.run([os.path.join(TOP, "bench/fetch_elasticlunr.sh"), FETCHED], stdout=subprocess.DEVNULL, timeout=SECONDS, check=True)
-    except (subprocess.SubprocessError, OSError):
+    if not search_page.fetch():
         lacking.add("elasticlunr.min.js")
     return lacking
-
-
-def program(path, given):
-    """What a program prints for an input, and its status."""
-    ended = subprocess.run([path], input=given.encode(), stdout=subprocess.PIPE, timeout=SECONDS)
-    return ended.stdout.decode(), ended.returncode
-
-
-def index_of(job):
-    text, status = program(INDEX, json.dumps(job, ensure_ascii=False))
-    assert status == 0, text[:200]
-    return text
 
 
 class Quiet(http.server.SimpleHTTPRequestHandler):
@@ -91,11 +78,11 @@ class World:
         self.driver = None
         self.at = None
         if not lacking & {"elasticlunr.min.js"}:
-            shutil.copy(ELASTICLUNR, folder)
+            shutil.copy(search_page.ELASTICLUNR, folder)
         for name in os.listdir(os.path.join(TOP, "browser")):
             if name.endswith((".js", ".css", ".html")):
                 shutil.copy(os.path.join(TOP, "browser", name), folder)
-        shutil.copy(os.path.join(TOP, "bench/browser_compare.html"), folder)
+        shutil.copy(os.path.join(TOP, "tests", "browser_compare.html"), folder)
         handler = functools.partial(Quiet, directory=folder)
         self.server = http.server.ThreadingHTTPServer(("127.0.0.1", 0), handler)
         self.url = f"http://127.0.0.1:{self.server.server_address[1]}/"
@@ -110,16 +97,12 @@ class World:
         self.server.shutdown()
 
     def write(self, name, text):
-        path = os.path.join(self.folder, name)
-        os.makedirs(os.path.dirname(path), exist_ok=True)
-        with open(path, "w", encoding="utf-8") as file:
-            file.write(text)
-        return name
+        write(os.path.join(self.folder, name), text)
 
     def index(self, name, job):
-        """Writes a job and the index that the program prints of it."""
+        """Writes a job and the index that the program prints for it."""
         self.write(name + ".job.json", json.dumps(job, ensure_ascii=False))
-        self.write(name + ".json", index_of(job))
+        self.write(name + ".json", printed(job))
 
     def browser(self):
         if not self.driver:
@@ -135,7 +118,7 @@ class World:
         return self.driver
 
     def call(self, scripts, function, *words):
-        """What a function of browser_compare.html tells, with these scripts after elasticlunr.min.js; raises what it throws."""
+        """What a function of browser_compare.html returns, with these scripts after elasticlunr.min.js. Raises what it throws."""
         page = self.url + "browser_compare.html?" + "&".join("script=" + name for name in scripts)
         driver = self.browser()
         if self.at != page:
@@ -144,7 +127,7 @@ class World:
         answer = driver.execute_async_script("call(arguments[0], arguments[1], arguments[2])", function, words)
         if "thrown" in answer:
             raise RuntimeError(answer["thrown"])
-        return answer["told"]
+        return answer["returned"]
 
     def open(self, page, url=None):
         self.at = None

@@ -1,15 +1,14 @@
-"""The rows of calls, and what each call promises of memory.
+"""The rows of calls of the library, and what each call promises about memory.
 
-A row of crates/elasticlunr_test_calls/rows.txt is a line that names what its calls are made on, and a line for each
-call: `CALL -> ANSWER`. An empty line ends it.
+A row of crates/elasticlunr_test_calls/rows.txt is a line that names what its calls are made on, and a line for each call:
+`CALL -> ANSWER`. An empty line ends it.
 """
 import json
-import os
 from typing import NamedTuple
 
-from running import TOP
+from tools.repository import read
 
-TABLE = os.path.join(TOP, "crates/elasticlunr_test_calls/rows.txt")
+TABLE = "crates/elasticlunr_test_calls/rows.txt"
 # how many rows and calls the table has
 ROWS = 141
 CALLS = 1328
@@ -39,14 +38,13 @@ def rows_of(text):
 
 
 def table():
-    with open(TABLE, encoding="utf-8") as file:
-        return rows_of(file.read())
+    return rows_of(read(TABLE))
 
 
-# What stands for a call in a row, and is no call of the library.
+# Lines of a row that prepare calls, and are no calls of the library.
 PREPARING = {"swap", "give", "script", "EnglishTrimmer", "EnglishStemmer", "ArabicStemmer", "Keep"}
 
-# What a call answers where memory is refused; None: it requests none.
+# What a call answers where memory is refused. None: the call does not allocate.
 TRIE = {"new": None, "from_value": MEMORY, "compacted": MEMORY, "eq": None, "add_token": MEMORY, "add_tokens": MEMORY,
         "remove_token": None, "remove_doc": None, "has_token": None, "get_docs": MEMORY, "get_doc_frequency": None, "get_term_frequency": None,
         "has_posting": None, "references": MEMORY, "to_value": MEMORY}
@@ -69,12 +67,12 @@ INDEX = {"add_doc": MEMORY, "remove_doc": None, "compact": MEMORY, "get_fields":
          "to_json": MEMORY, "to_json_pretty": MEMORY, "document_store": None, "inverted_index": None, "get_docs": MEMORY,
          "has_token": None, "get_term_frequency": None}
 
-# What a row begins with: the promises of its calls, and the call that tells what stands.
+# What a row begins with: the promises of its calls, and the call that shows the state.
 SUBJECTS = {"InvertedIndex": (TRIE, '["to_value"]'), "DocumentStore": (STORE, '["to_value"]'),
             "SearchOptions": (OPTIONS, '["to_value"]'), "functions": (FUNCTIONS, None),
             "Pipeline": (STAGES, '["names"]'), "Index": ({**BUILDER, **INDEX}, '["to_json"]')}
 
-# The last stage: what its filter and its clone answer where memory is refused.
+# What the filter and the clone of the last stage answer where memory is refused.
 FILTERS = {"EnglishTrimmer": None, "EnglishStemmer": None, "ArabicStemmer": None, "Keep": None,
            "StopWordFilter::new": None, "RegexTrimmer::new": None, "RegexTrimmer::of_scripts": None}
 CLONES = {"StopWordFilter::new": MEMORY, "RegexTrimmer::new": MEMORY, "RegexTrimmer::of_scripts": MEMORY}
@@ -89,7 +87,7 @@ def texts_of(call):
 
 
 def promise(row, number):
-    """The name of a call of a row by what it is made on, and what it answers where memory is refused."""
+    """The name of a call of a row, with what it is made on, and what it answers where memory is refused."""
     call = name_of(row.calls[number])
     kind = row.kind().split(" ")[0]
     if call in ("filter", "Stage::filter", "clone") and kind == "Pipeline":
@@ -98,7 +96,7 @@ def promise(row, number):
     promises, _ = SUBJECTS.get(kind, (LANGUAGE, None))
     if (kind, call) == ("InvertedIndex", "add_token") and texts_of(row.calls[number])[1] == "":
         return f"{kind} {call} of the empty token", None
-    # every language is called by its own type
+    # each language has its own type
     return f"{row.kind() if promises is LANGUAGE else kind} {call}", promises[call]
 
 

@@ -3,39 +3,34 @@
 
 usage: check_jobs.py [TABLE]
 
-A line of the table is an object: `job`, the text of the input (or `job_hex`, its bytes), `out`,
-what must be printed, and `status`, what the program must end with. Nothing may come on the error
-stream. How many lines the table has stands beside it, in TABLE.rows: a table that was cut short is a
-failure, and so is an empty one.
+A line of the table is an object: `job`, the text of the input (or `job_hex`, its bytes), `out`, what the program must print,
+and `status`, what it must end with. Nothing may be written to standard error. The number of the table's lines is in
+TABLE.rows: a table that was cut short is a failure, and so is an empty one.
 """
 import os
 import sys
 
-from running import TOP, program, run, told
-from tables import JOBS, jobs, rows_missing
+sys.path.insert(0, os.path.join(os.path.dirname(__file__), ".."))
+
+from tests.report import Results
+from tests.tables import JOBS, jobs, rows_missing
+from tools.repository import TOP, program, run
 
 PROGRAM = program("elasticlunr_index")
-SHOWN = 10  # wrong rows that have a line; the others are counted
+SHOWN = 10  # failures that are printed
 
 
 def main():
     table = sys.argv[1] if len(sys.argv) > 1 else JOBS
-    passed = 0
-    failed = 0
+    results = Results("jobs", most=SHOWN)
     missing = rows_missing(table)
     if missing:
-        failed += 1
-        print(f"jobs: {os.path.relpath(table, TOP)}: {missing}")
+        results.note(False, f"jobs: {os.path.relpath(table, TOP)}: {missing}")
     for number, job in enumerate(jobs(table), 1):
         ended = run([PROGRAM], job.given)
-        if (ended.out, ended.status, ended.err) == (job.out, job.status, b""):
-            passed += 1
-        else:
-            failed += 1
-            if failed > SHOWN:
-                continue
-            print(f"job {number}: status {ended.status} in place of {job.status}, or another text")
-    return told("jobs", passed, failed)
+        good = (ended.out, ended.status, ended.err) == (job.out, job.status, b"")
+        results.note(good, f"job {number}: status {ended.status} instead of {job.status}, or another text")
+    return results.report()
 
 
 if __name__ == "__main__":

@@ -1,48 +1,44 @@
 #!/usr/bin/env python3
-"""Takes the blocks out of README.md, and holds each to what is proved or runs it, as it stands.
+"""Compares the blocks of README.md with what is proved, or runs them.
 
 usage: check_readme.py [README]
 
-- README gives lines of crates.txt, each of a crate that has one file of Rust. The blocks of Rust are
-  these files, in their order and byte for byte, and a block of proofs after one is the file of
-  that crate whose path it begins with: so `rt ci`, which proves every crate, has proved the blocks.
-  Such a crate holds nothing else. A block of Rust that is a file of the crate of uses, letter for
-  letter, is a use, and counts as none of these.
-- Each command of a block of shell is run at the top of the repository and must end well. `make test`,
-  of which this is a part, and `make compare` are only looked up, by `make -n`, and so is `make try` for
-  a README that is not the repository's own.
-- The logic that README names is that of the kit here (`rt version`), whose name differs from machine to
+- README gives lines of crates.txt, each of a crate that has one file of Rust. The blocks of Rust are these files, in their
+  order and byte for byte. A block of proofs after one is the file of that crate whose path the block begins with. Such a
+  crate has no other files. So `rt ci`, which proves every crate, has proved the blocks. A block of Rust that is a file of
+  the crate elasticlunr_uses, byte for byte, is a use, and belongs to no line of crates.txt.
+- Each command of a block of shell runs at the top of the repository and must end well. `make test`, which runs this check,
+  and `make compare` are only tried by `make -n`, and so is `make try` for a README that is not the repository's own.
+- The logic that README names is that of the kit here (`rt version`). The rest of the kit's name differs from machine to
   machine.
-- Each job in JSON must be answered by the built program as the definitions say (model.py).
+- The built program must answer each job in JSON as the definitions say (model.py).
 
-A block of another kind is for another check or none: it is named.
+Blocks of other kinds are not tried, and are named.
 """
 import os
 import re
 import sys
 
-import model
-import room
-from running import TOP, program, run, told
+sys.path.insert(0, os.path.join(os.path.dirname(__file__), ".."))
+
+from tests import model
+from tests.report import Results
+from tools import workspace
+from tools.repository import TOP, lines_of, program, read, run
 
 README = os.path.join(TOP, "README.md")
 PROGRAM = program("elasticlunr_index")
 USES = os.path.join(TOP, "crates", "elasticlunr_uses", "src")
 LONG = re.compile(r"make (test|compare)\b")
-ONCE = re.compile(r"make try\b")  # takes up to a minute: run for the page itself, and only looked up for another one
-FETCHES = re.compile(r"bench/fetch_")  # needs a network: tried by bench/browser.py
-MINUTES = 15  # that a command may take
+SLOW = re.compile(r"make try\b")  # takes up to a minute
+DOWNLOADS = re.compile(r"tools/fetch_")  # tests/browser.py runs it
+MINUTES = 15  # the time limit of a command
 LOGIC = re.compile(r"`logic ([0-9a-f]{16})`")
 KINDS = ("rust", "antt", "console", "json", "text")
 
 
-def content(path):
-    with open(path, encoding="utf-8") as file:
-        return file.read()
-
-
 def blocks(text):
-    """The kind, the first line's number and the text of each block."""
+    """The kind, the number of the first line, and the text of each block."""
     for block in re.finditer(r"^```(\S*)\n(.*?)^```$", text, re.DOTALL | re.MULTILINE):
         yield block[1], text.count("\n", 0, block.start()) + 2, block[2]
 
@@ -54,12 +50,12 @@ def crate_lines(found):
 
 
 def texts_of_uses():
-    """What the files of the crate of uses hold."""
-    return [content(os.path.join(USES, name)) for name in sorted(os.listdir(USES))]
+    """The texts of the files of elasticlunr_uses."""
+    return [read(os.path.join(USES, name)) for name in sorted(os.listdir(USES))]
 
 
 def files_of_rust(found):
-    """Each block of Rust with the blocks of proofs that follow it, by their paths in the crate."""
+    """For each block of Rust the texts of its crate by their paths: the block, and the blocks of proofs that follow it."""
     crates = []
     for kind, line, text in found:
         if kind == "rust":
@@ -71,24 +67,19 @@ def files_of_rust(found):
 
 
 def files_of_crate(name):
-    """What a crate of the repository holds that `rt` reads."""
+    """The texts of a crate of the repository by their paths."""
     at = os.path.join(TOP, "crates", name)
-    texts = {}
-    for part in room.PARTS:
-        for folder, _, names in os.walk(os.path.join(at, part)):
-            for path in (os.path.join(folder, it) for it in names):
-                texts[os.path.relpath(path, at)] = content(path)
-    return texts
+    return {os.path.relpath(path, at): read(path) for path in workspace.files(name)}
 
 
 def why_not_a_crate(line_of_crate, texts):
     """Why these texts are not a crate of the repository, or None."""
     name = line_of_crate.partition(":")[0]
-    if line_of_crate not in content(os.path.join(TOP, "crates.txt")).splitlines():
+    if line_of_crate + "\n" not in lines_of("crates.txt"):
         return f"crates.txt has no line `{line_of_crate}`"
     held = files_of_crate(name)
     if set(held) != set(texts):
-        return f"crates/{name} holds {sorted(held)} in place of {sorted(texts)}"
+        return f"crates/{name} has {sorted(held)} instead of {sorted(texts)}"
     other = [path for path in texts if texts[path] != held[path]]
     return f"crates/{name}/{other[0]} is another text" if other else None
 
@@ -102,9 +93,9 @@ def why_not_the_kit(text):
 
 
 def why_not_run(command, is_page):
-    if FETCHES.match(command):
+    if DOWNLOADS.match(command):
         return None if os.access(os.path.join(TOP, command.split()[0]), os.X_OK) else "there is no such script"
-    if not LONG.match(command) and (is_page or not ONCE.match(command)):
+    if not LONG.match(command) and (is_page or not SLOW.match(command)):
         ended = run(["sh", "-c", command], seconds=60 * MINUTES, cwd=TOP)
         return None if ended.status == 0 else f"status {ended.status}: {ended.err.decode(errors='replace')[-500:]}"
     ended = run(["sh", "-c", command.replace("make", "make -n", 1)], cwd=TOP)
@@ -124,8 +115,8 @@ def commands(text):
 
 
 def tried(path):
-    """The name of each block, or of a part of one, and why it doesn't stand."""
-    text = content(path)
+    """The name of each block, or of a part of one, and why it is wrong, or None."""
+    text = read(path)
     found = list(blocks(text))
     yield "the kit", why_not_the_kit(text)
     uses = texts_of_uses()
@@ -153,14 +144,10 @@ def tried(path):
 
 
 def main():
-    passed = 0
-    failed = 0
+    results = Results("readme")
     for name, wrong in tried(sys.argv[1] if len(sys.argv) > 1 else README):
-        passed += wrong is None
-        failed += wrong is not None
-        if wrong is not None:
-            print(f"README.md, {name}: {wrong}")
-    return told("readme", passed, failed)
+        results.note(wrong is None, f"README.md, {name}: {wrong}")
+    return results.report()
 
 
 if __name__ == "__main__":

@@ -1,12 +1,14 @@
 #!/usr/bin/env python3
-"""Runs the checks of bench/ on the built programs, side by side, and says how each ended.
+"""Runs the checks of this folder on the built programs, several at a time, and says how each ended.
 
 usage: checks.py LOG
 
-There are as many lanes as processors. What a check says is shown once it has ended, with its seconds,
-and goes to the log; that it installs or downloads something is shown at once. The checks of one group
-follow one another: they may install packages, or need what one before them installed. The last line of
-a check counts what it tried. One that has no such line fails, and one that tried less than LEAST says.
+As many groups of checks run at a time as there are processors. The checks of one group run one after another, because they
+install packages, need what an earlier one installed, or write the same files. What a check prints is shown once it has ended, with its seconds,
+and goes to the log; that it installs or downloads something is shown at once. What failed is said once more at the end.
+
+The last line of a check counts what it tried. A check without such a line fails, and so does one that tried fewer than
+LEAST has.
 """
 import os
 import re
@@ -15,28 +17,31 @@ import sys
 import threading
 import time
 from concurrent.futures import ThreadPoolExecutor
+from typing import NamedTuple
 
-from running import HERE
+sys.path.insert(0, os.path.join(os.path.dirname(__file__), ".."))
 
-# those that take longest come first; words after a name are its arguments
+from tests.report import FAILED
+from tools.repository import TOP
+
+# The check that takes longest comes first. Words after a name are its arguments.
 GROUPS = [
     ["compare_search", "browser", "forgeries compare_search browser"],
-    ["compare_by_chance"],
+    ["compare_random"],
     ["refuse_memory"],
     ["refuse_calls"],
-    ["forgeries"],
+    ["check_readme", "forgeries"],
     ["long_inputs"],
-    ["check_readme"],
     ["command"],
     ["check_jobs"],
     ["check_gate"],
 ]
-# How much each must try, what it skips included; one that can try nothing at all, and says so, may.
+# How much each check must try, with what it skips. A check that can try nothing here, and says so, is no failure.
 LEAST = {
     "compare_search": 900,
     "browser": 170,
     "forgeries compare_search browser": 11,
-    "compare_by_chance": 13_000,
+    "compare_random": 13_000,
     "refuse_memory": 2_000,
     "refuse_calls": 140,
     "forgeries": 55,
@@ -48,10 +53,26 @@ LEAST = {
 }
 COUNT = re.compile(r"^(?:[a-z]+: )?(\d+) passed, (\d+) failed(?:, (\d+) skipped)?$")
 AT_ONCE = re.compile(r"^\S+: (installs|downloads) ")
+WHAT_FAILED = "What failed:"
+MOST = 30  # lines that say what failed
+LAST = 3  # lines of a check that broke off
+WIDTH = 240  # characters of such a line
 shown = threading.Lock()
 
 
-def tell(lines, log):
+class Failure(NamedTuple):
+    title: str
+    reasons: list  # lines that say what is wrong
+
+
+def what_failed(failures):
+    """The lines that say what failed: for each failure its title and its first reasons."""
+    each = MOST // len(failures) - 1 if failures else 0
+    lines = [line[:WIDTH] for title, reasons in failures for line in (f"  {title}", *(f"    {it}" for it in reasons[: max(each, 0)]))]
+    return [WHAT_FAILED, *lines[:MOST]] if failures else []
+
+
+def show(lines, log):
     with shown:
         print("\n".join(lines), flush=True)
         log.write("\n".join(lines) + "\n")
@@ -59,38 +80,42 @@ def tell(lines, log):
 
 
 def why_failed(words, status, last):
-    """What is said of a check that failed, with a count of its own where it gave none; nothing of one that passed."""
+    """What is said of a check that failed, with a count where it gave none. Nothing where it passed."""
     count = COUNT.match(last)
     if not count:
         return ["0 passed, 1 failed", f"  {words} FAILED: it broke off"]
     passed, failed, skipped = (int(it or 0) for it in count.groups())
-    least = LEAST[words]
-    if passed + failed + skipped < least and (passed or failed or not skipped):
-        return ["0 passed, 1 failed", f"  {words} FAILED: it tried {passed + failed + skipped}, and {least} are the least"]
+    tried, least = passed + failed + skipped, LEAST[words]
+    if tried < least and (passed or failed or not skipped):
+        return ["0 passed, 1 failed", f"  {words} FAILED: it tried {tried}, and {least} are the least"]
     return [f"  {words} FAILED"] if status or failed else []
 
 
 def check(words, log):
-    """Whether a check passes."""
+    """Runs a check. Its failure, or None where it passed."""
     begun = time.monotonic()
     name, *arguments = words.split()
     lines = []
-    command = [sys.executable, os.path.join(HERE, name + ".py"), *arguments]
+    command = [sys.executable, os.path.join(TOP, "tests", name + ".py"), *arguments]
     with subprocess.Popen(command, stdout=subprocess.PIPE, stderr=subprocess.STDOUT, text=True, errors="replace") as running:
         for line in running.stdout:
             if AT_ONCE.match(line):
-                tell([line.rstrip("\n")], log)
+                show([line.rstrip("\n")], log)
             else:
                 lines.append(line.rstrip("\n"))
     wrong = why_failed(words, running.returncode, lines[-1] if lines else "")
-    tell([*lines, *wrong, f"  {words} ({time.monotonic() - begun:.0f} s)"], log)
-    return not wrong
+    show([*lines, *wrong, f"  {words} ({time.monotonic() - begun:.0f} s)"], log)
+    reasons = [line.removeprefix(FAILED) for line in lines if line.startswith(FAILED)] or lines[-LAST:]
+    return Failure(wrong[-1].strip(), reasons) if wrong else None
 
 
 def main():
     with open(sys.argv[1], "a", encoding="utf-8") as log, ThreadPoolExecutor(len(os.sched_getaffinity(0))) as lanes:
-        passed = lanes.map(lambda group: [check(words, log) for words in group], GROUPS)
-        return 0 if all(all(group) for group in list(passed)) else 1
+        groups = lanes.map(lambda group: [check(words, log) for words in group], GROUPS)
+        failures = [it for group in groups for it in group if it]
+        if failures:
+            show(what_failed(failures), log)
+    return 1 if failures else 0
 
 
 if __name__ == "__main__":

@@ -1,7 +1,9 @@
-/* Loaded before the C library: counts the requests for memory of each call that the program makes, and refuses the one
-   whose number stands in REFUSE_REQUEST, counting from 1. The program writes a call right before it makes it, and ` -> `
-   right after: the requests between the two are the call's own. The file that COUNT_FILE names gets a line for each call:
-   the number of the last request before it, and of the last one by its end. It belongs to no crate. */
+/* Counts the requests for memory of each call that a program makes, and refuses the one whose number REFUSED_REQUEST has,
+   counting from 1. It is loaded before the C library, and belongs to no crate.
+
+   The program writes a call right before it makes it, and ` -> ` right after: the requests between the two are the call's own.
+   The file that COUNTS_FILE names gets a line for each call: the number of the last request before it, and that of the last
+   request by its end. */
 #include "requests.h"
 #include <stdio.h>
 #include <string.h>
@@ -9,7 +11,7 @@
 
 #define MOST_CALLS 4096
 
-static long at_write; /* how many there were at the last write to standard output */
+static long at_write; /* how many requests there were at the last write to standard output */
 static long before[MOST_CALLS], by_end[MOST_CALLS];
 static int calls;
 
@@ -31,7 +33,7 @@ ssize_t write(int file, const void *bytes, size_t count)
 
 __attribute__((destructor)) static void write_counts(void)
 {
-    const char *name = getenv("COUNT_FILE");
+    const char *name = getenv("COUNTS_FILE");
     FILE *file = name ? fopen(name, "w") : NULL;
     if (file) {
         for (int call = 0; call < calls; call++)

@@ -1,12 +1,11 @@
 #!/usr/bin/env python3
-"""Runs the built programs on long inputs, checks what they print, and says time and memory.
+"""Runs the built programs on long inputs, checks what they print, and says how much time and memory they took.
 
 usage: long_inputs.py [WORD ..]
 
-The machine's stack is held to 256 KB, so that a depth of the input or of a trie that went over
-to the stack would end the program. A search of a printed index may take TIMES the memory of its
-text: one that reads the text into a value of JSON first takes more. With words, only what has one
-of them in its name is run.
+The stack is limited to 256 KB. A program that recurses over the depth of the input or of a trie crashes then. A search of a
+printed index may take TIMES the memory of its text: one that first reads the text into a JSON value takes more. With words,
+only the inputs are tried that have one of them in their names.
 """
 import json
 import math
@@ -14,8 +13,11 @@ import os
 import sys
 import tempfile
 
-from measure import measured
-from running import program, told
+sys.path.insert(0, os.path.join(os.path.dirname(__file__), ".."))
+
+from bench.measure import measured
+from tests.report import Results, is_asked
+from tools.repository import program, write
 
 PROGRAM = program("elasticlunr_index")
 COMMAND = program("elasticlunr_cli")
@@ -27,7 +29,7 @@ POSTED = '{"df":1,"docs":{"1":{"tf":1000000}}}'
 
 
 def distinct(number):
-    """A word of seven letters for each number, without an ending that a stemmer would touch."""
+    """A word of seven letters for each number, without an ending that the stemmer would change."""
     letters = []
     for _ in range(6):
         letters.append("bcdfghjkmn"[number % 10])
@@ -72,36 +74,51 @@ def deep_text(depth):
 
 def run(job, folder):
     """Runs the program on a job: what it printed, and its status, seconds and megabytes."""
-    asked = os.path.join(folder, "job.json")
-    answered = os.path.join(folder, "index.json")
-    with open(asked, "w", encoding="utf-8") as file:
-        file.write(job)
-    ended = measured([PROGRAM], asked, answered, stack=STACK)
-    with open(answered, encoding="utf-8", errors="replace") as file:
+    job_path = write(os.path.join(folder, "job.json"), job)
+    index_path = os.path.join(folder, "index.json")
+    ended = measured([PROGRAM], job_path, index_path, stack=STACK)
+    with open(index_path, encoding="utf-8", errors="replace") as file:
         return file.read(), ended
 
 
-def check_search(folder):
-    """Whether a search of an index of some megabytes finds what it must, within its memory; and what there is to say."""
+def figures(ended):
+    return f"{ended.seconds:.2f} s, {ended.megabytes} MB at most"
+
+
+def check_input(name, status, job, is_right, folder, results):
+    out, ended = run(job, folder)
+    said = f"long input, {name}: {len(job) / 1e6:.1f} MB in, {len(out) / 1e6:.1f} MB out, {figures(ended)}"
+    good = ended.status == status and is_right(out)
+    results.note(good, f"{said}: status {ended.status}, or another text")
+    if good:
+        print(said, flush=True)
+
+
+def check_search(folder, results):
+    """Whether a search of an index of some megabytes finds what it must, within its memory."""
     words = [[distinct(page * place % DISTINCT) for place in range(1, WORDS + 1)] for page in range(1, PAGES + 1)]
     docs = [[f"page/{number:04}.html", " ".join(body)] for number, body in enumerate(words)]
     _, ended = run(json.dumps({"fields": ["body"], "docs": docs}), folder)
     index, lines = os.path.join(folder, "index.json"), os.path.join(folder, "found")
     megabytes = os.path.getsize(index) / 1e6
     if ended.status != 0 or megabytes < LEAST:
-        return False, f"no index of {LEAST} MB"
-    asked = words[-1][WORDS // 2]
-    wanted = "".join(f"{doc[0]}\n" for doc, body in zip(docs, words) if asked in body)
-    ended = measured([COMMAND, "search", index, asked], os.devnull, lines, stack=STACK)
+        results.note(False, f"long input, a search: no index of {LEAST} MB: status {ended.status}, {megabytes:.1f} MB")
+        return
+    query = words[-1][WORDS // 2]
+    wanted = "".join(f"{doc[0]}\n" for doc, body in zip(docs, words) if query in body)
+    ended = measured([COMMAND, "search", index, query], os.devnull, lines, stack=STACK)
     with open(lines, encoding="utf-8", errors="replace") as file:
-        right = ended.status == 0 and file.read() == wanted
+        is_right = ended.status == 0 and file.read() == wanted
     most = round(TIMES * megabytes)
-    said = f"{megabytes:.1f} MB of an index, {wanted.count('page')} found, {ended.seconds:.2f} s, {ended.megabytes} MB at most, and {most} are the most"
-    return right and ended.megabytes <= most, said if right else f"status {ended.status}, or another text"
+    said = f"long input, a search: {megabytes:.1f} MB of an index, {wanted.count('page')} found, {figures(ended)}, and {most} are the most"
+    good = is_right and ended.megabytes <= most
+    results.note(good, said if is_right else f"long input, a search: status {ended.status}, or another text")
+    if good:
+        print(said, flush=True)
 
 
 def main():
-    is_asked = lambda name: len(sys.argv) < 2 or any(word in name for word in sys.argv[1:])
+    results = Results("long")
     cases = [
         ("10 MB of one word", 0, one_word(2_000_000)),
         ("100,000 distinct words", 0, many_words(100_000)),
@@ -111,27 +128,13 @@ def main():
         ("50 MB of documents", 0, many_documents(3_000, 2_080)),
         ("1,000,000 brackets", 2, deep_text(500_000)),
     ]
-    passed = failed = 0
-    folder = tempfile.TemporaryDirectory()
-    for name, status, (job, is_right) in cases:
-        if not is_asked(name):
-            continue
-        out, ended = run(job, folder.name)
-        right = ended.status == status and is_right(out)
-        passed += right
-        failed += not right
-        print(
-            f"long input, {name}: {len(job) / 1e6:.1f} MB in, {len(out) / 1e6:.1f} MB out, {ended.seconds:.2f} s,"
-            f" {ended.megabytes} MB at most" + ("" if right else f": status {ended.status}, or another text"),
-            flush=True,
-        )
-    if is_asked("a search"):
-        good, said = check_search(folder.name)
-        passed += good
-        failed += not good
-        print(f"long input, a search: {said}", flush=True)
-    folder.cleanup()
-    return told("long", passed, failed)
+    with tempfile.TemporaryDirectory() as folder:
+        for name, status, (job, is_right) in cases:
+            if is_asked(name):
+                check_input(name, status, job, is_right, folder, results)
+        if is_asked("a search"):
+            check_search(folder, results)
+    return results.report()
 
 
 if __name__ == "__main__":

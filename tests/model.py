@@ -1,17 +1,17 @@
-"""What the program must answer to an input, worked out from the definitions (docs/DEFINITIONS.md).
+"""What the program must answer to an input, computed from the definitions (docs/DEFINITIONS.md).
 
-An index is told from the whole list of commands, by sets and maps, with no trie and no earlier
-state. It is slow and short, to be read beside the definitions; model_tokens.py has the tokens.
+An index follows from the whole list of commands, by sets and maps, with no trie and no earlier state. The model is slow and
+short, to be read next to the definitions; model_tokens.py has the tokens.
 """
 import json
 import math
 from typing import NamedTuple, Optional
 
-from model_tokens import LANGUAGES, stages, tokens
+from tests.model_tokens import LANGUAGES, stages, tokens
 
 VERSION = "0.9.5"
 
-# Indexes: a list of commands is read as a whole
+# Indexes
 
 
 class Add(NamedTuple):
@@ -29,7 +29,7 @@ class Compact(NamedTuple):
 
 
 def current(commands):
-    """The current document of each reference: the last that was added for it, if no removal came after that."""
+    """The current document of each reference: the last that was added for it, unless a removal came after that."""
     last = {command.ref: command for command in commands if not isinstance(command, Compact)}
     return {ref: command for ref, command in last.items() if isinstance(command, Add)}
 
@@ -47,7 +47,7 @@ def root(count):
 
 
 def postings(commands, field):
-    """For each token the root of how often it stands in the current document of a reference."""
+    """For each token and reference the square root of how often the reference's current document has the token."""
     found = {}
     for ref, doc in current(commands).items():
         for token in set(doc.tokens.get(field, [])) - {""}:
@@ -56,7 +56,7 @@ def postings(commands, field):
 
 
 def tree(texts, posted, text=""):
-    """The node of a known text: its references, how many they are, and a child for each character that goes on."""
+    """The node of a known text: its references, their number, and a child for each character that may follow."""
     docs = {ref: {"tf": frequency} for ref, frequency in posted.get(text, {}).items()}
     below = {longer[-1]: tree(texts, posted, longer) for longer in texts.get(text, [])}
     return {"docs": docs, "df": len(docs), **below}
@@ -150,7 +150,7 @@ def refusal(item) -> Optional[str]:
 
 
 def answer(given):
-    """What must be written for the bytes of an input, and the status."""
+    """What the program must write for the bytes of an input, and its status."""
     try:
         item = read(given)
     except (ValueError, RecursionError):
@@ -159,13 +159,13 @@ def answer(given):
     return (f"refused: {why}\n", 2) if why else (printed(Job(**item)) + "\n", 0)
 
 
-# The reader of JSON: Python's, which takes more than the kit's does
+# The reader of JSON. Python's accepts more than the kit's
 
 DEEPEST = 127
 
 
 class Object(list):
-    """The members of an object, none of them lost yet."""
+    """The members of an object, with those whose key is there twice."""
 
 
 def refuse(text):
@@ -178,7 +178,7 @@ def read(given):
 
 def plain(item, depth):
     if isinstance(item, str):
-        item.encode()  # half of a pair of \\u escapes is no character
+        item.encode()  # one half of a pair of \\u escapes is no character
         return item
     if not isinstance(item, list):
         return item

@@ -1,18 +1,16 @@
-"""What the tokens of a text are in each language, worked out from the definitions (docs/DEFINITIONS.md).
+"""The tokens of a text in each language, computed from the definitions (docs/DEFINITIONS.md).
 
-A stem is searched among all splits of a word, and a text is trimmed by looking for its two ends:
-nothing here goes the way of the program. The words of the languages are data
-(crates/elasticlunr_vectors/data/stopwords), and so are the ranges of the three scripts that the
-classes need (scripts.tsv, of Unicode's Scripts.txt).
+A stem is searched among all splits of a word, and a text is trimmed by looking for its two ends: the program does neither.
+The stop words are data (crates/elasticlunr_vectors/data/stopwords), and so are the ranges of the three scripts of the
+character classes (unicode_scripts.tsv, from Unicode's Scripts.txt).
 """
 import functools
 import json
-import os
 from typing import NamedTuple
 
-from running import HERE
+from tools.repository import lines_of, read
 
-STOP_WORDS = os.path.join(HERE, "../crates/elasticlunr_vectors/data/stopwords")
+STOP_WORDS = "crates/elasticlunr_vectors/data/stopwords"
 
 # Words and their ends
 
@@ -32,7 +30,7 @@ def every(_):
     return True
 
 
-# the capitals from one to another that have a property, and how far off their small letters are
+# ranges of capitals, the property that a capital of the range has, and the distance to its small letter
 LOWER = [
     (0x41, 0x5A, every, 32),
     (0xC0, 0xDE, lambda c: c != 0xD7, 32),
@@ -67,13 +65,13 @@ def words(text):
 
 
 def trimmed(in_class, text):
-    """What is left between the first and the last character of a class."""
+    """The text from its first to its last character of a class."""
     places = [place for place, character in enumerate(text) if in_class(character)]
     return text[places[0] : places[-1] + 1] if places else ""
 
 
 def without_first(text, characters, new):
-    """The text with something new in the place of the first of these characters."""
+    """The text with something new instead of the first of these characters."""
     places = [place for place, character in enumerate(text) if character in characters]
     return text[: places[0]] + new + text[places[0] + 1 :] if places else text
 
@@ -234,7 +232,7 @@ def english_stem(token):
 
 class Language(NamedTuple):
     code: str
-    scripts: tuple  # of the class that its trimmer keeps
+    scripts: tuple  # of the characters that its trimmer keeps
 
 
 LANGUAGES = {
@@ -253,8 +251,7 @@ for name_and_code in (
 
 @functools.lru_cache(None)
 def script_ranges():
-    with open(os.path.join(HERE, "scripts.tsv"), encoding="ascii") as file:
-        rows = [line.split() for line in file]
+    rows = [line.split() for line in lines_of("tests/unicode_scripts.tsv")]
     return [(name, int(first, 16), int(last, 16)) for name, first, last in rows]
 
 
@@ -265,8 +262,7 @@ def is_of_scripts(character, scripts):
 
 @functools.lru_cache(None)
 def stop_words(code):
-    with open(os.path.join(STOP_WORDS, code + ".txt"), encoding="utf-8") as file:
-        return frozenset(json.load(file))
+    return frozenset(json.loads(read(f"{STOP_WORDS}/{code}.txt")))
 
 
 def is_english_letter(character):

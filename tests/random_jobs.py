@@ -1,7 +1,7 @@
 """Makes random jobs, in all languages: texts, documents, settings, and damage to a job."""
 import json
 
-from model_tokens import LANGUAGES, LOWER, STEP_2, STEP_3, STEP_4, WHITE_SPACE, script_ranges, stop_words
+from tests.model_tokens import LANGUAGES, LOWER, STEP_2, STEP_3, STEP_4, WHITE_SPACE, script_ranges, stop_words
 
 NAMES = list(LANGUAGES)
 LETTERS = {
@@ -18,7 +18,7 @@ SPACES = sorted(WHITE_SPACE) + ["-", " - ", "  "]
 
 
 def edges():
-    """The characters at both sides of each end of the scripts and of the table of lower case."""
+    """The characters on both sides of each end of the ranges of scripts and of the table of lower case."""
     ends = [(first, last) for _, first, last in script_ranges()] + [(first, last) for first, last, _, _ in LOWER]
     codes = {code for first, last in ends for code in (first - 1, first, last, last + 1)} - {0xD7FF + 1}
     return [chr(code) for code in sorted(codes)]
@@ -27,121 +27,121 @@ def edges():
 EDGES = edges()
 
 
-def english_word(chance):
-    word = "".join(chance.choice(PARTS) for _ in range(chance.randint(0, 4)))
-    word += "".join(chance.choice(ENDINGS) for _ in range(chance.randint(0, 2)))
-    return word.capitalize() if chance.random() < 0.1 else word
+def english_word(rng):
+    word = "".join(rng.choice(PARTS) for _ in range(rng.randint(0, 4)))
+    word += "".join(rng.choice(ENDINGS) for _ in range(rng.randint(0, 2)))
+    return word.capitalize() if rng.random() < 0.1 else word
 
 
-def word(chance, code):
-    """A word of a language, or what looks like one: with marks at its ends, a stop word, odd characters."""
-    kind = chance.random()
+def word(rng, code):
+    """A word of a language, or what looks like one: with punctuation at its ends, a stop word, rare characters."""
+    kind = rng.random()
     if kind < 0.2 and code != "ar":
-        made = chance.choice(sorted(stop_words(code)))
+        made = rng.choice(sorted(stop_words(code)))
     elif code == "en" and kind < 0.9:
-        made = english_word(chance)
+        made = english_word(rng)
     elif kind < 0.9:
-        made = "".join(chance.choice(LETTERS.get(code, LATIN)) for _ in range(chance.randint(1, 5)))
+        made = "".join(rng.choice(LETTERS.get(code, LATIN)) for _ in range(rng.randint(1, 5)))
     else:
-        made = "".join(chance.choice(EDGES) for _ in range(chance.randint(1, 3)))
-    if chance.random() < 0.2:
-        made = chance.choice(MARKS) + made
-    if chance.random() < 0.2:
-        made += chance.choice(MARKS + "s")
-    if chance.random() < 0.05:
+        made = "".join(rng.choice(EDGES) for _ in range(rng.randint(1, 3)))
+    if rng.random() < 0.2:
+        made = rng.choice(MARKS) + made
+    if rng.random() < 0.2:
+        made += rng.choice(MARKS + "s")
+    if rng.random() < 0.05:
         made = made.upper()
     return made
 
 
-def text(chance, words):
-    gaps = [" ", " ", " ", chance.choice(SPACES)]
-    return "".join(chance.choice(words) + chance.choice(gaps) for _ in range(chance.randint(0, 12)))
+def text(rng, words):
+    gaps = [" ", " ", " ", rng.choice(SPACES)]
+    return "".join(rng.choice(words) + rng.choice(gaps) for _ in range(rng.randint(0, 12)))
 
 
-def job(chance):
-    """A job that is printed."""
-    lang = chance.choice(NAMES)
-    words = [word(chance, LANGUAGES[lang].code) for _ in range(20)]
-    fields = chance.sample(["id", "title", "body", "tags", "", "\u00dc", "df"], chance.randint(0, 4))
-    references = chance.sample(["1", "2", "10", "a/b.html", "", '\u00e9"\n', "id"], chance.randint(1, 5))
+def job(rng):
+    """A job for which the program prints an index."""
+    lang = rng.choice(NAMES)
+    words = [word(rng, LANGUAGES[lang].code) for _ in range(20)]
+    fields = rng.sample(["id", "title", "body", "tags", "", "\u00dc", "df"], rng.randint(0, 4))
+    references = rng.sample(["1", "2", "10", "a/b.html", "", '\u00e9"\n', "id"], rng.randint(1, 5))
     docs = [
-        [chance.choice(references)] + [text(chance, words) for _ in range(chance.randint(0, len(fields)))]
-        for _ in range(chance.randint(0, 9))
+        [rng.choice(references)] + [text(rng, words) for _ in range(rng.randint(0, len(fields)))]
+        for _ in range(rng.randint(0, 9))
     ]
     made = {"fields": fields, "docs": docs}
-    if lang != "English" or chance.random() < 0.5:
+    if lang != "English" or rng.random() < 0.5:
         made["lang"] = lang
     for key, values in [("save", [True, False]), ("ref", ["id", "key", "title", ""]), ("pretty", [True, False])]:
-        if chance.random() < 0.3:
-            made[key] = chance.choice(values)
-    if chance.random() < 0.5:
-        made["remove"] = [chance.choice(references + ["?"]) for _ in range(chance.randint(0, 3))]
-    if chance.random() < 0.4:
-        made["compact"] = chance.choice([True, True, False])
+        if rng.random() < 0.3:
+            made[key] = rng.choice(values)
+    if rng.random() < 0.5:
+        made["remove"] = [rng.choice(references + ["?"]) for _ in range(rng.randint(0, 3))]
+    if rng.random() < 0.4:
+        made["compact"] = rng.choice([True, True, False])
     return made
 
 
-def written(chance, made):
-    """The bytes of a job, in one of the ways that JSON has."""
+def written(rng, made):
+    """The bytes of a job, in one of the layouts of JSON."""
     members = list(made.items())
-    chance.shuffle(members)
+    rng.shuffle(members)
     return json.dumps(
-        dict(members), ensure_ascii=chance.random() < 0.5, indent=chance.choice([None, None, 1, "\t"])
+        dict(members), ensure_ascii=rng.random() < 0.5, indent=rng.choice([None, None, 1, "\t"])
     ).encode()
 
 
-# Damage. Each takes a job apart a little; two of them together try the order of the refusals.
+# Damage. Each function changes one thing of a job; two of them together try the order of the refusals.
 
 OTHER_KINDS = [None, 0, -1.5, "x", [], {}, True, [1], [[1]], [[]], [None], [["1"], []], {"a": []}]
 
 
-def of_another_kind(chance, made):
-    made[chance.choice(list(made))] = chance.choice(OTHER_KINDS)
+def of_another_kind(rng, made):
+    made[rng.choice(list(made))] = rng.choice(OTHER_KINDS)
 
 
-def an_unknown_key(chance, made):
-    made[chance.choice(["x", "doc", "Lang", ""])] = chance.choice(OTHER_KINDS)
+def an_unknown_key(rng, made):
+    made[rng.choice(["x", "doc", "Lang", ""])] = rng.choice(OTHER_KINDS)
 
 
-def a_missing_key(chance, made):
-    made.pop(chance.choice(["fields", "docs"]), None)
+def a_missing_key(rng, made):
+    made.pop(rng.choice(["fields", "docs"]), None)
 
 
-def an_unknown_language(chance, made):
-    made["lang"] = chance.choice(["english", "en", "", "English ", "Klingon", "Japanese", "Hungarian"])
+def an_unknown_language(rng, made):
+    made["lang"] = rng.choice(["english", "en", "", "English ", "Klingon", "Japanese", "Hungarian"])
 
 
-def a_field_twice(chance, made):
+def a_field_twice(rng, made):
     if made.get("fields") and isinstance(made["fields"], list):
-        made["fields"] = made["fields"] + [chance.choice(made["fields"])]
+        made["fields"] = made["fields"] + [rng.choice(made["fields"])]
 
 
-def a_value_too_many(chance, made):
+def a_value_too_many(rng, made):
     if isinstance(made.get("docs"), list) and isinstance(made.get("fields"), list):
-        place = chance.randint(0, len(made["docs"]))
+        place = rng.randint(0, len(made["docs"]))
         made["docs"] = made["docs"][:place] + [["1"] + ["x"] * (len(made["fields"]) + 1)] + made["docs"][place:]
 
 
-def cut_off(chance, given):
-    return given[: chance.randint(0, len(given) - 1)]
+def cut_off(rng, given):
+    return given[: rng.randint(0, len(given) - 1)]
 
 
-def a_byte_changed(chance, given):
-    place = chance.randint(0, len(given) - 1)
-    return given[:place] + bytes([chance.choice(list(b'{}[],:"\\0 e\n\x00') + [0xFF, 0xC0, 0x80])]) + given[place + 1 :]
+def a_byte_changed(rng, given):
+    place = rng.randint(0, len(given) - 1)
+    return given[:place] + bytes([rng.choice(list(b'{}[],:"\\0 e\n\x00') + [0xFF, 0xC0, 0x80])]) + given[place + 1 :]
 
 
-def a_byte_more(chance, given):
-    place = chance.randint(0, len(given))
-    return given[:place] + chance.choice([b",", b"]", b"}", b'"', b"0", b" ", b"\\ud800", b"\xed\xa0\x80"]) + given[place:]
+def a_byte_more(rng, given):
+    place = rng.randint(0, len(given))
+    return given[:place] + rng.choice([b",", b"]", b"}", b'"', b"0", b" ", b"\\ud800", b"\xed\xa0\x80"]) + given[place:]
 
 
-def a_key_twice(chance, given):
-    return given.replace(b"{", chance.choice([b'{"fields":[],', b'{"lang":"x",', b'{"docs":"\\ud800",']), 1)
+def a_key_twice(rng, given):
+    return given.replace(b"{", rng.choice([b'{"fields":[],', b'{"lang":"x",', b'{"docs":"\\ud800",']), 1)
 
 
-def deep(chance, given):
-    depth = chance.choice([100, 124, 125, 126, 127, 128, 200, 100_000])
+def deep(rng, given):
+    depth = rng.choice([100, 124, 125, 126, 127, 128, 200, 100_000])
     return given.replace(b"{", b'{"docs":' + b"[" * depth + b"]" * depth + b",", 1)
 
 
@@ -149,12 +149,12 @@ IN_THE_JOB = [of_another_kind, an_unknown_key, a_missing_key, an_unknown_languag
 IN_THE_BYTES = [cut_off, a_byte_changed, a_byte_more, a_key_twice, deep]
 
 
-def damaged(chance, made):
-    """The bytes of a damaged job. Some damage is none: the job is then printed all the same."""
+def damaged(rng, made):
+    """The bytes of a damaged job. Some damage changes nothing: then the program prints an index."""
     made = dict(made)
-    for _ in range(chance.choice([0, 1, 1, 2, 2, 3])):
-        chance.choice(IN_THE_JOB)(chance, made)
-    given = written(chance, made)
-    if chance.random() < 0.3:
-        given = chance.choice(IN_THE_BYTES)(chance, given)
+    for _ in range(rng.choice([0, 1, 1, 2, 2, 3])):
+        rng.choice(IN_THE_JOB)(rng, made)
+    given = written(rng, made)
+    if rng.random() < 0.3:
+        given = rng.choice(IN_THE_BYTES)(rng, given)
     return given

@@ -3,17 +3,16 @@
 
 usage: refuse_memory.py [WORD ..]
 
-Of elasticlunr_index each run must end with status 1 and nothing written, or, where the refused request was met by
-another way, with the whole answer; the first run that makes fewer requests must give the whole
-answer. The jobs, and what must be printed of them, are rows of the table of jobs: of each kind the
-one with the shortest text. At least LEAST requests of each job must have been refused with
-status 1, so that a program that asks for no memory, or whose requests aren't seen, doesn't pass.
+Each run of elasticlunr_index must end with status 1 and nothing written, or, where the program does without the refused
+request, with the whole answer. The first run that makes fewer requests must give the whole answer. The jobs, and what must
+be printed for them, are rows of the table of jobs: of each kind the one with the shortest text. At least LEAST requests of
+each job must have been refused with status 1. So a program that requests no memory, or whose requests aren't seen, fails.
 
-A search ends with what there is to find, or with status 1 and nothing written. `elasticlunr` then says
-that it is out of memory, or nothing where it was to take its command line apart. Of the requests for that
-FEW are refused, and of those of a search MOST, both evenly spread.
+A search ends with what there is to find, or with status 1 and nothing written. `elasticlunr` then says that it is out of
+memory, or nothing where it was reading its command line. Of the requests for that FEW are refused, and of those of a search
+MOST, both evenly spread.
 
-With words, only what has one of them in its name is run.
+With words, only the jobs and searches run that have one of them in their names.
 """
 import json
 import os
@@ -21,14 +20,18 @@ import sys
 import tempfile
 from typing import NamedTuple
 
-from refusing import Refusing
-from running import printed, program, told
-from tables import jobs
+sys.path.insert(0, os.path.join(os.path.dirname(__file__), ".."))
+
+from tests.memory_shim import Refusing
+from tests.report import Results, is_asked
+from tests.tables import jobs
+from tools.repository import printed, program, write
 
 PROGRAM = program("elasticlunr_index")
 LEAST = 20
 MOST = 400
 FEW = 100
+WRONG = 10  # after more wrong runs the others are not tried
 MESSAGE = "out of memory\n"
 
 KINDS = {
@@ -56,31 +59,30 @@ def chosen():
         yield name, next(((given, out) for _, given, out in sorted(rows) if is_of_kind(json.loads(given))), None)
 
 
-def check(name, row, refusing):
-    """How many runs passed and failed."""
+def note_refused(name, refused, results):
+    if refused < LEAST:
+        results.note(False, f"refused memory, {name}: {refused} requests were refused with status 1, and {LEAST} are the least")
+
+
+def check(name, row, refusing, results):
     if row is None:
-        print(f"refused memory, {name}: the table has no such job")
-        return 0, 1
+        results.note(False, f"refused memory, {name}: the table has no such job")
+        return
     job, expected = row
-    number = passed = failed = refused = 0
+    number = refused = 0
+    failed = results.failed
     while True:
         number += 1
         run = refusing.run(PROGRAM, job, number)
         ended = (run.out, run.status)
         was_refused = run.requests >= number and ended == ("", 1)
-        good = was_refused or ended == (expected, 0)
         refused += was_refused
-        passed += good
-        failed += not good
-        if not good:
-            print(f"refused memory, {name}: request {number}: status {run.status}, {len(run.out)} characters written")
-        if run.requests < number or failed > 10:
+        good = was_refused or ended == (expected, 0)
+        results.note(good, f"refused memory, {name}: request {number}: status {run.status}, {len(run.out)} characters written")
+        if run.requests < number or results.failed - failed > WRONG:
             break
-    if refused < LEAST:
-        failed += 1
-        print(f"refused memory, {name}: {refused} requests were refused with status 1, and {LEAST} are the least")
-    print(f"refused memory, {name}: {number - 1} requests refused in turn, {failed} wrong", flush=True)
-    return passed, failed
+    note_refused(name, refused, results)
+    print(f"refused memory, {name}: {number - 1} requests refused in turn, {results.failed - failed} wrong", flush=True)
 
 
 # Searches
@@ -90,7 +92,7 @@ DOCS = [["1", "Red fox", "The quick fox runs"], ["2", "Dog", "A lazy dog sleeps"
 
 class Search(NamedTuple):
     name: str
-    is_pretty: bool  # an index in lines is read in another way than one as it is printed for a browser
+    is_pretty: bool  # the program reads a pretty index in another way than a compact one
     words: list  # of the command, or the request of elasticlunr_find
     found: str
 
@@ -99,7 +101,7 @@ SEARCHES = [
     Search("any word", False, ["foxes dogs"], "1\n2\n"),
     Search("all words", False, ["lazy dog", "--all"], "2\n"),
     Search("one field", False, ["quick", "--field", "body"], "1\n"),
-    Search("an index in lines", True, ["foxes dogs", "--field", "title"], "1\n2\n"),
+    Search("a pretty index", True, ["foxes dogs", "--field", "title"], "1\n2\n"),
 ]
 FINDS = [
     Search("find any", False, ["body", "foxes dogs", "any"], "1\n2\n"),
@@ -108,61 +110,56 @@ FINDS = [
 
 
 def spread(first, last, most):
-    """The numbers from the first to the last, or so many of them, these two among them."""
+    """The numbers from the first to the last, or so many of them, with these two."""
     if last - first < most:
         return list(range(first, last + 1))
     return [first + at * (last - first) // (most - 1) for at in range(most)]
 
 
-def searched(search, folder):
-    """The program, its words and its input; None where there is no index."""
+def command_of(search, folder):
+    """The program, its words and its input."""
     index = printed({"fields": ["title", "body"], "docs": DOCS, "pretty": search.is_pretty})
-    if index is None:
-        return None
     if search in FINDS:
         return program("elasticlunr_find"), [], json.dumps(search.words) + "\n" + index
-    path = os.path.join(folder, "index.json")
-    with open(path, "w", encoding="utf-8") as file:
-        file.write(index)
+    path = write(os.path.join(folder, "index.json"), index)
     return program("elasticlunr_cli"), ["search", path, *search.words], ""
 
 
-def check_search(search, refusing, folder):
-    """How many runs passed and failed."""
-    made = searched(search, folder)
-    if made is None:
-        print(f"refused memory, {search.name}: no index is printed")
-        return 0, 1
-    path, words, given = made
+def check_search(search, refusing, folder, results):
+    try:
+        path, words, given = command_of(search, folder)
+    except ValueError as error:
+        results.note(False, f"refused memory, {search.name}: {error}")
+        return
     whole = refusing.run(path, given, 0, words).requests
-    # those for the command line: of a search in a file that there isn't
+    # those for the command line: a search in a file that doesn't exist makes no others
     own = refusing.run(path, given, 0, [words[0], "", *words[2:]]).requests if words else 0
-    passed = failed = refused = 0
+    tried = refused = 0
+    failed = results.failed
     for number in [0, *spread(1, own, FEW), *spread(own + 1, whole, MOST)]:
         run = refusing.run(path, given, number, words)
         is_said = run.err.endswith(MESSAGE) or (run.err == "" and number <= own) or search in FINDS
         was_refused = number > 0 and (run.out, run.status) == ("", 1) and is_said
-        good = was_refused or (run.out, run.status, run.err) == (search.found, 0, "")
         refused += was_refused and number > own
-        passed += good
-        failed += not good
-        if not good:
-            print(f"refused memory, {search.name}: request {number}: status {run.status}, {run.out!r}, {run.err!r}")
-        if failed > 10:
+        tried += number > 0
+        good = was_refused or (run.out, run.status, run.err) == (search.found, 0, "")
+        results.note(good, f"refused memory, {search.name}: request {number}: status {run.status}, {run.out!r}, {run.err!r}")
+        if results.failed - failed > WRONG:
             break
-    if refused < LEAST:
-        failed += 1
-        print(f"refused memory, {search.name}: {refused} requests were refused with status 1, and {LEAST} are the least")
-    print(f"refused memory, {search.name}: {passed + failed - 1} of {whole} requests refused in turn, {failed} wrong", flush=True)
-    return passed, failed
+    note_refused(search.name, refused, results)
+    print(f"refused memory, {search.name}: {tried} of {whole} requests refused in turn, {results.failed - failed} wrong", flush=True)
 
 
 def main():
-    is_asked = lambda name: len(sys.argv) < 2 or any(word in name for word in sys.argv[1:])
+    results = Results("memory")
     with Refusing() as refusing, tempfile.TemporaryDirectory() as folder:
-        results = [check(name, row, refusing) for name, row in chosen() if is_asked(name)]
-        results += [check_search(search, refusing, folder) for search in SEARCHES + FINDS if is_asked(search.name)]
-    return told("memory", sum(result[0] for result in results), sum(result[1] for result in results))
+        for name, row in chosen():
+            if is_asked(name):
+                check(name, row, refusing, results)
+        for search in SEARCHES + FINDS:
+            if is_asked(search.name):
+                check_search(search, refusing, folder, results)
+    return results.report()
 
 
 if __name__ == "__main__":

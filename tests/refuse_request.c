@@ -1,11 +1,11 @@
-/* Loaded before the C library: refuses the request for memory whose number stands in REFUSE_REQUEST, counting from 1.
-   The number of all requests goes to the file that REFUSE_COUNT_FILE names. It belongs to no crate. */
+/* Refuses the request for memory whose number REFUSED_REQUEST has, counting from 1, and writes the number of all requests to the
+   file that COUNTS_FILE names. It is loaded before the C library, and belongs to no crate. */
 #include "requests.h"
 #include <stdio.h>
 
 __attribute__((destructor)) static void write_count(void)
 {
-    const char *name = getenv("REFUSE_COUNT_FILE");
+    const char *name = getenv("COUNTS_FILE");
     FILE *file = name ? fopen(name, "w") : NULL;
     if (file) {
         fprintf(file, "%ld\n", requests);

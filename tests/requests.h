@@ -1,5 +1,5 @@
-/* The requests for memory of a program, counted, with the one refused whose number stands in REFUSE_REQUEST, counting
-   from 1. For a file that is loaded before the C library. */
+/* Counts the requests for memory of a program, and refuses the one whose number REFUSED_REQUEST has, counting from 1. For a
+   library that is loaded before the C library. */
 #define _GNU_SOURCE
 #include <dlfcn.h>
 #include <stdlib.h>
@@ -10,7 +10,7 @@ static int is_refused(void)
 {
     static long refused = -1;
     if (refused < 0) {
-        const char *number = getenv("REFUSE_REQUEST");
+        const char *number = getenv("REFUSED_REQUEST");
         refused = number ? atol(number) : 0;
     }
     requests += 1;

@@ -3,7 +3,7 @@ import json
 import os
 from typing import NamedTuple
 
-from running import TOP
+from tools.repository import TOP, lines_of, read
 
 JOBS = os.path.join(TOP, "crates/elasticlunr_vectors/data/jobs.jsonl")
 
@@ -15,33 +15,28 @@ class Row(NamedTuple):
 
 
 def jobs(table=JOBS):
-    """The rows of a table of jobs; a line that is none is a row that no program passes."""
-    with open(table, encoding="utf-8") as file:
-        for line in file:
-            try:
-                row = json.loads(line)
-                given = bytes.fromhex(row["job_hex"]) if "job_hex" in row else row["job"].encode()
-                yield Row(given, row["out"].encode(), row["status"])
-            except (ValueError, KeyError, TypeError):
-                yield Row(line.encode(), b"no row", -1)
+    """The rows of a table of jobs. For a line that is no row, a row that every program fails."""
+    for line in lines_of(table):
+        try:
+            row = json.loads(line)
+            given = bytes.fromhex(row["job_hex"]) if "job_hex" in row else row["job"].encode()
+            yield Row(given, row["out"].encode(), row["status"])
+        except (ValueError, KeyError, TypeError):
+            yield Row(line.encode(), b"no row", -1)
 
 
 def rows_missing(table=JOBS):
-    """Why a table isn't whole, or None: the number of its lines stands beside it, in TABLE.rows."""
+    """Why a table isn't whole, or None. The number of its lines is in the file TABLE.rows next to it."""
     try:
-        with open(table + ".rows", encoding="ascii") as file:
-            asked = int(file.read())
+        wanted = int(read(table + ".rows"))
     except (OSError, ValueError):
-        return "the number of its rows doesn't stand beside it"
-    with open(table, encoding="utf-8") as file:
-        found = sum(1 for _ in file)
-    if asked == 0 or found != asked:
-        return f"{found} rows in place of {asked}"
-    return None
+        return "its number of rows isn't next to it"
+    found = len(lines_of(table))
+    return f"{found} rows instead of {wanted}" if wanted == 0 or found != wanted else None
 
 
 def row_of(job, table=JOBS):
-    """The row of a job, by its value; None if there is none."""
+    """The row of a job, by its value, or None."""
     for row in jobs(table):
         try:
             if json.loads(row.given) == job:

@@ -1,8 +1,8 @@
-# For a script that takes packages of another release of Debian, to be sourced: an apt with a folder of its own for its state.
+# Lets a script download packages of another release of Debian, by an apt with a folder of its own. It is to be sourced.
 # Nothing is installed, and the sources and the packages of the system stay as they are.
 
-# The archive that the system's own sources name (MIRROR names another): the one of its release, or else the first. It is
-# asked for without the lists of packages, which a new machine doesn't have.
+# The archive that the system's own sources name: the one of its release, or else the first. MIRROR names another one. The
+# lists of packages are not needed for this: a new machine doesn't have them.
 archive() {
     if [ -n "${MIRROR:-}" ]; then
         echo "$MIRROR"
@@ -16,7 +16,7 @@ archive() {
         { echo "$0: the sources of apt name no archive" >&2; return 1; }
 }
 
-# apt_of FOLDER ARCHIVE RELEASE: from now on apt-get has this one release of the archive as its source, and its state in the folder.
+# apt_of FOLDER ARCHIVE RELEASE: gives apt-get this one release of the archive as its source, and keeps its state in the folder.
 apt_of() {
     rm -rf "$1"
     mkdir -p "$1/lists/partial" "$1/cache/archives/partial" "$1/parts"

@@ -1,15 +1,14 @@
 #!/usr/bin/env python3
-"""Proves and builds a program of the repository, from the bottom up, and says how it gets on.
+"""Proves and builds a program of the repository, from the bottom up, and shows the progress.
 
 usage: build.py [--check] NAME
 
-Each crate is proved once those that it stands on are; crates that don't stand on one another are
-proved side by side, and that on which most has still to be built goes first: it gets all processors,
-and the others what it leaves of them. What `rt` says goes to out/build-CRATE.log; its end is shown
-where a crate isn't proved. A crate has a line, with its seconds, once it is.
+A crate is proved once those that it stands on are. Crates that don't stand on one another are proved at the same time: the
+one on which most has still to be built gets all processors, and the others run at a lower priority. What `rt` says goes to
+out/build-CRATE.log; its end is shown where a crate isn't proved. A crate has a line, with its seconds, once it is proved.
 Where nothing has changed since the last build there is nothing to do and nothing is said.
 
---check does nothing, and its status says whether there is nothing to do.
+--check builds nothing, and its status says whether there is nothing to build.
 """
 import hashlib
 import os
@@ -20,40 +19,39 @@ import time
 from concurrent.futures import FIRST_COMPLETED, ThreadPoolExecutor, wait
 from typing import NamedTuple
 
-import room
-from running import say
+sys.path.insert(0, os.path.join(os.path.dirname(__file__), ".."))
 
-LOGS = os.path.join(room.TOP, "out")
-FIRST = {"elasticlunr_index": "10 to 22 minutes on four cores, by how fast they are"}  # what a build from nothing takes
-GIGABYTES_OF_JOB = 2  # that a job of a check was seen to take
+from tools import workspace
+from tools.repository import TOP, say
+
+LOGS = os.path.join(TOP, "out")
+FIRST = {"elasticlunr_index": "10 to 22 minutes on four cores, by how fast they are"}  # a build from nothing
+GIGABYTES_OF_JOB = 2  # of memory, for each job of a check
 SHOWN = 40  # lines of the log that are shown where a crate isn't proved
-BUILT = (b"\nlogic=proved ", b"nothing has changed since the last proved build")  # what rt says of a program
+BUILT = (b"\nlogic=proved ", b"nothing has changed since the last proved build")  # one of these is what rt says of a built program
 
 
 def folder(crate):
-    return os.path.join(room.TOP, "crates", crate)
+    return os.path.join(TOP, "crates", crate)
 
 
 def files_of_sources(name):
-    for crate in room.below(name) + [name]:
-        for part in room.PARTS:
-            for at, folders, names in os.walk(os.path.join(folder(crate), part)):
-                folders.sort()
-                yield from (os.path.join(at, it) for it in sorted(names))
-    yield os.path.join(room.TOP, "crates.txt")
+    for crate in workspace.below(name) + [name]:
+        yield from workspace.files(crate)
+    yield os.path.join(TOP, "crates.txt")
 
 
 def sum_of(paths):
     found = hashlib.sha256()
     for path in paths:
         with open(path, "rb") as file:
-            found.update(os.path.relpath(path, room.TOP).encode() + hashlib.sha256(file.read()).digest())
+            found.update(os.path.relpath(path, TOP).encode() + hashlib.sha256(file.read()).digest())
     return found.hexdigest()
 
 
 class Sources(NamedTuple):
     sum: str  # of the kit and of the sources that a program is built from
-    changed: int  # when one of these was changed last, also where it was changed back
+    changed: int  # when one of these was last changed, even if it was changed back
 
 
 def sources_of(name):
@@ -79,28 +77,24 @@ def is_built(name):
 
 
 def note_built(name, sources):
-    """Notes that the program that stands there was built, and proved, from these sources, which were taken before the build.
-    Where one was changed since nobody knows which text the build has read: then nothing is noted."""
+    """Notes that the program was built, and proved, from these sources, which were taken before the build. Where one has changed
+    since, nobody knows which text the build has read: then nothing is noted."""
     if sources == sources_of(name):
         with open(note_of(name), "w", encoding="ascii") as file:
             file.write(sources.sum + sum_of([built(name)]))
 
 
 def size(crate):
-    """The bytes of a crate's sources: about as these, its proof takes time."""
-    return sum(
-        os.path.getsize(os.path.join(at, it))
-        for part in room.PARTS
-        for at, _, names in os.walk(os.path.join(folder(crate), part))
-        for it in names
-    )
+    """The bytes of a crate's sources. The time of its proof grows about as they do."""
+    return sum(map(os.path.getsize, workspace.files(crate)))
 
 
 def heights(name):
-    """For a program and each crate below it, the size of what is proved one after the other from it up to the program."""
-    named = room.crates()
+    """For a program and each crate below it, the greatest size of the crates that are proved one after another from it up to
+    the program."""
+    named = workspace.crates()
     found = {}
-    for crate in [name] + room.below(name)[::-1]:
+    for crate in [name] + workspace.below(name)[::-1]:
         found[crate] = size(crate) + max((height for above, height in found.items() if crate in named[above]), default=0)
     return found
 
@@ -114,19 +108,19 @@ def gigabytes():
 
 
 def share(is_first, others):
-    """The jobs of a crate that is proved beside so many others, and the words that let it stand back behind the first."""
+    """The jobs of a crate that is proved at the same time as so many others, and the words that lower its priority."""
     if gigabytes() < GIGABYTES_OF_JOB * processors() * (1 + others / 2):
         return max(1, processors() // (1 + others)), []
     return (processors(), []) if is_first else (max(1, processors() // 2), ["nice", "-n", "10"])
 
 
 def rt(command, at, shared, log):
-    """One run of rt in a crate's folder: whether all is proved. A program is run on its stored input.
+    """Runs rt once in a crate's folder: whether all is proved. A program is run on its stored input.
 
-    Its own status is not asked for: it may want words or files that it does not get here.
+    Its own status is not asked for: it may need words or files that it does not get here.
     """
-    jobs, back = shared
-    words = [*back, "rt", *command, "--jobs", str(jobs)]
+    jobs, priority = shared
+    words = [*priority, "rt", *command, "--jobs", str(jobs)]
     stored = os.path.join(at, "stdin")
     with open(log, "wb") as file, open(stored if os.path.exists(stored) else os.devnull, "rb") as given:
         status = subprocess.run(words, cwd=at, stdin=given, stdout=file, stderr=file).returncode
@@ -136,16 +130,16 @@ def rt(command, at, shared, log):
 
 
 def prove(crate, command, shared, log, is_alone):
-    """Proves a crate in its folder, or in a room beside another run, and gives the seconds, or None."""
+    """Proves a crate in its folder, or in a workspace where another rt runs, and gives the seconds, or None."""
     begun = time.monotonic()
-    proved = rt(command, folder(crate), shared, log) if is_alone else prove_beside(crate, command, shared, log)
+    proved = rt(command, folder(crate), shared, log) if is_alone else prove_in_workspace(crate, command, shared, log)
     return time.monotonic() - begun if proved else None
 
 
-def prove_beside(crate, command, shared, log):
-    with room.Room(room.below(crate), room.line_of(crate)) as beside:
-        room.share(crate, beside.path, room.PARTS)
-        at = os.path.join(beside.path, "crates", crate)
+def prove_in_workspace(crate, command, shared, log):
+    with workspace.Workspace(workspace.below(crate), workspace.line_of(crate)) as own:
+        workspace.share(crate, own.path, workspace.PARTS)
+        at = os.path.join(own.path, "crates", crate)
         move(os.path.join(folder(crate), "out"), os.path.join(at, "out"))
         try:
             return rt(command, at, shared, log)
@@ -159,7 +153,7 @@ def move(source, target):
 
 
 def build(name):
-    """Proves the crates below a program, and the program: whether all went well."""
+    """Proves the crates below a program, and the program: whether all are proved."""
     height = heights(name)
     left = sorted(height, key=height.get, reverse=True)
     proved = set()
@@ -167,7 +161,7 @@ def build(name):
     os.makedirs(LOGS, exist_ok=True)
     with ThreadPoolExecutor() as pool:
         while left or running:
-            ready = [crate for crate in left if proved.issuperset(room.below(crate))]
+            ready = [crate for crate in left if proved.issuperset(workspace.below(crate))]
             at_work = ready + [crate for crate, _ in running.values()]
             first = max(at_work, key=height.get, default=None)
             for crate in ready:
@@ -192,7 +186,7 @@ def failed(crate, log):
     with open(log, encoding="utf-8", errors="replace") as file:
         lines = file.read().splitlines()
     say("\n".join(lines[-SHOWN:]))
-    say(f"  {crate}: NOT proved; all that was said is in {os.path.relpath(log, room.TOP)}")
+    say(f"  {crate}: NOT proved; all that was said is in {os.path.relpath(log, TOP)}")
 
 
 def main():
@@ -204,14 +198,14 @@ def main():
     if not shutil.which("rt"):
         say("build.py: there is no rt on the path: the Rattle kit has it")
         return 1
-    say(f"Proving and building {name} and the crates below it: {' '.join(room.below(name))}.")
+    say(f"Proving and building {name} and the crates below it: {' '.join(workspace.below(name))}.")
     say(f"The first time this takes {FIRST.get(name, 'minutes')}; later only what changed is proved again.")
     begun = time.monotonic()
     sources = sources_of(name)
     if not build(name):
         return 1
     note_built(name, sources)
-    say(f"All is proved ({time.monotonic() - begun:.0f} s). The program is {os.path.relpath(built(name), room.TOP)}")
+    say(f"All is proved ({time.monotonic() - begun:.0f} s). The program is {os.path.relpath(built(name), TOP)}")
     return 0
 
 

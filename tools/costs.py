@@ -1,15 +1,17 @@
 #!/usr/bin/env python3
-"""Says where the seconds of a crate's proof go: for each function, and for what is made of it.
+"""Says how many seconds of a crate's proof each function takes, and each part of its proof.
 
 usage: costs.py FOLDER [COUNT]
 
-FOLDER is what a check with one job kept while it proved the crate from nothing: crates/NAME/out/incremental
-after `rm -rf out/incremental; mkdir out/incremental` and `rt check --jobs 1` in the crate's folder. Where there
-is no such folder, or another copy on the machine proved the same text since, `rt` takes what that one kept:
-a comment at the end of a file makes another text of it. Each file took the time since the one before it was
-written, reading what it stands on included: so what is read for the first time counts for who needs it first. Of a function, `Lts` are the steps of its body, which grow
-faster than the body does, by its exits and by what is alive at each; `Proof` is what was left to the search.
-A small file right after large steps may have the end of them. The COUNT costliest are shown, 20 when absent.
+FOLDER is what a check with one job kept while it proved the crate from nothing: crates/NAME/out/incremental after
+`rm -rf out/incremental; mkdir out/incremental` and `rt check --jobs 1` in the crate's folder. Where there is no such
+folder, or another copy on the machine has proved the same text since, `rt` takes what that one kept: add a comment to the
+end of a file to make its text another one.
+
+Each file took the time since the one before it was written, with the time to read what it stands on: so what is read for
+the first time counts for the function that needs it first. Of a function, `Lts` are the steps of its body, which grow
+faster than the body does, with its exits and with what is alive at each; `Proof` is what was left to the search. A small
+file right after large steps may have their end. The COUNT most expensive are shown, 20 when absent.
 """
 import collections
 import os
@@ -17,7 +19,7 @@ import re
 import sys
 
 MODULE = re.compile(r"Rattle-\w+?-(proofs|specs)\.(.*?)(\.decls)?\.oantt$")
-# what rattle makes of a function, and what is written of its proof
+# the parts of a function's proof: those that rattle makes, and those that are written
 PARTS = "Lts Proof Tie Goals Given Reads Answers Invariants Code Layout Kinds TheLink TheLinks Symbol Key".split()
 
 
@@ -37,7 +39,7 @@ def place(name):
     if not module:
         return "(other)", "other"
     words = module[2].split(".")
-    # (a part may have the number of a call behind it)
+    # the number of a call may follow a part
     at = next((at for at, word in enumerate(words) if word.partition("-")[0] in PARTS), len(words))
     part = words[at].partition("-")[0] if at < len(words) else {"proofs": "lemmas", "specs": "definitions"}[module[1]]
     return ".".join(words[:at]) or "(crate)", part
@@ -50,7 +52,7 @@ def main():
     for name, seconds in written(sys.argv[1]):
         function, part = place(name)
         costs[function][part] += seconds
-    print(f"{sum(sum(it.values()) for it in costs.values()):7.1f} in all")
+    print(f"{sum(sum(it.values()) for it in costs.values()):7.1f} in total")
     count = int(sys.argv[2]) if len(sys.argv) > 2 else 20
     for function, parts in sorted(costs.items(), key=lambda it: -sum(it[1].values()))[:count]:
         shown = ", ".join(f"{part} {seconds:.1f}" for part, seconds in parts.most_common(4) if seconds >= 0.1)

@@ -1,7 +1,7 @@
 #!/usr/bin/env bash
-# fetch_elasticlunr.sh DIR: puts elasticlunr.min.js 0.9.5 into DIR, out of Debian's package python3-pdoc, which carries it.
-# The package is downloaded from the archive that the machine's own sources name (apt_beside.sh); nothing is installed.
-# A copy that is there already is kept.
+# fetch_elasticlunr.sh DIR: puts elasticlunr.min.js 0.9.5 into DIR, and prints its path.
+# Debian's package python3-pdoc carries the file. It is downloaded from the archive that the machine's own sources name
+# (apt_beside.sh); nothing is installed. A copy that is there already is kept.
 set -eu
 . "$(dirname "$0")/apt_beside.sh"
 target=$(mkdir -p "$1" && cd "$1" && pwd)/elasticlunr.min.js

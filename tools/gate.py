@@ -1,19 +1,20 @@
 #!/usr/bin/env python3
-"""Runs `rt ci` and, as soon as its programs stand, the checks of bench/ at the same time, and says how both get on.
+"""Runs `rt ci` and, as soon as its programs are built, the checks of tests/ at the same time, and shows the progress.
 
 usage: gate.py LOG
 
-A crate has a line as it is proved, with the seconds since the beginning. `rt ci` keeps next to the kit
-what it passed on this machine: it does not prove again what an earlier run proved of the very same
-files, nor try such a mutant again. A crate of which that is so has a line that says so. Tests and
-programs are run each time.
+A crate has a line once it is proved, with the seconds since the beginning. `rt ci` keeps next to the kit what it passed on
+this machine: what an earlier run proved of the very same files is not proved again, and such a mutant is not tried again.
+A crate of which that is so has a line that says so. Tests and programs run each time.
 
-All that `rt ci` says goes to the log. What it says of a crate that is not proved, of an edit that was
-not refused or of a test that failed is shown, too; then the checks count for nothing, and are ended.
-What they say (checks.py) is shown as it comes, and follows in the log.
+Everything that `rt ci` says goes to the log. What it says of a crate that is not proved, of a mutant that was not refused
+or of a test that failed is shown, too; then the checks are stopped and count for nothing. What the checks say
+(tests/checks.py) is shown as it comes, and follows in the log.
 
-An edit that can't be applied, or that is refused only because a proof names what it took away, shows
-nothing of a contract. `rt ci` passes it; the gate names it, and counts how many there are.
+A mutant that can't be applied, or that is refused only because a proof names what it took away, shows nothing of a
+contract. `rt ci` passes it; the gate names it, counts it and fails.
+
+The last lines say what failed.
 """
 import os
 import re
@@ -23,27 +24,33 @@ import subprocess
 import sys
 import threading
 import time
+from typing import NamedTuple
 
-import build
-from running import HERE, TOP
+sys.path.insert(0, os.path.join(os.path.dirname(__file__), ".."))
+
+from tests.checks import WHAT_FAILED, Failure, what_failed
+from tools import build
+from tools.repository import TOP, read
 
 CRATES = os.path.join(TOP, "crates")
-WHOLE = 5  # seconds after which a program that is written into its place is there as a whole
-GIGABYTES_OF_ONE = 6  # that the greatest check was seen to take, and each one beside it
-GIGABYTES_OF_NEXT = 4
+WHOLE = 5  # a program is whole when it was written so many seconds ago
+GIGABYTES_OF_ONE = 6  # of memory, for the greatest check of a crate
+GIGABYTES_OF_NEXT = 4  # for each further one at the same time
+SHOWN = 30  # lines that rt said before a failure
 GOOD = re.compile(r"rt: \w+(: its tests( are)?)? (proved|passed)$")
 KEPT = re.compile(r"rt: (\w+) is kept: ")
 RAN = re.compile(r"rt: (\w+) ran\b.*")
 TRIED = re.compile(r"rt: \w+: (\d+) of its \d+ must-fail edits were tried by an earlier run")
 TRYING = re.compile(r"rt: (\w+): trying its must-fail edits \((\d+)\)$")
 REFUSED = re.compile(r"rt: must-fail \S+: refused, as it must be(?! \(only because)")
-BAD = re.compile(r"rt: .*(NOT PROVED|NOT REFUSED|BAD EDIT|FAILED|had not ended|stopped by signal|is not what|killed|only because)")
-# An edit that shows nothing of a contract, though `rt ci` passes it.
-EMPTY = re.compile(r"rt: .*(: BAD EDIT: |: refused, as it must be \(only because )")
+EMPTY = re.compile(r"rt: .*(: BAD EDIT: |: refused, as it must be \(only because )")  # a mutant that shows nothing of a contract
+BAD = re.compile(r"rt: .*(NOT PROVED|NOT REFUSED|NOT TRIED|BAD EDIT|FAILED|had not ended|stopped by signal|is not what|killed|only because)")
+ERROR = re.compile(r".*(: error|\berror\[)")
 
 
 def environment():
-    """As many checks at once as there are processors, where the machine's memory allows that; elsewhere rt decides."""
+    """Sets as many checks of crates at a time as there are processors, where the machine's memory allows that. Elsewhere rt
+    decides."""
     processors = build.processors()
     fits = build.gigabytes() >= GIGABYTES_OF_ONE + GIGABYTES_OF_NEXT * (processors - 1)
     return {**os.environ, "RT_JOBS": str(processors)} if fits and "RT_JOBS" not in os.environ else dict(os.environ)
@@ -60,14 +67,14 @@ def programs():
 
 
 def note_programs(sources):
-    """Notes which of the programs that stand were built, and proved, from these sources: a `make run` has nothing to do then."""
+    """Notes which programs were built, and proved, from these sources: then a `make run` has nothing to do."""
     for name in names_of_programs():
         if os.path.isfile(build.built(name)):
             build.note_built(name, sources[name])
 
 
 class Checks(threading.Thread):
-    """The checks of bench/, which begin once all programs stand that this run built, or took from an earlier one."""
+    """The checks of tests/. They begin once all programs are there that this run built, or took from an earlier one."""
 
     def __init__(self, log):
         super().__init__(daemon=True)
@@ -83,30 +90,32 @@ class Checks(threading.Thread):
         self.start()
 
     def run(self):
-        while not self.gate_ended.wait(WHOLE) and not all(map(self.stands, programs())):
+        while not self.gate_ended.wait(WHOLE) and not all(map(self.is_whole, programs())):
             pass
         with self.turn:
             if self.is_dropped:
                 return
             note_programs(self.sources)
             open(self.own, "w", encoding="utf-8").close()
-            command = [sys.executable, os.path.join(HERE, "checks.py"), self.own]
+            command = [sys.executable, os.path.join(TOP, "tests", "checks.py"), self.own]
             self.running = subprocess.Popen(command, start_new_session=True)
         self.status = self.running.wait()
 
-    def stands(self, path):
+    def is_whole(self, path):
         try:
             return self.since < os.path.getmtime(path) < time.time() - WHOLE
         except OSError:
             return False
 
     def end(self):
-        """Their status; what they said goes to the log."""
+        """Waits for their end: their status, and the lines of what failed that are not the last of the output already. What
+        they said goes to the log."""
+        is_shown = self.running is None or self.running.poll() is None
         self.gate_ended.set()
         self.join()
-        with open(self.own, encoding="utf-8") as said, open(self.log, "a", encoding="utf-8") as log:
-            log.write(said.read())
-        return self.status
+        said = read(self.own)
+        append(self.log, said)
+        return self.status, [] if is_shown or WHAT_FAILED not in said else said[said.index(WHAT_FAILED) :].splitlines()
 
     def drop(self):
         with self.turn:
@@ -117,58 +126,79 @@ class Checks(threading.Thread):
         self.join()
 
 
+def append(path, text):
+    with open(path, "a", encoding="utf-8") as file:
+        file.write(text)
+
+
+def show(lines):
+    if lines:
+        print("\n".join(lines), flush=True)
+
+
 def main():
     if not shutil.which("rt"):
         print("gate.py: there is no rt on the path: the Rattle kit has it")
         return 1
-    checks = Checks(sys.argv[1])
-    status, last, empty = prove(sys.argv[1])
-    if status:
+    log = sys.argv[1]
+    checks = Checks(log)
+    proved = prove(log)
+    if proved.status:
         checks.drop()
+        show(what_failed(proved.failures))
+        return proved.status
+    show([proved.last])
+    status, failed = checks.end()
+    show(failed)
+    empty = [failure for failure in proved.failures if EMPTY.match(failure.title)]
+    if not empty:
         return status
-    print(last, flush=True)
-    status = checks.end()
-    if empty:
-        print(f"edits: {empty} show nothing of a contract: change a value and keep the calls and the names")
-    return status
+    count = f"edits: 0 passed, {len(empty)} failed"
+    append(log, count + "\n")
+    show([*what_failed(empty), "These mutants show nothing of a contract. Change a value, and keep the calls and the names.", count])
+    return 1
 
 
-def prove(path):
-    """Runs `rt ci`: its status, its last line, and how many edits show nothing of a contract."""
+class Proved(NamedTuple):
+    status: int  # of `rt ci`
+    last: str  # its last line
+    failures: list  # and the mutants that show nothing of a contract
+
+
+def prove(log):
+    """Runs `rt ci`."""
+    command = ["nice", "-n", "5", "rt", "ci"]
     begun = time.monotonic()
-    refused = earlier = empty = 0
-    said = []  # of the crate that is being told of, till it is known whether it is proved
-    last = ""
-    with open(path, "a", encoding="utf-8") as log:
-        gate = subprocess.Popen(
-            ["nice", "-n", "5", "rt", "ci"], env=environment(), stdout=subprocess.PIPE, stderr=subprocess.STDOUT, text=True, errors="replace"
-        )
-        for line in gate.stdout:
-            log.write(line)
-            log.flush()
-            line = last = line.rstrip("\n")
-            seconds = f"({time.monotonic() - begun:.0f} s)"
-            refused += bool(REFUSED.match(line))
-            earlier += int(TRIED.match(line)[1]) if TRIED.match(line) else 0
-            empty += bool(EMPTY.match(line))
-            if BAD.match(line):
-                print("\n".join(said[-30:] + [line]), flush=True)
-                said = []
-            elif GOOD.match(line) or RAN.match(line):
-                print(f"  {line[4:]} {seconds}", flush=True)
-                said = []
-            elif KEPT.match(line):
-                print(f"  {KEPT.match(line)[1]}: proved by an earlier run {seconds}", flush=True)
-            elif TRYING.match(line):
-                print(f"  {line[4:]} {seconds}", flush=True)
-            elif not REFUSED.match(line):
-                said.append(line)
+    refused = earlier = 0
+    said = []  # of one crate, until it is known whether the crate is proved
+    failures = []
+    line = ""
+    gate = subprocess.Popen(command, env=environment(), stdout=subprocess.PIPE, stderr=subprocess.STDOUT, text=True, errors="replace")
+    for line in gate.stdout:
+        append(log, line)
+        line = line.rstrip("\n")
+        seconds = f"({time.monotonic() - begun:.0f} s)"
+        refused += bool(REFUSED.match(line))
+        earlier += int(TRIED.match(line)[1]) if TRIED.match(line) else 0
+        if BAD.match(line):
+            show([*said[-SHOWN:], line])
+            failures.append(Failure(line, [it for it in said if ERROR.match(it)]))
+            said = []
+        elif GOOD.match(line) or RAN.match(line):
+            show([f"  {line[4:]} {seconds}"])
+            said = []
+        elif KEPT.match(line):
+            show([f"  {KEPT.match(line)[1]}: proved by an earlier run {seconds}"])
+        elif TRYING.match(line):
+            show([f"  {line[4:]} {seconds}"])
+        elif not REFUSED.match(line):
+            said.append(line)
     if refused:
-        print(f"  {refused} mutants refused" + (f", {earlier} of them in an earlier run" if earlier else ""))
+        show([f"  {refused} mutants refused" + (f", {earlier} of them in an earlier run" if earlier else "")])
     status = gate.wait()
     if status:
-        print("\n".join(said[-30:]))
-    return status, last, empty
+        show(said[-SHOWN:])
+    return Proved(status, line, failures)
 
 
 if __name__ == "__main__":

@@ -1,25 +1,27 @@
 #!/usr/bin/env python3
-"""Runs the built program on standard input, and ends with its status.
+"""Runs the built program elasticlunr_index on standard input, and ends with its status.
 
 usage: run.py [--try]
 
-Where standard input is empty the program gets the example, and where it is a terminal a small one
-whose index is printed in lines.
+Where standard input is empty, the program gets the example. Where it is a terminal, the program gets a small example and
+prints its index in lines.
 
---try runs it as `rt try` compiles it, without a proof. What `rt` says is shown where that fails.
+--try compiles the program by `rt try`, without a proof, and runs it. What `rt` says is shown where that fails.
 """
 import os
 import shutil
 import subprocess
 import sys
 
-from running import TOP, program, say
+sys.path.insert(0, os.path.join(os.path.dirname(__file__), ".."))
+
+from tools.repository import TOP, program, say
 
 CRATE = "elasticlunr_index"
 EXAMPLE = os.path.join(TOP, "examples", "job.json")
 SMALL = os.path.join(TOP, "examples", "small.json")
-ANSWERS = (0, 1, 2)  # what the program ends with
-ENDED = "\nrun=ended "  # what `rt try` says where the program came to its end
+ANSWERS = (0, 1, 2)  # how the program ends
+ENDED = "\nrun=ended "  # what `rt try` says where the program ended by itself
 
 
 def content(path):
@@ -27,8 +29,8 @@ def content(path):
         return file.read()
 
 
-def tried(given):
-    """The status of the program without a proof. It is run twice, by an interpreter and compiled with checks."""
+def run_unproved(given):
+    """The status of the program without a proof. `rt try` runs it twice: by an interpreter, and compiled with checks."""
     if not shutil.which("rt"):
         say("run.py: there is no rt on the path: the Rattle kit has it")
         return 1
@@ -40,7 +42,7 @@ def tried(given):
     return ended.returncode
 
 
-def run(given, is_terminal):
+def run_proved(given, is_terminal):
     path = program(CRATE)
     status = subprocess.run([path], input=given).returncode
     if is_terminal:
@@ -52,7 +54,7 @@ def run(given, is_terminal):
 def main():
     is_terminal = sys.stdin.isatty()
     given = content(SMALL) if is_terminal else sys.stdin.buffer.read() or content(EXAMPLE)
-    return tried(given) if "--try" in sys.argv[1:] else run(given, is_terminal)
+    return run_unproved(given) if "--try" in sys.argv[1:] else run_proved(given, is_terminal)
 
 
 if __name__ == "__main__":

@@ -3,18 +3,17 @@
 
 usage: compare.py [--jobs N] [--seed N] [--runs N] [--only replay|speed] ORIGINAL
 
-ORIGINAL is the program that fetch.sh builds. First random documents are indexed by both, in
-English, Arabic and Korean, and each posting, length and text is compared by the differences that
-docs/DIFFERENCES.md declares:
+ORIGINAL is the program that fetch.sh builds. First both index random documents in English,
+Arabic and Korean, and each posting, length and text is compared. This allows for the differences of docs/DIFFERENCES.md:
 
-- each index has one field, since the crate's counts run on from one field into the next, and each
-  reference one document, since the crate keeps the postings of a document that is added again;
-- a frequency of the crate is the square root of a count, and ours the same in millionths, rounded down;
-- the texts have no character whose small letter the two don't share, nor one of a newer Unicode;
+- each index has one field, because the crate's counts continue from one field to the next, and each reference has one
+  document, because the crate keeps the postings of a document that is added again;
+- a frequency of the crate is the square root of a count, and ours is the same in millionths, rounded down;
+- the texts have no character whose small letter is another one in the two, or that is new in Unicode;
 - the keys of an object are compared without their order.
 
-Then both are timed on large jobs, side by side, and the table of README is printed. What they print is
-read from a pipe: a file of hundreds of megabytes would measure the disk.
+Then both are timed on large jobs in one run, and the table of README is printed. What they print is read from a pipe: a file
+of hundreds of megabytes would measure the disk.
 """
 import argparse
 import glob
@@ -27,32 +26,34 @@ import sys
 import tempfile
 import unicodedata
 
-sys.path.insert(0, os.path.dirname(os.path.dirname(os.path.abspath(__file__))))
+sys.path.insert(0, os.path.join(os.path.dirname(__file__), "..", ".."))
 
-import chance as make
-from measure import PIPED, measured
-from model_tokens import LANGUAGES, lower
-from running import TOP, program, run, told
+from bench.measure import PIPED, measured
+from tests import random_jobs
+from tests.model_tokens import LANGUAGES, lower
+from tests.report import Results
+from tools.repository import TOP, program, run, write
 
 PROGRAM = program("elasticlunr_index")
 COMPARED = ["English", "Arabic", "Korean"]  # the languages of Debian's package
+SHOWN = 5  # failures that are printed
 
 
 def is_shared(character):
-    """Whether both lower a character alike, and any version of Unicode that is in use knows it."""
+    """Whether both have the same small letter of a character, and each version of Unicode in use has the character."""
     return lower(character) == character.lower() and unicodedata.category(character) != "Cn" and character != "\u03a3"
 
 
-def a_job(chance):
-    lang = chance.choice(COMPARED)
-    words = [make.word(chance, LANGUAGES[lang].code) for _ in range(30)]
+def a_job(rng):
+    lang = rng.choice(COMPARED)
+    words = [random_jobs.word(rng, LANGUAGES[lang].code) for _ in range(30)]
     words = ["".join(filter(is_shared, word)) for word in words]
-    docs = [[f"{number}", make.text(chance, words)] for number in range(chance.randint(1, 8))]
+    docs = [[f"{number}", random_jobs.text(rng, words)] for number in range(rng.randint(1, 8))]
     return {"fields": ["body"], "docs": docs, "lang": lang}
 
 
 def counted(node):
-    """A node of the crate's trie with our frequencies in the place of its own, and how many there are."""
+    """A node of the crate's trie with our frequencies instead of its own, and their number."""
     found = 0
     made = {}
     for key, held in node.items():
@@ -74,34 +75,31 @@ def millionths(frequency):
     return math.isqrt(count * 10**12)
 
 
-def replay(original, jobs, seed):
-    """How many postings, lengths and texts agree, and how many jobs don't."""
-    chance = random.Random(seed)
-    made = [a_job(chance) for _ in range(jobs)]
+def replay(original, jobs, seed, results):
+    """Compares random jobs, and prints how many postings, lengths and texts agree."""
+    rng = random.Random(seed)
+    made = [a_job(rng) for _ in range(jobs)]
     lines = "".join(json.dumps(job) + "\n" for job in made).encode()
     theirs = run([original, "lines"], lines, seconds=600)
     answers = theirs.out.splitlines()
     if theirs.status != 0 or len(answers) != len(made):
-        print(f"replay: the original crate ended with status {theirs.status} after {len(answers)} jobs")
-        return 0, 1
-    docs = postings = lengths = texts = failed = 0
+        results.note(False, f"replay: the original crate ended with status {theirs.status} after {len(answers)} jobs")
+        return
+    docs = postings = lengths = texts = 0
     for number, (job, answer) in enumerate(zip(made, answers)):
         expected = json.loads(answer)
         trie = expected["index"]["body"]
         trie["root"], found = counted(trie["root"])
         ended = run([PROGRAM], json.dumps(job).encode())
-        if ended.status != 0 or json.loads(ended.out) != expected:
-            failed += 1
-            if failed <= 5:
-                print(f"replay: seed {seed}, job {number}: status {ended.status}, or another index: {json.dumps(job)}")
-        else:
+        good = ended.status == 0 and json.loads(ended.out) == expected
+        results.note(good, f"replay: seed {seed}, job {number}: status {ended.status}, or another index: {json.dumps(job)}")
+        if good:
             store = expected["documentStore"]
             docs += len(job["docs"])
             postings += found
             lengths += sum(len(fields) for fields in store["docInfo"].values())
             texts += sum(len(fields) for fields in store["docs"].values())
     print(f"replay: {docs} documents in {', '.join(COMPARED)}: {postings} postings, {lengths} lengths and {texts} texts agree")
-    return jobs - failed, failed
 
 
 # Speed
@@ -113,34 +111,32 @@ def large_job(docs):
 
 
 def speed_jobs():
-    """The name of each job, the job, whether the original does it, too, and which of ours it stands beside.
-
-    The last come each with how many times as many documents the job has.
-    """
+    """The name of each job, the job, whether the original does it, too, and the jobs of ours that it is compared with, each
+    with how many times as many documents this one has."""
     english = large_job(2000)
     yield "English, 2,000 documents", english, True, []
     yield "the same in German, without a stemmer in either", dict(english, lang="German"), True, []
     yield "1,000 documents", large_job(1000), True, []
     large = large_job(16000)
     yield "every sixteenth of the 16,000 documents", dict(large, docs=large["docs"][::16]), False, []
-    beside = [("1,000 documents", 16), ("every sixteenth of the 16,000 documents", 16)]
-    yield "16,000 documents", large, False, beside
-    beside = [("English, 2,000 documents", 1)]
-    yield "2,000 documents, each added twice", dict(english, docs=english["docs"] * 2), False, beside
+    others = [("1,000 documents", 16), ("every sixteenth of the 16,000 documents", 16)]
+    yield "16,000 documents", large, False, others
+    others = [("English, 2,000 documents", 1)]
+    yield "2,000 documents, each added twice", dict(english, docs=english["docs"] * 2), False, others
     removed = [doc[0] for doc in english["docs"][::2]]
-    yield "2,000 documents, 1,000 references removed", dict(english, remove=removed), False, beside
+    yield "2,000 documents, 1,000 references removed", dict(english, remove=removed), False, others
 
 
 def middle(found):
-    """The median of some runs; a run that fails decides.
+    """The median of some runs, or a run that failed.
 
-    A machine's speed changes from second to second. The least of some short runs is that of a fast
-    moment, which a long run doesn't get, so ratios of jobs of different sizes would be too high.
+    A machine's speed changes from second to second. The least time of some short runs is that of a fast moment, which a long
+    run doesn't get, so ratios of jobs of different sizes would be too high.
     """
     return next((run for run in found if run.status != 0), sorted(found, key=lambda run: run.seconds)[len(found) // 2])
 
 
-def told_run(run):
+def shown(run):
     return f"{run.seconds:.2f} s, {run.megabytes:,} MB" if run.status == 0 else f"failed: {run.status}"
 
 
@@ -164,35 +160,31 @@ def regex_of(original):
     return " ".join(os.path.basename(path).replace("-", " ") for path in found) or "no known regex"
 
 
-def speed(original, runs):
-    """Prints the table; how many jobs were done, and how many failed."""
+def speed(original, runs, results):
+    """Prints the table."""
     jobs = list(speed_jobs())
     found = {}
     with tempfile.TemporaryDirectory() as folder:
         files = {}
         for number, (name, job, _, _) in enumerate(jobs):
-            files[name] = os.path.join(folder, f"job{number}.json")
-            with open(files[name], "w", encoding="utf-8") as file:
-                json.dump(job, file, ensure_ascii=False)
-        for _ in range(runs):  # every job once, and then again, so that all meet the same machine
+            files[name] = write(os.path.join(folder, f"job{number}.json"), json.dumps(job, ensure_ascii=False))
+        for _ in range(runs):  # each runs all jobs, so that all meet a machine of the same speed
             for name, _, is_for_both, _ in jobs:
                 for command in [PROGRAM] + [original] * is_for_both:
                     found.setdefault((name, command), []).append(measured([command], files[name], PIPED))
-    failed = 0
     ours = {}
     print("\n| Job | Here | The original | Ratio |\n|---|---|---|---|")
-    for name, _, is_for_both, beside in jobs:
+    for name, _, is_for_both, others in jobs:
         mine = ours[name] = middle(found[name, PROGRAM])
         theirs = middle(found[name, original]) if is_for_both else None
-        failed += mine.status != 0 or bool(theirs and theirs.status != 0)
-        ratio = ratio_to(mine, theirs) if theirs else ", ".join(ratio_to_ours(mine, ours, *one) for one in beside) or "-"
-        row = [name, told_run(mine), told_run(theirs) if theirs else "-", ratio]
+        ratio = ratio_to(mine, theirs) if theirs else ", ".join(ratio_to_ours(mine, ours, *one) for one in others) or "-"
+        row = [name, shown(mine), shown(theirs) if theirs else "-", ratio]
         print("| " + " | ".join(row) + " |", flush=True)
+        results.note(mine.status == 0 and (theirs is None or theirs.status == 0), f"speed: {name}: {row[1:3]}")
     print(
-        f"\nThe medians of {runs} runs, with their memory; each run does every job once. The original over {regex_of(original)}, "
+        f"\nThe medians of {runs} runs, with their memory; each run does each job once. The original over {regex_of(original)}, "
         "as `cargo build --release` builds it."
     )
-    return len(ours) - failed, failed
 
 
 def main():
@@ -203,12 +195,12 @@ def main():
     parser.add_argument("--only", choices=["replay", "speed"])
     parser.add_argument("original")
     options = parser.parse_args()
-    counts = [0, 0]
+    results = Results("compare", most=SHOWN)
     if options.only != "speed":
-        counts = [a + b for a, b in zip(counts, replay(options.original, options.jobs, options.seed))]
+        replay(options.original, options.jobs, options.seed, results)
     if options.only != "replay":
-        counts = [a + b for a, b in zip(counts, speed(options.original, options.runs))]
-    return told("compare", *counts)
+        speed(options.original, options.runs, results)
+    return results.report()
 
 
 if __name__ == "__main__":

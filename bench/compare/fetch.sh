@@ -1,16 +1,15 @@
 #!/usr/bin/env bash
-# Fetches the original crate and what it stands on, and builds the program of this folder over them.
+# Downloads the original crate and the crates below it, and builds the program of this folder over them.
 #
 # usage: fetch.sh FOLDER RELEASE
 #
-# The crate, elasticlunr-rs 3.0.2, is a package of Debian's release trixie. The crates that it stands on
-# are packages of RELEASE: the crate's stemmer is regular expressions, and takes three times as long with
-# the `regex` of one release as with that of another. The packages are downloaded from the archive that
-# the machine's own sources name (apt_beside.sh) and unpacked in FOLDER/RELEASE; nothing is installed. The
-# path of the program is printed.
+# The crate, elasticlunr-rs 3.0.2, is a package of Debian's release trixie. The crates below it are packages of RELEASE: the
+# crate's stemmer is regular expressions, and takes three times as long with the `regex` of one release as with that of
+# another. The packages are downloaded from the archive that the machine's own sources name (tools/apt_beside.sh) and unpacked
+# in FOLDER/RELEASE; nothing is installed. The path of the program is printed.
 set -eu
 here=$(cd "$(dirname "$0")" && pwd)
-. "$here/../apt_beside.sh"
+. "$here/../../tools/apt_beside.sh"
 release=$2
 mkdir -p "$1/$release"
 folder=$(cd "$1/$release" && pwd)
@@ -37,7 +36,7 @@ if [ ! -d "$folder/registry" ]; then
     unpack librust-elasticlunr-rs-dev
     below=$(dpkg-deb -f "$folder"/apt/packages/*.deb Depends | tr ',' '\n' | awk '{ print $1 }')
     apt_of "$folder/apt" "$mirror" "$release"
-    # the crates alone, without the compilers and libraries that their packages name
+    # only the crates, not the compilers and libraries that their packages need
     unpack $(apt-get -s --no-install-recommends install $below | awk '$1 == "Inst" && $2 ~ /^librust-/ { print $2 }')
     mv "$folder/unpacked/usr/share/cargo/registry" "$folder/registry"
     rm -rf "$folder/apt" "$folder/unpacked"

@@ -1,0 +1,33 @@
+"""How a check counts what it tries, prints what failed, and ends."""
+import sys
+
+FAILED = "FAILED: "  # how the line of a failure begins
+
+
+def is_asked(name):
+    """Whether the words of the command line choose a case: one of them is in its name, or there are none."""
+    return len(sys.argv) < 2 or any(word in name for word in sys.argv[1:])
+
+
+class Results:
+    """Counts the cases of a check, and prints a line for each failure, or for the first of them."""
+
+    def __init__(self, check, most=sys.maxsize):
+        self.check = check  # the name that its last line has
+        self.most = most  # failures that are printed
+        self.passed = self.failed = self.skipped = 0
+
+    def note(self, good, failure):
+        """Counts a case, and prints this of it where it failed."""
+        self.passed += bool(good)
+        self.failed += not good
+        if not good and self.failed <= self.most:
+            print(f"{FAILED}{failure}", flush=True)
+
+    def report(self):
+        """Prints the last line of the check, and gives the status of its script. A check that tried nothing fails."""
+        if self.passed + self.failed + self.skipped == 0:
+            self.note(False, f"{self.check}: nothing was tried")
+        skipped = f", {self.skipped} skipped" if self.skipped else ""
+        print(f"{self.check}: {self.passed} passed, {self.failed} failed{skipped}", flush=True)
+        return 1 if self.failed else 0

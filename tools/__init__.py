@@ -1,0 +1,1 @@
+"""Builds and gates the repository."""

@@ -1,0 +1,28 @@
+"""The files that a site with the search page needs, and how elasticlunr.min.js is downloaded."""
+import os
+import shutil
+import subprocess
+
+from tools.repository import TOP
+
+FETCHED = os.path.join(TOP, "browser", "out")
+ELASTICLUNR = os.path.join(FETCHED, "elasticlunr.min.js")
+FILES = [ELASTICLUNR, *(os.path.join(TOP, "browser", name) for name in ("search.html", "search.css", "search.js", "elasticlunr-languages.js"))]
+SECONDS = 120  # the time limit of a download
+
+
+def fetch():
+    """Downloads elasticlunr.min.js where it isn't there yet: whether it is there then."""
+    try:
+        subprocess.run([os.path.join(TOP, "tools", "fetch_elasticlunr.sh"), FETCHED], stdout=subprocess.DEVNULL, timeout=SECONDS, check=True)
+    except (subprocess.SubprocessError, OSError):
+        return False
+    return os.path.exists(ELASTICLUNR)
+
+
+def copy(folder, leave_out=()):
+    """Copies the files into a folder, without those that have these names."""
+    os.makedirs(folder, exist_ok=True)
+    for path in FILES:
+        if os.path.basename(path) not in leave_out:
+            shutil.copy(path, folder)

@@ -4,7 +4,7 @@
 usage: browser.py [WORD ..]
 
 Each case has a name, and passes or fails. What the cases need (Chromium, its driver, selenium, node, elasticlunr.min.js) is
-installed or downloaded first where that can be done; elsewhere the cases that need it are named as skipped. With words, only
+installed or downloaded first if that can be done; else the cases that need it are named as skipped. With words, only
 the cases run that have one of them in their names.
 """
 import os

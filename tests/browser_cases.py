@@ -98,7 +98,7 @@ def job_of(language, pages=None):
 
 
 def words_of(language):
-    """Each page's words as they stand, between spaces."""
+    """Each page's words as they are in its texts, between spaces."""
     return [[ref, word] for ref, *texts in PAGES[language] for text in texts for word in text.split()]
 
 
@@ -135,7 +135,7 @@ def words(language):
         answer = world.call([ALL], "ask", language + ".json", language + "-alone.json", words_of(language))
         must(answer["found"] > 40 and not answer["differ"], answer)
         return f"{answer['found']} found, {answer['dropped']} that the index leaves out"
-    return f"{language}: each word as it stands finds its page", case
+    return f"{language}: each word of a text finds its page", case
 
 
 def beginnings(language):
@@ -344,7 +344,7 @@ def readme():
         ("README: forms of a word are not joined but in English", forms),
         ("README: references named as properties of every object break a search", bad_references),
         ("README: characters above U+FFFF are found with the script alone", astral),
-        ("README: with AND all words have to stand in one field", one_field),
+        ("README: with AND all words have to be in one field", one_field),
     ]
 
 

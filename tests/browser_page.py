@@ -213,7 +213,7 @@ def composing(world):
         must(page.query().get_attribute("value") == "축제", [name, page.query().get_attribute("value")])
     must(page.script("composed") == [["Escape", True, True], ["ArrowDown", True, False], ["ArrowUp", True, False], ["Enter", True, True]], page.script("composed"))
     command("Input.insertText", {"text": "제"})
-    # Where the composition ends before its last key is pressed, that key has the number 229.
+    # If the composition ends before its last key is pressed, that key has the number 229.
     for name in ["Escape", "Enter"]:
         held = f"document.getElementById('query').dispatchEvent(new KeyboardEvent('keydown', {{ key: '{name}', keyCode: 229, bubbles: true, cancelable: true }}))"
         must(page.script(held) is False and page.titles() == ["봄 축제"], name)

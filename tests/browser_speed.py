@@ -1,7 +1,7 @@
 """The cases of how fast the page answers a key press.
 
 Each press is timed inside the page by performance.now(): the search, everything that it draws, and the layout, but not the
-delay before a search. A change of the choice starts the search, because that searches at once. Where the machine is busy, the
+delay before a search. A change of the choice starts the search, because that searches at once. If the machine is busy, the
 time counts instead that the browser's main thread ran, by Chromium's own metrics. The median of several presses counts.
 """
 import json

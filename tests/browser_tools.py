@@ -28,7 +28,7 @@ def has_selenium(python):
 
 
 def install(packages):
-    """Installs Debian's packages where there is apt-get and the user is root, and says first which and what for."""
+    """Installs Debian's packages if there is apt-get and the user is root, and says first which and what for."""
     if not packages or not shutil.which("apt-get") or os.geteuid() != 0:
         return
     print(f"browser_tools.py: installs {', '.join(packages)} by apt-get, to search in a browser and in node", file=sys.stderr, flush=True)
@@ -41,8 +41,8 @@ def install(packages):
 
 
 def prepare():
-    """Installs and downloads what is missing, and names what is still missing. Debian's selenium is for Debian's own Python:
-    where this one has none, the script starts again in that one."""
+    """Installs and downloads what is missing, and names what is still missing. Debian's selenium is for Debian's own Python: if
+    this Python has none, the script starts again in that one."""
     missing = [package for tool, package in PACKAGES.items() if not shutil.which(tool)]
     if not has_selenium(sys.executable) and not has_selenium(SYSTEM_PYTHON):
         missing.append("python3-selenium")

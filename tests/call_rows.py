@@ -44,7 +44,7 @@ def table():
 # Lines of a row that prepare calls, and are no calls of the library.
 PREPARING = {"swap", "give", "script", "EnglishTrimmer", "EnglishStemmer", "ArabicStemmer", "Keep"}
 
-# What a call answers where memory is refused. None: the call does not allocate.
+# What a call answers when memory is refused. None: the call does not allocate.
 TRIE = {"new": None, "from_value": MEMORY, "compacted": MEMORY, "eq": None, "add_token": MEMORY, "add_tokens": MEMORY,
         "remove_token": None, "remove_doc": None, "has_token": None, "get_docs": MEMORY, "get_doc_frequency": None, "get_term_frequency": None,
         "has_posting": None, "references": MEMORY, "to_value": MEMORY}
@@ -72,7 +72,7 @@ SUBJECTS = {"InvertedIndex": (TRIE, '["to_value"]'), "DocumentStore": (STORE, '[
             "SearchOptions": (OPTIONS, '["to_value"]'), "functions": (FUNCTIONS, None),
             "Pipeline": (STAGES, '["names"]'), "Index": ({**BUILDER, **INDEX}, '["to_json"]')}
 
-# What the filter and the clone of the last stage answer where memory is refused.
+# What the filter and the clone of the last stage answer when memory is refused.
 FILTERS = {"EnglishTrimmer": None, "EnglishStemmer": None, "ArabicStemmer": None, "Keep": None,
            "StopWordFilter::new": None, "RegexTrimmer::new": None, "RegexTrimmer::of_scripts": None}
 CLONES = {"StopWordFilter::new": MEMORY, "RegexTrimmer::new": MEMORY, "RegexTrimmer::of_scripts": MEMORY}
@@ -87,7 +87,7 @@ def texts_of(call):
 
 
 def promise(row, number):
-    """The name of a call of a row, with what it is made on, and what it answers where memory is refused."""
+    """The name of a call of a row, with what it is made on, and what it answers when memory is refused."""
     call = name_of(row.calls[number])
     kind = row.kind().split(" ")[0]
     if call in ("filter", "Stage::filter", "clone") and kind == "Pipeline":

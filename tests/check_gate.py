@@ -1,5 +1,5 @@
 #!/usr/bin/env python3
-"""Tries what the checks stand on: the gate, its counts, the notes of what is built, and the scripts that download.
+"""Tries what the checks depend on: the gate, its counts, the notes of what is built, and the scripts that download.
 
 usage: check_gate.py [WORD ..]
 
@@ -108,7 +108,7 @@ class Gate(NamedTuple):
     name: str
     said: str  # by `rt ci`
     passes: bool
-    shown: tuple = ()  # lines of the output. Where the gate fails they stand at its end, below WHAT_FAILED
+    shown: tuple = ()  # lines of the output. If the gate fails, they are at its end, below WHAT_FAILED
     status: int = 0
     meanwhile: str = ""  # what happens while `rt ci` runs, once it has built the program
     is_noted: bool = True
@@ -122,6 +122,8 @@ BAD_EDIT = "rt: must-fail prog/a.edit: BAD EDIT: an 'old:' text is in src/main.r
 ERROR = "src/main.rt:1:1: error[type]: another type"
 NOT_PROVED = f"fn main: proved\n{ERROR}\nrt: prog NOT PROVED\n0 passed, 1 failed"
 FAILURES = "".join(f'print("{FAILED}job {number}: status 1")\n' for number in range(40)) + 'print("jobs: 1000000 passed, 40 failed")\n'
+TEST_OF_CALLS = "crates/elasticlunr_test_calls/out/elasticlunr_test_calls_tests"
+ALL_BUILT = f"mkdir -p $(dirname {TEST_OF_CALLS}); echo test >{TEST_OF_CALLS}; "  # then the checks begin
 GATES = [
     Gate("a gate that passes", PROVED + REFUSED + "2 passed, 0 failed", True, ("  1 mutants refused",)),
     Gate("an edit that is refused only for a name", PROVED + BY_NAME + "2 passed, 0 failed", False, (f"  {BY_NAME.strip()}",)),
@@ -131,7 +133,7 @@ GATES = [
     Gate("a source that is changed and changed back", PROVED + "1 passed, 0 failed", True, meanwhile=CHANGE_AND_BACK, is_noted=False),
     Gate("a check that fails", PROVED + "1 passed, 0 failed", False, ("  check_jobs FAILED", "    job 0: status 1"), check=FAILURES),
     Gate("a check that breaks off", PROVED + "1 passed, 0 failed", False, ("  check_jobs FAILED: it broke off", "    ZeroDivisionError: division by zero"), check="1 / 0\n"),
-    Gate("a check that ends before `rt ci`", PROVED + "1 passed, 0 failed", False, ("  check_jobs FAILED", "    job 0: status 1"), check=FAILURES, meanwhile="sleep 12"),
+    Gate("a check that fails before `rt ci` ends", PROVED + "1 passed, 0 failed", False, ("  check_jobs FAILED", "    job 0: status 1"), check=FAILURES, meanwhile=ALL_BUILT + "sleep 14"),
 ]
 
 
@@ -177,7 +179,7 @@ def try_what_failed():
 
 
 def try_build(meanwhile):
-    """A build notes the sources that it was made from, or nothing where they changed during the build."""
+    """A build notes the sources that it was made from, or nothing if they changed during the build."""
     with Repository() as repository:
         text, status = repository.run(sys.executable, "tools/build.py", "prog", said="\nlogic=proved x", meanwhile=meanwhile)
         if status != 0 or repository.is_noted() != (not meanwhile):
@@ -220,7 +222,7 @@ def try_download(command, asked, **more):
         return None if found == wanted and is_said and is_built else f"asked {found}: {text[-400:]}"
 
 
-# Names of hosts that stand for no real one
+# Names that no real host has
 RESERVED = re.compile(r"127\.0\.0\.1|localhost|([\w-]+\.)*example(\.\w+)?|([\w-]+\.)*(invalid|test)")
 HOST = re.compile(r"(?:https?|ftp)://([\w.-]+)|\b((?:[\w-]+\.)+debian\.(?:org|net))\b")
 

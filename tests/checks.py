@@ -80,7 +80,7 @@ def show(lines, log):
 
 
 def why_failed(words, status, last):
-    """What is said of a check that failed, with a count where it gave none. Nothing where it passed."""
+    """The lines that say why a check failed, with a count if it gave none. No lines if it passed."""
     count = COUNT.match(last)
     if not count:
         return ["0 passed, 1 failed", f"  {words} FAILED: it broke off"]
@@ -92,7 +92,7 @@ def why_failed(words, status, last):
 
 
 def check(words, log):
-    """Runs a check. Its failure, or None where it passed."""
+    """Runs a check. Its failure, or None if it passed."""
     begun = time.monotonic()
     name, *arguments = words.split()
     lines = []

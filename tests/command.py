@@ -7,7 +7,7 @@ A line of the table is an object: `name`, `args`, `files` (names and texts of th
 in), `stdin`, and what must come of it: `out`, `err` and `status`. Instead of `out` a row may have `job`: then the command must
 print the text that elasticlunr_index prints for this job, with `before` before it and `after` after it, or write it to the
 file `in`. Then `err` is `notes` and a last line with the number of `documents`, that of the tokens of the index (or `tokens`,
-where some are in no index), the bytes of the text and the seconds. The number of the table's lines is in TABLE.rows.
+if some are in no index), the bytes of the text and the seconds. The number of the table's lines is in TABLE.rows.
 
 After the table each function of CHECKS is run, or those that are named.
 """

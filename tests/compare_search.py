@@ -9,7 +9,7 @@ the program printed, one field at a time, without expansion, by any of the query
 must print the references that the JavaScript finds, in the order of their bytes. LEAST says how many queries there must be,
 and how many must find something. So neither a program nor a script that finds nothing passes.
 
-elasticlunr.js is downloaded (tools/fetch_elasticlunr.sh), or is in --folder already. Where it or node can't be had, the
+elasticlunr.js is downloaded (tools/fetch_elasticlunr.sh), or is in --folder already. If it or node can't be had, the
 comparison is counted as skipped.
 """
 import argparse
@@ -161,7 +161,7 @@ def compare(options, library, results):
 
 
 def main():
-    parser = argparse.ArgumentParser()
+    parser = argparse.ArgumentParser(description=__doc__, formatter_class=argparse.RawDescriptionHelpFormatter)
     parser.add_argument("--queries", type=int, default=300)
     parser.add_argument("--seed", type=int, default=1)
     parser.add_argument("--script", default=SCRIPT)

@@ -3,10 +3,10 @@
 
 usage: forgeries.py [-v] [CHECK ..]
 
-A forged program stands in for the built program of a crate (FORGED_PROGRAM, FORGED_CRATE). A forged table or README is given
-to the check that reads it, and a forged page is in a copy of the folders that its check needs. None of them touches the
-repository. Without a name each check is tried but those of NEEDS, which install or download what they need: where that can't
-be had their forgeries are skipped. With -v each forgery has a line.
+A forged program replaces the built program of a crate (FORGED_PROGRAM, FORGED_CRATE). A forged table or README is given to
+the check that reads it, and a forged page is in a copy of the folders that its check needs. None of them touches the
+repository. Without a name all checks are tried but those of NEEDS, which install or download what they need. If that can't
+be had, their forgeries are skipped. With -v each forgery has a line.
 """
 import json
 import os
@@ -257,7 +257,7 @@ def write_table(path, rows, number):
 
 
 def why_missed(forgery, paths):
-    """Why the check passed a forgery, or failed without saying what is wrong. None where it did neither."""
+    """Why the check passed a forgery, or failed without saying what is wrong. None if it did neither."""
     environment = dict(os.environ, RUN_SECONDS="1" if forgery.program == "does not end" else "20")
     if forgery.program:
         environment.update(FORGED_PROGRAM=paths[forgery.program], FORGED_CRATE=forgery.crate)

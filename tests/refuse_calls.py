@@ -77,8 +77,8 @@ def half_added(program, row, number):
 
 
 def refuse(program, row, number, wanted):
-    """Refuses each request of a call of a row in turn: why it fails, or None; and how often it was out of memory, where it
-    then answers what is wanted."""
+    """Refuses each request of a call of a row in turn: why the call fails, or None, and how often it was out of memory. Then it
+    must answer what is wanted."""
     shown, answers = after(row, number)
     before = shown if answers is None else []
     listed = [*row.calls[:number], *before, row.calls[number], *shown]

@@ -18,7 +18,7 @@ class Results:
         self.passed = self.failed = self.skipped = 0
 
     def note(self, good, failure):
-        """Counts a case, and prints this of it where it failed."""
+        """Counts a case, and prints its failure if it failed."""
         self.passed += bool(good)
         self.failed += not good
         if not good and self.failed <= self.most:

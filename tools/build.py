@@ -3,12 +3,12 @@
 
 usage: build.py [--check] NAME
 
-A crate is proved once those that it stands on are. Crates that don't stand on one another are proved at the same time: the
-one on which most has still to be built gets all processors, and the others run at a lower priority. What `rt` says goes to
-out/build-CRATE.log; its end is shown where a crate isn't proved. A crate has a line, with its seconds, once it is proved.
-Where nothing has changed since the last build there is nothing to do and nothing is said.
+A crate is proved after the crates that it depends on. Crates that don't depend on one another are proved at the same time:
+the one with the most still to be built above it gets all processors, and the others run at a lower priority. What `rt` says
+goes to out/build-CRATE.log; its end is shown if a crate isn't proved. Each crate has a line, with its seconds, once it is
+proved. If nothing has changed since the last build, nothing is built or printed.
 
---check builds nothing, and its status says whether there is nothing to build.
+--check builds nothing. Its status is 0 if there is nothing to build.
 """
 import hashlib
 import os
@@ -27,7 +27,7 @@ from tools.repository import TOP, say
 LOGS = os.path.join(TOP, "out")
 FIRST = {"elasticlunr_index": "10 to 22 minutes on four cores, by how fast they are"}  # a build from nothing
 GIGABYTES_OF_JOB = 2  # of memory, for each job of a check
-SHOWN = 40  # lines of the log that are shown where a crate isn't proved
+SHOWN = 40  # lines of the log of a crate that isn't proved
 BUILT = (b"\nlogic=proved ", b"nothing has changed since the last proved build")  # one of these is what rt says of a built program
 
 
@@ -77,8 +77,8 @@ def is_built(name):
 
 
 def note_built(name, sources):
-    """Notes that the program was built, and proved, from these sources, which were taken before the build. Where one has changed
-    since, nobody knows which text the build has read: then nothing is noted."""
+    """Notes that the program was built, and proved, from these sources, which were read before the build. If one has changed
+    since then, nobody knows which text the build has read, and nothing is noted."""
     if sources == sources_of(name):
         with open(note_of(name), "w", encoding="ascii") as file:
             file.write(sources.sum + sum_of([built(name)]))
@@ -130,7 +130,7 @@ def rt(command, at, shared, log):
 
 
 def prove(crate, command, shared, log, is_alone):
-    """Proves a crate in its folder, or in a workspace where another rt runs, and gives the seconds, or None."""
+    """Proves a crate in its folder, or in a workspace if another rt runs, and gives the seconds, or None."""
     begun = time.monotonic()
     proved = rt(command, folder(crate), shared, log) if is_alone else prove_in_workspace(crate, command, shared, log)
     return time.monotonic() - begun if proved else None
@@ -176,7 +176,7 @@ def build(name):
                     left = []
                     failed(crate, log)
                     continue
-                # rt says nothing where nothing has changed
+                # rt says nothing if nothing has changed
                 say(f"  {crate}: proved ({ended.result():.0f} s)" if os.path.getsize(log) else f"  {crate}: as it was")
                 proved.add(crate)
     return name in proved

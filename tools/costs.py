@@ -4,14 +4,14 @@
 usage: costs.py FOLDER [COUNT]
 
 FOLDER is what a check with one job kept while it proved the crate from nothing: crates/NAME/out/incremental after
-`rm -rf out/incremental; mkdir out/incremental` and `rt check --jobs 1` in the crate's folder. Where there is no such
-folder, or another copy on the machine has proved the same text since, `rt` takes what that one kept: add a comment to the
-end of a file to make its text another one.
+`rm -rf out/incremental; mkdir out/incremental` and `rt check --jobs 1` in the crate's folder. If there is no such folder, or
+another copy on the machine has proved the same text since, `rt` takes what that one kept. A comment at the end of a file
+makes it another text.
 
-Each file took the time since the one before it was written, with the time to read what it stands on: so what is read for
-the first time counts for the function that needs it first. Of a function, `Lts` are the steps of its body, which grow
-faster than the body does, with its exits and with what is alive at each; `Proof` is what was left to the search. A small
-file right after large steps may have their end. The COUNT most expensive are shown, 20 when absent.
+The time of a file is the time since the file before it was written, with the reading of what it depends on. So what is read
+for the first time counts for the function that needs it first. `Lts` are the steps of a function's body: they grow faster
+than the body, with its exits and with what is alive at each. `Proof` is what was left to the search. A small file right
+after large steps may have their end. The COUNT most expensive functions are shown, 20 when absent.
 """
 import collections
 import os

@@ -49,8 +49,7 @@ ERROR = re.compile(r".*(: error|\berror\[)")
 
 
 def environment():
-    """Sets as many checks of crates at a time as there are processors, where the machine's memory allows that. Elsewhere rt
-    decides."""
+    """Lets rt check as many crates at a time as there are processors, if the machine's memory allows that. Else rt decides."""
     processors = build.processors()
     fits = build.gigabytes() >= GIGABYTES_OF_ONE + GIGABYTES_OF_NEXT * (processors - 1)
     return {**os.environ, "RT_JOBS": str(processors)} if fits and "RT_JOBS" not in os.environ else dict(os.environ)

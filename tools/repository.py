@@ -38,8 +38,8 @@ def write(path, text):
 
 
 def program(crate, name=None):
-    """The path of a crate's built program, or of its built tests by their name. Where FORGED_PROGRAM is set, its path stands
-    in for each program, or for that of FORGED_CRATE alone (tests/forgeries.py)."""
+    """The path of a crate's built program, or of its built tests by their name. If FORGED_PROGRAM is set, it is the path of the
+    program that replaces each one, or only that of FORGED_CRATE (tests/forgeries.py)."""
     if "FORGED_PROGRAM" in os.environ and os.environ.get("FORGED_CRATE", crate) == crate:
         return os.environ["FORGED_PROGRAM"]
     return os.path.join(TOP, "crates", crate, "out", name or crate)
@@ -68,7 +68,7 @@ def run(command, given=b"", seconds=SECONDS, **options):
 
 
 def printed(job):
-    """The text that elasticlunr_index prints for a job, with its line feed. A ValueError where it prints no index."""
+    """The text that elasticlunr_index prints for a job, with its line feed. Raises a ValueError if it prints no index."""
     ended = run([program("elasticlunr_index")], json.dumps(job).encode())
     if ended.status != 0 or ended.err:
         raise ValueError(f"elasticlunr_index prints no index: status {ended.status}, {(ended.out + ended.err)[:200]!r}")

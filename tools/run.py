@@ -3,10 +3,10 @@
 
 usage: run.py [--try]
 
-Where standard input is empty, the program gets the example. Where it is a terminal, the program gets a small example and
-prints its index in lines.
+If standard input is empty, the program gets the example. If it is a terminal, the program gets a small example and prints its
+index in lines.
 
---try compiles the program by `rt try`, without a proof, and runs it. What `rt` says is shown where that fails.
+--try compiles the program by `rt try`, without a proof, and runs it. What `rt` says is shown if that fails.
 """
 import os
 import shutil
@@ -21,7 +21,7 @@ CRATE = "elasticlunr_index"
 EXAMPLE = os.path.join(TOP, "examples", "job.json")
 SMALL = os.path.join(TOP, "examples", "small.json")
 ANSWERS = (0, 1, 2)  # how the program ends
-ENDED = "\nrun=ended "  # what `rt try` says where the program ended by itself
+ENDED = "\nrun=ended "  # what `rt try` says if the program ended by itself
 
 
 def content(path):

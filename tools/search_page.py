@@ -12,7 +12,7 @@ SECONDS = 120  # the time limit of a download
 
 
 def fetch():
-    """Downloads elasticlunr.min.js where it isn't there yet: whether it is there then."""
+    """Downloads elasticlunr.min.js unless it is there: whether it is there then."""
     try:
         subprocess.run([os.path.join(TOP, "tools", "fetch_elasticlunr.sh"), FETCHED], stdout=subprocess.DEVNULL, timeout=SECONDS, check=True)
     except (subprocess.SubprocessError, OSError):

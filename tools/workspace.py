@@ -2,7 +2,7 @@
 
 `rt` locks the folders of the crates that it works in and of those below, and writes into them. In a workspace it works next
 to another `rt`, or on a crate that the repository doesn't have, and writes nothing into the repository. What is built is
-shared by hard links, or copied where the file system has no links: `rt` replaces such a file and never writes into it.
+shared by hard links, or copied if the file system has no links: `rt` replaces such a file and never writes into it.
 """
 import os
 import shutil
@@ -21,7 +21,7 @@ def crates():
 
 
 def below(name):
-    """The crates that a crate stands on, each after those that it stands on itself."""
+    """The crates that a crate depends on, each after its own dependencies."""
     named = crates()
     found = []
     for library in named[name]:

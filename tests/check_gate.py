@@ -122,6 +122,7 @@ BAD_EDIT = "rt: must-fail prog/a.edit: BAD EDIT: an 'old:' text is in src/main.r
 ERROR = "src/main.rt:1:1: error[type]: another type"
 NOT_PROVED = f"fn main: proved\n{ERROR}\nrt: prog NOT PROVED\n0 passed, 1 failed"
 FAILURES = "".join(f'print("{FAILED}job {number}: status 1")\n' for number in range(40)) + 'print("jobs: 1000000 passed, 40 failed")\n'
+KILLS = "import os, signal\nos.kill(os.getppid(), signal.SIGKILL)\n"
 TEST_OF_CALLS = "crates/elasticlunr_test_calls/out/elasticlunr_test_calls_tests"
 ALL_BUILT = f"mkdir -p $(dirname {TEST_OF_CALLS}); echo test >{TEST_OF_CALLS}; "  # then the checks begin
 GATES = [
@@ -133,6 +134,7 @@ GATES = [
     Gate("a source that is changed and changed back", PROVED + "1 passed, 0 failed", True, meanwhile=CHANGE_AND_BACK, is_noted=False),
     Gate("a check that fails", PROVED + "1 passed, 0 failed", False, ("  check_jobs FAILED", "    job 0: status 1"), check=FAILURES),
     Gate("a check that breaks off", PROVED + "1 passed, 0 failed", False, ("  check_jobs FAILED: it broke off", "    ZeroDivisionError: division by zero"), check="1 / 0\n"),
+    Gate("checks that are killed", PROVED + "1 passed, 0 failed", False, ("  tests/checks.py broke off",), check=KILLS),
     Gate("a check that fails before `rt ci` ends", PROVED + "1 passed, 0 failed", False, ("  check_jobs FAILED", "    job 0: status 1"), check=FAILURES, meanwhile=ALL_BUILT + "sleep 14"),
 ]
 

@@ -107,14 +107,17 @@ class Checks(threading.Thread):
             return False
 
     def end(self):
-        """Waits for their end: their status, and the lines of what failed that are not the last of the output already. What
-        they said goes to the log."""
+        """Waits for their end: their status, and the lines of what failed, unless they are shown only now. What the checks said
+        goes to the log."""
         is_shown = self.running is None or self.running.poll() is None
         self.gate_ended.set()
         self.join()
         said = read(self.own)
         append(self.log, said)
-        return self.status, [] if is_shown or WHAT_FAILED not in said else said[said.index(WHAT_FAILED) :].splitlines()
+        if self.status and WHAT_FAILED not in said:
+            append(self.log, "0 passed, 1 failed\n")
+            return self.status, what_failed([Failure("tests/checks.py broke off", [])])
+        return self.status, said[said.index(WHAT_FAILED) :].splitlines() if self.status and not is_shown else []
 
     def drop(self):
         with self.turn:

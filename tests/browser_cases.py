@@ -60,12 +60,12 @@ def several(_world):
 def script_sizes(_world):
     size = lambda name: round(os.path.getsize(os.path.join(TOP, "browser", name)) / 1000)
     own = [size(own_script(language)) for language in PAGES]
-    must(f"all languages in {size(ALL)} kB; that of one language has {min(own)} to {max(own)} kB." in read("README.md"), [size(ALL), own])
+    must(f"all languages in {size(ALL)} kB; the script of one language has {min(own)} to {max(own)} kB." in read("docs/BROWSER.md"), [size(ALL), own])
 
 
 def scripts():
     made = [committed(ALL, "")] + [committed(own_script(language), language + "\n") for language in PAGES]
-    return made + [("a name that is no language is refused", refused_name), ("a script for two languages", several), ("README: sizes of the scripts", script_sizes)]
+    return made + [("a name that is no language is refused", refused_name), ("a script for two languages", several), ("docs: sizes of the scripts", script_sizes)]
 
 
 # In node.
@@ -196,7 +196,7 @@ def own_tokenizer(world):
 
 def every_character():
     made = [characters(language, alone) for language in ["English", "German", "Russian", "Korean", "Arabic"] for alone in [True, False]]
-    return made + [("README: English without its script differs at capitals, U+0085 and U+FEFF alone", own_tokenizer)]
+    return made + [("docs: English without its script differs at capitals, U+0085 and U+FEFF alone", own_tokenizer)]
 
 
 # A book.
@@ -246,7 +246,7 @@ def books():
             ("book: scores of roots and of millionths have one order", order)]
 
 
-# What README says of languages and of references.
+# What docs/BROWSER.md says of languages and of references.
 
 def lang_search(world, language, docs, queries, **settings):
     world.index("queried", {"fields": ["body"], "docs": docs, "lang": language})
@@ -259,9 +259,9 @@ LETTERS = {"in Latin letters": {"Latin"}, "in all letters": set(SAMPLES) - {"num
 
 
 def table_row(language):
-    """What README's table says of a language: the script, what is found and what isn't."""
+    """What the table of docs/BROWSER.md says of a language: the script, what is found and what isn't."""
     def case(world):
-        rows = [[cell.strip() for cell in line.split("|")[2:5]] for line in lines_of("README.md") if line.startswith(f"| {language} |")]
+        rows = [[cell.strip() for cell in line.split("|")[2:5]] for line in lines_of("docs/BROWSER.md") if line.startswith(f"| {language} |")]
         must(len(rows) == 1, rows)
         script, finds, leaves = rows[0]
         name = script.split("`")[1]
@@ -275,7 +275,7 @@ def table_row(language):
         must(("numbers" in leaves) == ("numbers" not in found) and ("in other letters" in leaves) == (len(expected - {"numbers"}) < 5), leaves)
         stems = lang_search(world, language, [["1", "Searching"]], ["Searches", "Searching"])
         must(("by its stem" in finds) == bool(stems[0]) and ("other forms" in leaves) != ("by its stem" in finds), stems)
-    return f"README: the table's row of {language}", case
+    return f"docs: the table's row of {language}", case
 
 
 def turkish(world):
@@ -339,12 +339,12 @@ def demo(world):
 
 def readme():
     return [table_row(language) for language in PAGES] + [
-        ("README: İ and I in Turkish", turkish),
-        ("README: ẞ in German", large_sharp_s),
-        ("README: forms of a word are not joined but in English", forms),
-        ("README: references named as properties of every object break a search", bad_references),
-        ("README: characters above U+FFFF are found with the script alone", astral),
-        ("README: with AND all words have to be in one field", one_field),
+        ("docs: İ and I in Turkish", turkish),
+        ("docs: ẞ in German", large_sharp_s),
+        ("docs: forms of a word are not joined but in English", forms),
+        ("docs: references named as properties of every object break a search", bad_references),
+        ("docs: characters above U+FFFF are found with the script alone", astral),
+        ("docs: with AND all words have to be in one field", one_field),
     ]
 
 

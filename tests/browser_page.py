@@ -19,7 +19,7 @@ ADDRESSES = '<body data-index="search_index.json" data-addresses="addresses.json
 
 
 def site(world, name, docs, lang="English", index=None, leave_out=(), edits=None, **more):
-    """Makes a folder as README says, and edits the page: each text that is a key of `edits` becomes its value."""
+    """Makes a folder as docs/BROWSER.md says, and edits the page: each text that is a key of `edits` becomes its value."""
     folder = os.path.join(world.folder, name)
     search_page.copy(folder, leave_out)
     page = os.path.join(folder, "search.html")

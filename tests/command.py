@@ -174,7 +174,7 @@ def check_scripts(folder, given, results):
         "cut.json": (text[:40], (b"", b"cut.json:1:40: not JSON: it ends in the middle of a value\n", 2)),
         "cut.js": (
             b"i = " + text[:40] + b";\n",
-            (b"", b"cut.js: no index: what stands in the script is not JSON\n", 2),
+            (b"", b"cut.js: not an index: what stands in the script is not JSON\n", 2),
         ),
         "none.js": (b"i = 5;\n", (b"", b"none.js:1:1: not JSON\n", 2)),
     }

@@ -3,7 +3,7 @@
 
 usage: forgeries.py [-v] [CHECK ..]
 
-A forged program replaces the built program of a crate (FORGED_PROGRAM, FORGED_CRATE). A forged table or README is given to
+A forged program replaces the built program of a crate (FORGED_PROGRAM, FORGED_CRATE). A forged table or page is given to
 the check that reads it, and a forged page is in a copy of the folders that its check needs. None of them touches the
 repository. Without a name all checks are tried but those of NEEDS, which install or download what they need. If that can't
 be had, their forgeries are skipped. With -v each forgery has a line.
@@ -214,28 +214,26 @@ def forged_tables(folder):
         yield Forgery(name, "check_jobs", says, arguments=(path,))
 
 
-def forged_readmes(folder):
-    whole = read("README.md")
-    rust = re.compile(r"^```(rust|antt)\n.*?^```\n", re.DOTALL | re.MULTILINE)
-    another = r"^README.md, line \d+: Rust: crates/elasticlunr_\w+/%s is another text"
-    numbers = "^README.md, the lines of crates.txt: README has %d, and %d blocks of Rust"
+def forged_docs(folder):
+    readme, library = read("README.md"), read("docs/LIBRARY.md")
+    kit = re.compile(r"logic [0-9a-f]{16}")
     forged = [
-        ("README with another line of Rust", whole.replace('add_doc("1"', 'add_doc("2"', 1), another % "src/lib.rt"),
-        ("README with another proof", whole.replace("if-is_empty.true", "if-is_empty.false", 1), another % r"proofs/\S+"),
-        ("README with one more block of Rust", whole + "```rust\npub fn nothing() {}\n```\n", numbers % (2, 3)),
-        ("README with another use", whole.replace('&["go"]', '&["to"]', 1), numbers % (2, 3)),
-        ("README without Rust", rust.sub("", whole), numbers % (2, 0)),
-        ("README without the lines of crates.txt", whole.replace("```text", "```"), numbers % (0, 2)),
-        ("README with another line of crates.txt", whole.replace("site: elasticlunr", "site: std"), "crates.txt has no line"),
-        ("README with a command that fails", whole + "```console\n$ make no-such-thing\n```\n", "make no-such-thing: status 2"),
-        ("README with a command that doesn't exist", whole.replace("$ make test", "$ make tests"), "make tests: status 2"),
-        ("README with a job that is none", whole.replace('"docs": [\n', '"pages": [\n'), "a job: it is no job: refused"),
-        ("README with another kit", re.sub(r"logic [0-9a-f]{16}", "logic 0123456789abcdef", whole), "the kit: its logic is"),
-        ("README without a kit", re.sub(r"logic [0-9a-f]{16}", "logic", whole), "the kit: README names 0"),
+        ("a page with another line of Rust", readme.replace("    index.compact()?;\n", "", 1), "Rust: no crate has this file"),
+        ("a page with one more block of Rust", readme + "```rust\npub fn nothing() {}\n```\n", "Rust: no crate has this file"),
+        ("a page with another proof", library.replace("if-is_empty.true", "if-is_empty.false", 1), r"a proof: crates/\S+ is another text"),
+        ("a page with another line of crates.txt", readme.replace("site: elasticlunr", "site: std"), "crates.txt has no line"),
+        ("a page with a command that fails", readme + "```console\n$ make no-such-thing\n```\n", "make no-such-thing: status 2"),
+        ("a page with a command that doesn't exist", readme.replace("$ make test", "$ make tests"), "make tests: status 2"),
+        ("a page with another answer", readme.replace("\nguide/search.html\n", "\nguide/other.html\n"), "it prints "),
+        ("a page with a job that is none", readme.replace('"docs": [[', '"pages": [['), 'JSON: .*"pages" is not a key of a job'),
+        ("a page with a link to no file", readme.replace("docs/PERF.md", "docs/SPEED.md"), "docs/SPEED.md: there is no such file"),
+        ("a page with a link to no heading", readme.replace("#minutes", "#hours"), "there is no such heading"),
+        ("a page with a name that no crate has", readme.replace("_are_as_new", "_are_new"), "no crate has this name"),
+        ("a page with another kit", kit.sub("logic 0123456789abcdef", readme), "the kit: the kit here has logic"),
     ]
     for name, text, says in forged:
         path = write(os.path.join(folder, name.replace(" ", "-") + ".md"), text)
-        yield Forgery(name, "check_readme", says, arguments=(path,))
+        yield Forgery(name, "check_docs", says, arguments=(path,))
 
 
 def write_programs(folder):
@@ -276,7 +274,7 @@ def forgeries(folder):
     yield from forged_refusals()
     yield from forged_commands(folder)
     yield from forged_tables(folder)
-    yield from forged_readmes(folder)
+    yield from forged_docs(folder)
     yield from forged_searches()
     yield from forged_pages(folder)
 

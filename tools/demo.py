@@ -3,7 +3,7 @@
 
 usage: demo.py [PORT]
 
-A site is made as README says: the page with its style and script, the two scripts and the index lie in one folder.
+A site is made as docs/BROWSER.md says: the page with its style and script, the two scripts and the index lie in one folder.
 """
 import functools
 import html

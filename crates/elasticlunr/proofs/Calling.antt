@@ -72,7 +72,7 @@ one_stem_of : OneStem → (text a b : Option Text) → StemOf text a → StemOf 
 one_stem_of stems None a b is other = is ∙ sym other
 one_stem_of stems (Some word) a b is other = one_some stems word a b is other
 
--- what a kept language leaves of a token is one
+-- what a built-in language leaves of a token is one
 one_left : OneStem → (language : AnyLanguage) (token : Text) (a b : Option Text) → language_leaves language token a → language_leaves language token b → a ≡ b
 one_left stems English token a b is other = one_stem_of stems (unless_listed english_stop_words (trimmed is_word_char token)) a b is other
 one_left stems Arabic token a b is other = is ∙ sym other

@@ -14,7 +14,7 @@ not_none there x is none = true≢false (rw is at none)
 pub none_there : {X : Type 0} (there : Option X) → there ≡ None → IsNone there
 none_there there is = rw is refl
 
--- after want of memory, where there were contents: it had not failed
+-- after running out of memory, where there were contents: it had not failed
 pub memory_failed : {T X : Type 0} (r : Result T IndexError) (was : Option X) (x : X) → r ≡ Err Memory → was ≡ Some x → (r ≡ Err Failed) ↔ IsNone was
 memory_failed r was x memory is = (λ failed. absurd (cc (memory, failed)), λ none. absurd (not_none was x is none))
 
@@ -83,6 +83,6 @@ not_named names at name place found value is absent tells = ap (λ ns. has_name 
     not_there true same = absurd (true≢false (sym (same.1 refl) ∙ (sym is ∙ absent)))
     not_there false same = refl
 
--- want of memory refuses no name
+-- out of memory refuses no name
 pub memory_duplicate : {T : Type 0} (r : Result T IndexError) (there : Bool) → r ≡ Err Memory → there ≡ false → (r ≡ Err DuplicateField) ↔ IsTrue there
 memory_duplicate r there memory absent = (λ twice. absurd (cc (memory, twice)), λ h. absurd (true≢false (sym h ∙ absent)))

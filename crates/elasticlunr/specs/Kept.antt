@@ -1,4 +1,4 @@
--- What the kept languages read, and what their indexes print.
+-- What the built-in languages read, and what their indexes print.
 use Rattle.std.specs.Prelude.{◌≡◌, ℕ, List, [], ◌∷◌}
 use Rattle.serde_json.specs.Data.{Data}
 use Rattle.serde_json.specs.Written.{compact_text}

@@ -10,6 +10,6 @@ pub record LanguageReads (tokens_of : Text → List Text) (leaves_of : Text → 
   pub each : AllZip leaves_of (tokens_of (chars value)) lefts
   pub are : tokens ≡ filter_map (λ left. left) lefts
 
--- where the one reads tokens of a value, the other does, too
+-- where the one produces tokens of a value, the other does, too
 abbrev pub ReadsOnly : (reads other : ℕ → Bytes → List Text → Type 0) → Type 0
 ReadsOnly reads other = (i : ℕ) (value : Bytes) (tokens : List Text) → reads i value tokens → other i value tokens

@@ -4,7 +4,7 @@ use elasticlunr::IndexError;
 use elasticlunr_search::SearchError;
 use std::alloc::{AllocError, AllocFailed};
 
-/// A refusal, which no job expects, or want of memory.
+/// A refusal, which no job expects, or out of memory.
 #[derive(Clone, Copy)]
 pub struct Failure {}
 

@@ -1,4 +1,4 @@
-//! Numbers by chance, the same for the same seed.
+//! Random numbers, the same for the same seed.
 
 use rand_core::utils::NextWord;
 use rand_pcg::Pcg32;

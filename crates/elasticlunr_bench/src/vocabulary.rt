@@ -39,7 +39,7 @@ impl Vocabulary {
         Ok(Vocabulary { words })
     }
 
-    /// A word by chance, as often as its rank says.
+    /// A random word, as often as its rank says.
     pub fn word(&self, random: &mut Random) -> &str {
         self.at(random.rank())
     }

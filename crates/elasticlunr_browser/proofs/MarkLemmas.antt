@@ -42,7 +42,7 @@ none_at_all has = record {
 pub none_yet : (has : ℕ → Bool) (marks : List ℕ) → marks ≡ [] → AreMarks has 0 false marks
 none_yet has marks e = subst (AreMarks has 0 false) (sym e) (none_at_all has)
 
--- a mark behind the character is not counted, another one is
+-- a mark after the character is not counted, another one is
 count-later : (c code : ℕ) (marks : List ℕ) → c < code → count_by (λ mark. nat_le mark c) (marks ++ code ∷ []) ≡ count_by (λ mark. nat_le mark c) marks
 count-later c code marks h = count-push c code marks ∙ grind (arith, nat_tests, h)
 

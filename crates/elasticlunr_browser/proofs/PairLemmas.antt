@@ -61,7 +61,7 @@ all_pairs changed n pairs are whole = record {
     below c (inl low) = omega (arith, low, whole)
     below c (inr high) = omega (arith, high.0, high.1, whole)
 
--- a character and what stands for it, put together
+-- a character and what replaces it, put together
 pub pair_text : (changed : ℕ → Text) (pair text new : String Global) (bytes : List ℕ) (c code : ℕ) → text_of pair ≡ c ∷ [] → bytes ≡ string_bytes text → string_bytes new ≡ string_bytes pair ++ bytes → text_of text ≡ changed c → c ≡ code → text_of new ≡ code ∷ changed code
 pair_text changed pair text new bytes c code first is put after same =
     ap chars put ∙ chars-append (string_bytes pair) bytes (IsUtf8-string_bytes pair) ∙ ap (λ t. t ++ chars bytes) first
@@ -96,7 +96,7 @@ is_dropped left nothing token c told is alone = said left nothing told ∙ ap is
     said (Some s) true e = cc
     said (Some s) false e = refl
 
--- what the Arabic stemmer left of a character alone is what stands for it, and the character itself where it left nothing
+-- what the Arabic stemmer left of a character alone is what replaces it, and the character itself where it left nothing
 module _ (left : Option (String Global)) (token : Text) (c : ℕ) (is : option_map text_of left ≡ arabic_stem token) (alone : token ≡ c ∷ []) where
   stem_of_one : arabic_stem (c ∷ []) ≡ option_map text_of left
   stem_of_one = sym (is ∙ ap arabic_stem alone)
@@ -107,6 +107,6 @@ module _ (left : Option (String Global)) (token : Text) (c : ℕ) (is : option_m
   pub stands_left : (text : String Global) → left ≡ Some text → text_of text ≡ arabic_change c
   stands_left text some = sym (ap (λ stem. unwrap_or stem (c ∷ [])) (stem_of_one ∙ ap (option_map text_of) some))
 
-  -- where it left the character, that stands for itself
+  -- where it left the character, it stays
   pub stands_alone : (text : String Global) → left ≡ Some text → text_of text ≡ c ∷ [] → arabic_change c ≡ c ∷ []
   stands_alone text some same = sym (stands_left text some) ∙ same

@@ -1,4 +1,4 @@
--- The kinds of stages of the kept languages, and what a script holds of a language: what it holds of its stages.
+-- The kinds of stages of the built-in languages, and what a script holds of a language: what it holds of its stages.
 use Rattle.std.specs.Prelude.{◌≡◌, ◌↔◌, List, [], ◌∷◌, ◌++◌, map, codes, string_bytes, Option, None, Some, IsSomeAnd, MatchOption, IsTrue}
 use Rattle.std.specs.List.{filter_map, AllZip}
 use Rattle.std.specs.Str.{all_scalars}

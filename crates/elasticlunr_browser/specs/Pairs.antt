@@ -1,4 +1,4 @@
--- A change of single characters as pairs: a character, followed by what stands for it.
+-- A change of single characters as pairs: a character, followed by what replaces it.
 use Rattle.std.specs.Prelude.{◌≡◌, ℕ, List, [], ◌∷◌, All, Contains, Option, MatchOption, ◌⊎◌, unwrap_or}
 use Rattle.std.specs.Char.{InScalarRange}
 use Rattle.std.specs.declared.string.String.{String}
@@ -6,7 +6,7 @@ use Rattle.std.specs.declared.alloc.Global.{Global}
 use Rattle.elasticlunr_text.specs.Text.{Text, text_of}
 use Rattle.elasticlunr_text.specs.Arabic.{arabic_stem}
 
--- a character and what stands for it
+-- a character and what replaces it
 abbrev pub IsPair : (ℕ → Text) → Text → Type 0
 IsPair changed pair = (c : ℕ) × InScalarRange c × (pair ≡ c ∷ changed c)
 
@@ -15,7 +15,7 @@ pub record Pairs (changed : ℕ → Text) (pairs : List Text) : Type 0 where
   pub each : All (IsPair changed) pairs
   pub whole : (c : ℕ) → InScalarRange c → Contains pairs (c ∷ changed c) ⊎ (changed c ≡ c ∷ [])
 
--- this stands for the character, or the character itself
+-- this replaces the character, or the character itself
 abbrev pub StandsFor : Text → ℕ → Option (String Global) → Type 0
 StandsFor changed c text = MatchOption text (changed ≡ c ∷ []) (λ t. text_of t ≡ changed)
 

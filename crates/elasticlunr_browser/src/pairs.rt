@@ -11,10 +11,10 @@ use std::alloc::{AllocError, Global};
 
 /// A change of single characters.
 pub trait CharChange {
-    // what stands for a character
+    // what replaces a character
     ghost changed: { Self → ℕ → Text };
 
-    /// What stands for the character; `None` is the character itself.
+    /// What replaces the character; `None` is the character itself.
     fn change(&self, alloc: Global, c: char) -> Result<Option<String>, AllocError>
         ensures { IfOk result (λ text. StandsFor (changed self.now c) c text) };
 }
@@ -73,7 +73,7 @@ impl CharChange for ArabicChange {
     }
 }
 
-/// The character of this number and what stands for it; `None` where no other text does, or where
+/// The character of this number and what replaces it; `None` where no other text does, or where
 /// no character has the number.
 fn pair_of<M: CharChange>(
     alloc: Global,

@@ -32,7 +32,7 @@ pub const TAIL: &str = ";
     return low % 2 === 1;
   }
 
-  // Each character that changes, with what stands for it.
+  // Each character that changes, with what replaces it.
   function table(pairs) {
     return new Map(pairs.map(function (pair) {
       var characters = Array.from(pair);

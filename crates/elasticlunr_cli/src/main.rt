@@ -1,6 +1,6 @@
 //! The command `elasticlunr`: builds an index of documents in a file, says what is wrong in them,
 //! and searches an index. It ends with status 0 where it did what was asked for, 2 where the input
-//! was refused, 1 where a file failed or memory was wanting, and 64 where the command line is wrong.
+//! was refused, 1 where a file failed or memory ran out, and 64 where the command line is wrong.
 #![tactic(auto)]
 
 mod build;

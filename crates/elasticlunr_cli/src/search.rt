@@ -91,10 +91,10 @@ fn found_lines(alloc: Global, file: &[u8], asked: &Asked<'_>) -> Result<String, 
 /// Why the index that stands in a file is not read.
 fn unread(alloc: Global, whole: &[u8], index: &[u8]) -> Result<Trouble, AllocError> {
     match read_value(alloc, index) {
-        Ok(_) => refused(alloc, "no index"),
+        Ok(_) => refused(alloc, "not an index"),
         // In a script the place would not be that in the file.
         Err(Trouble::Refused(_)) if index.len() < whole.len() => {
-            refused(alloc, "no index: what stands in the script is not JSON")
+            refused(alloc, "not an index: what stands in the script is not JSON")
         }
         Err(trouble) => Ok(trouble),
     }
@@ -129,12 +129,15 @@ fn no_field(alloc: Global, text: &[u8], field: &str) -> Result<Trouble, AllocErr
 fn not_searched(alloc: Global, refusal: Refusal) -> Result<Trouble, AllocError> {
     match refusal {
         Refusal::Memory => Ok(Trouble::Memory),
-        Refusal::UnknownLanguage => refused(alloc, "no index: it names no language"),
-        Refusal::OtherPipeline => refused(alloc, "other stages than its language has here"),
-        Refusal::NoFields => refused(alloc, "no index: it has no list of fields"),
-        Refusal::NoTries => refused(alloc, "no index: a field has no tokens"),
-        Refusal::NoStore => refused(alloc, "no index: it has no store of documents"),
-        _ => refused(alloc, "no index"),
+        Refusal::UnknownLanguage => refused(alloc, "not an index: it names no language"),
+        Refusal::OtherPipeline => refused(
+            alloc,
+            "built with another pipeline than its language has here",
+        ),
+        Refusal::NoFields => refused(alloc, "not an index: it has no list of fields"),
+        Refusal::NoTries => refused(alloc, "not an index: a field has no trie"),
+        Refusal::NoStore => refused(alloc, "not an index: it has no document store"),
+        _ => refused(alloc, "not an index"),
     }
 }
 

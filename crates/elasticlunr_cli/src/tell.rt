@@ -50,7 +50,7 @@ fn tell(rt: &HostRuntime, file: &str, message: &Message) -> io::Result<()> {
     say(rt, line.as_str())
 }
 
-/// Says what is unwise in the documents of a file.
+/// Says what is suspicious in the documents of a file.
 pub(crate) fn warn(rt: &HostRuntime, file: &str, warnings: &[String]) -> io::Result<()> {
     for said in warnings.iter().take(SHOWN) {
         let line = format!(in rt.alloc(); "{file}: warning: {said}")?;

@@ -3,6 +3,9 @@
 use clap::{Arg, ArgAction, Command};
 use std::alloc::{AllocError, Global};
 
+/// The version of this port, and what it is a port of.
+const VERSION: &str = "0.1.0 (a port of elasticlunr-rs 3.0.2)";
+
 /// The command and its sub-commands.
 pub(crate) fn command_line<'a>(alloc: Global) -> Result<Command<'a>, AllocError> {
     let languages = "Lists the languages: name, code and the stages of each";
@@ -16,7 +19,7 @@ pub(crate) fn command_line<'a>(alloc: Global) -> Result<Command<'a>, AllocError>
 /// The command without its sub-commands.
 fn bare_command<'a>(alloc: Global) -> Result<Command<'a>, AllocError> {
     let command = Command::new(alloc, "elasticlunr")
-        .version("3.0.2")
+        .version(VERSION)
         .about("Builds search indexes for elasticlunr.js, checks documents and searches")
         .subcommand_required(true)
         .arg_required_else_help(true)
@@ -42,7 +45,7 @@ fn build_words<'a>(alloc: Global) -> Result<Command<'a>, AllocError> {
 /// `check`: the input and how it is read.
 fn check_words<'a>(alloc: Global) -> Result<Command<'a>, AllocError> {
     let command = Command::new(alloc, "check").about(
-        "Says what is wrong in FILE, or in standard input, and prints no index",
+        "Reports what is wrong in FILE, or in standard input, and writes no index",
     );
     input_words(alloc, command)
 }
@@ -50,19 +53,19 @@ fn check_words<'a>(alloc: Global) -> Result<Command<'a>, AllocError> {
 /// The words of an input: where it is and how it is read.
 fn input_words<'a>(alloc: Global, command: Command<'a>) -> Result<Command<'a>, AllocError> {
     let file = "A job, an array of objects, or a line for each object";
-    let format = "The form of the input, where its beginning doesn't tell it";
+    let format = "The form of the input, if not the one that its first line shows";
     let forms = ["job", "objects", "lines"].as_slice();
     let reference = "The key of an object's reference [default: id]";
     let fields = "The fields, with a comma between them";
     let language = "A name or a code of `elasticlunr languages`";
-    let progress = "Says when the input is read and its index made";
+    let progress = "Reports when the input is read and the index is made";
     let arguments = vec![in alloc;
         Arg::new(alloc, "file").value_name("FILE").help(file),
         option(alloc, "format", "FORM", format).value_parser(forms),
         option(alloc, "ref", "KEY", reference),
         option(alloc, "fields", "KEYS", fields),
         option(alloc, "lang", "LANGUAGE", language),
-        flag(alloc, "strict", "Refuses what there is a warning of"),
+        flag(alloc, "strict", "Treats warnings as refusals"),
         flag(alloc, "progress", progress),
     ]?;
     command.args(arguments)
@@ -78,7 +81,7 @@ fn search_words<'a>(alloc: Global) -> Result<Command<'a>, AllocError> {
         flag(
             alloc,
             "all",
-            "Finds what has every word, each in some field"
+            "Finds documents that have every word, each in some field"
         ),
     ]?;
     Command::new(alloc, "search").about(about).args(arguments)

@@ -12,7 +12,7 @@ use Rattle.elasticlunr_commands.specs.History.{Document, add, Commands, ◌▸�
 use Rattle.elasticlunr_commands.specs.Standing.{Plan, tokens_at, Begins, occurrences, IsPosting, IsTableOf, stored, length_in, IsContentsOf, Holds}
 use Rattle.elasticlunr_commands.specs.Entered.{BeginsOne, ReplacesPostings, HasOnlyStored}
 
--- the document is in the place of what its reference had
+-- the document replaces what its reference had
 pub record Enters (plan : Plan) (document : Document) (old_tables new_tables : List Table) (old new : Contents) : Type 0 where
   pub as_many : length new_tables ≡ length old_tables
   pub tables : (i : ℕ) (before after : Table) → slice_get old_tables i ≡ Some before → slice_get new_tables i ≡ Some after → ReplacesPostings before after document.reference (tokens_at i document)

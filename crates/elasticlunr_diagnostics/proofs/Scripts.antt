@@ -22,7 +22,7 @@ ends_once text a b one other = by (cases_order a b)
     by (inr (inl less)) = absurd (no_space (get_or text b 0) other.semicolon (one.behind b less other.within))
     by (inr (inr more)) = absurd (no_space (get_or text a 0) one.semicolon (other.behind a more one.within))
 
--- behind the last byte that is no white space no script ends, nor at it where it is no semicolon
+-- after the last byte that is no white space no script ends, nor at it where it is no semicolon
 pub ends_nowhere : (text : List ℕ) (at : ℕ) → at < length text → is_space (get_or text at 0) ≡ false → get_or text at 0 ≢ 59
     → ((k : ℕ) → at < k → k < length text → is_space (get_or text k 0) ≡ true) → (end : ℕ) → ¬ IsEnd text end
 ends_nowhere text at within filled other behind end is = by (cases_order end at)
@@ -35,7 +35,7 @@ ends_nowhere text at within filled other behind end is = by (cases_order end at)
 pub blank_ends_nowhere : (text : List ℕ) → ((k : ℕ) → 0 ≤ k → k < length text → is_space (get_or text k 0) ≡ true) → (end : ℕ) → ¬ IsEnd text end
 blank_ends_nowhere text blank end is = no_space (get_or text end 0) is.semicolon (blank end (omega arith) is.within)
 
--- no object begins in the text, nor behind it
+-- no object begins in the text, nor after it
 pub starts_nowhere : (script : List ℕ) (n : ℕ) → length script ≤ n → ((k : ℕ) → k < n → begins_object (drop k script) ≡ false) → (start : ℕ) → ¬ IsObjectStart script start
 starts_nowhere script n past none start is = by (cases_order start n)
   where

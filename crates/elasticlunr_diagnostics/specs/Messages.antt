@@ -6,19 +6,19 @@ use Rattle.elasticlunr_diagnostics.specs.declared.message.Trouble.TheVariants.{R
 use Rattle.elasticlunr_json_place.specs.Whole.{below}
 use Rattle.elasticlunr_json_place.specs.declared.place.Place.{Place}
 
--- memory is wanting, or it is refused for this reason
+-- memory runs out, or it is refused for this reason
 abbrev pub IsMemoryOr : Type 0 → Trouble → Type 0
 IsMemoryOr reason Memory = ⊤
 IsMemoryOr reason (Device _) = ⊥
 IsMemoryOr reason (Refused _) = reason
 
--- memory is wanting, or the reader failed: nothing is refused
+-- memory runs out, or the reader failed: nothing is refused
 abbrev pub IsMemoryOrDevice : Trouble → Type 0
 IsMemoryOrDevice Memory = ⊤
 IsMemoryOrDevice (Device _) = ⊤
 IsMemoryOrDevice (Refused _) = ⊥
 
--- memory is wanting, or it is refused, and the message has a place
+-- memory runs out, or it is refused, and the message has a place
 abbrev pub IsMemoryOrPlaced : Trouble → Type 0
 IsMemoryOrPlaced Memory = ⊤
 IsMemoryOrPlaced (Device _) = ⊥

@@ -15,7 +15,7 @@ IsScript before line script = (index : Bytes) × IsWithoutFeed line index × (sc
 abbrev pub begins_string : Bytes → Bool
 begins_string text = unwrap_or (option_map (λ b. b == 34) (find (λ b. not (is_space b)) text)) false
 
--- a text begins with `{`, and a string behind that
+-- a text begins with `{`, and a string after that
 abbrev pub begins_object : Bytes → Bool
 begins_object [] = false
 begins_object (b ∷ rest) = (b == 123) && begins_string rest
@@ -25,7 +25,7 @@ pub record IsObjectStart (script : Bytes) (start : ℕ) : Type 0 where
   pub begins : begins_object (drop start script) ≡ true
   pub first : (k : ℕ) → k < start → begins_object (drop k script) ≡ false
 
--- a semicolon stands at this offset, and only white space behind it
+-- a semicolon stands at this offset, and only white space after it
 pub record IsEnd (text : Bytes) (end : ℕ) : Type 0 where
   pub within : end < length text
   pub semicolon : slice_index text end ≡ 59

@@ -9,7 +9,7 @@ pub enum Ended {
     Done,
     /// The input or the index was refused.
     Refused,
-    /// A file or a device failed, or memory was wanting.
+    /// A file or a device failed, or memory ran out.
     Failed,
     /// The command line is wrong.
     Misused,

@@ -13,7 +13,7 @@ use elasticlunr_json_place::member::Step;
 use serde_json::Value;
 use std::alloc::{AllocError, Global};
 
-const A_JOB: &str = "a job, an object with \"fields\" and \"docs\",";
+const A_JOB: &str = "a job (an object with \"fields\" and \"docs\")";
 
 /// The message of a fault of a value.
 pub fn fault_message(
@@ -44,8 +44,10 @@ fn unknown_key(alloc: Global, text: &[u8], key: &str) -> Result<Message, AllocEr
 {
     let near = nearest(alloc, key, &job_keys())?;
     let said = match near {
-        Some(near) => format!(in alloc; "\"{key}\" is no key of a job; did you mean \"{near}\"?")?,
-        None => format!(in alloc; "\"{key}\" is no key of a job")?,
+        Some(near) => format!(in alloc;
+            "\"{key}\" is not a key of a job; did you mean \"{near}\"?"
+        )?,
+        None => format!(in alloc; "\"{key}\" is not a key of a job")?,
     };
     message_at(alloc, text, &[Step::Key(key)], said)
 }
@@ -53,14 +55,14 @@ fn unknown_key(alloc: Global, text: &[u8], key: &str) -> Result<Message, AllocEr
 /// What a member has to be, in words.
 fn wanted_words(wanted: Wanted) -> &'static str {
     match wanted {
-        Wanted::Text => "a text",
+        Wanted::Text => "a string",
         Wanted::Truth => "true or false",
-        Wanted::Texts => "a list of texts",
-        Wanted::Documents => "a list of documents",
+        Wanted::Texts => "an array of strings",
+        Wanted::Documents => "an array of documents",
     }
 }
 
-/// That the member under a key is of this kind, where another is wanted.
+/// That the member under a key is of this kind, where another is expected.
 fn other_kind(alloc: Global, text: &[u8], key: Key, found: Kind) -> Result<Message, AllocError>
     ensures { IfOk result (λ message. IfSome message.place (IsPlaceOf None (under (key_name key) ∷ []) text.now)) }
 {
@@ -92,7 +94,7 @@ fn no_text(
     let count = number.saturating_add(1);
     let label = format!(in alloc; "\"{name}\", item {count}")?;
     let path = [Step::Key(name), Step::Item(number)];
-    unfit(alloc, text, &path, label.as_str(), found, "a text")
+    unfit(alloc, text, &path, label.as_str(), found, "a string")
 }
 
 /// What keeps the document with a number from being one.
@@ -112,19 +114,19 @@ fn no_document(
     match fault {
         DocumentFault::NotAList(found) => {
             let label = format!(in alloc; "document {count}")?;
-            let wanted = "a list of a reference and values";
+            let wanted = "an array of a reference and values";
             unfit(alloc, text, &[docs, item], label.as_str(), found, wanted)
         }
         DocumentFault::Empty => {
             let said = format!(in alloc;
-                "document {count}: an empty list, where a reference and values are wanted"
+                "document {count}: expected a reference and values, found an empty array"
             )?;
             message_at(alloc, text, &[docs, item], said)
         }
         DocumentFault::Item(place, found) => {
             let label = value_label(alloc, value, number, place)?;
             let path = [docs, item, Step::Item(place)];
-            unfit(alloc, text, &path, label.as_str(), found, "a text")
+            unfit(alloc, text, &path, label.as_str(), found, "a string")
         }
     }
 }

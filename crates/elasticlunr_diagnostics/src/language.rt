@@ -36,7 +36,7 @@ fn same_but_for_case(text: &str, other: &str) -> bool
     text.eq_ignore_ascii_case(other)
 }
 
-/// A text that no language has for its name, and the nearest one.
+/// That no language has this name, and the nearest name.
 pub fn unknown_language(alloc: Global, asked: &str) -> Result<String, AllocError> {
     let names = all_names(alloc)?;
     let mut known = Vec::new(alloc);
@@ -44,12 +44,8 @@ pub fn unknown_language(alloc: Global, asked: &str) -> Result<String, AllocError
         known.push(name.as_str())?;
     }
     match nearest(alloc, asked, &known)? {
-        Some(near) => format!(in alloc;
-            "no language has the name \"{asked}\"; did you mean \"{near}\"?"
-        ),
-        None => format!(in alloc;
-            "no language has the name \"{asked}\"; see `elasticlunr languages`"
-        ),
+        Some(near) => format!(in alloc; "unknown language \"{asked}\"; did you mean \"{near}\"?"),
+        None => format!(in alloc; "unknown language \"{asked}\"; see `elasticlunr languages`"),
     }
 }
 

@@ -28,7 +28,7 @@ pub enum Trouble {
     Refused(Message),
     /// The input could not be read.
     Device(io::Error),
-    /// Memory is wanting.
+    /// Out of memory.
     Memory,
 }
 
@@ -100,10 +100,10 @@ pub fn counted(alloc: Global, count: usize, name: &str) -> Result<String, AllocE
 pub fn kind_words(kind: Kind) -> &'static str {
     match kind {
         Kind::Null => "null",
-        Kind::Boolean => "a truth value",
+        Kind::Boolean => "a boolean",
         Kind::Number => "a number",
-        Kind::Text => "a text",
-        Kind::Array => "a list",
+        Kind::Text => "a string",
+        Kind::Array => "an array",
         Kind::Object => "an object",
     }
 }
@@ -122,7 +122,7 @@ pub fn wants(
     unfit(alloc, text, path, label, kind_of(value), wanted)
 }
 
-/// A message that a value of this kind stands where another is wanted.
+/// A message that another kind of value was expected than this one.
 pub fn unfit(
     alloc: Global,
     text: &[u8],
@@ -134,7 +134,7 @@ pub fn unfit(
     ensures { IfOk result (λ message. IfSome message.place (IsPlaceOf None (path_told path.now) text.now)) }
 {
     let found = kind_words(found);
-    let said = format!(in alloc; "{label}: {found}, where {wanted} is wanted")?;
+    let said = format!(in alloc; "{label}: expected {wanted}, found {found}")?;
     message_at(alloc, text, path, said)
 }
 
@@ -204,7 +204,7 @@ fn has_half_escape(text: &[u8], offset: usize) -> bool {
     false
 }
 
-/// The half that the escape at an offset stands for.
+/// The half that the escape at an offset represents.
 fn half_at(text: &[u8], at: usize) -> Option<Half> {
     let Some([b'\\', b'u', b'd' | b'D', digit]) = text.get(at..at.saturating_add(4)) else {
         return None;

@@ -78,7 +78,7 @@ fn object_start(script: &[u8]) -> Option<usize>
     None
 }
 
-/// Whether a text begins with `{`, and a string behind that.
+/// Whether a text begins with `{`, and a string after that.
 fn begins_object(text: &[u8]) -> bool
     ensures { result ≡ begins_object text.now }
 {

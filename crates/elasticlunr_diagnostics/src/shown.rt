@@ -6,7 +6,7 @@ ghost use Rattle.elasticlunr_diagnostics.specs.Shown.{escape, shown_char, shown_
 
 use std::alloc::{AllocError, Global};
 
-/// The text with an escape in place of each control character, as `\u{1b}`: one line, none of which
+/// The text with an escape instead of each control character, as `\u{1b}`: one line, none of which
 /// a terminal takes for a command.
 pub fn shown(alloc: Global, text: &str) -> Result<String, AllocError>
     ensures { IfOk result (λ line. string_bytes line ≡ flat_map shown_char (chars text.now)) }

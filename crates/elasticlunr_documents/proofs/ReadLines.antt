@@ -90,7 +90,7 @@ module _ (options : Options) (text line more : Bytes) (number : ℕ) (made : Mak
         taken = taken_one made old mid new added.documents doc added.taken document (subst (λ r. made r doc.values document) its_reference (subst (λ vs. made reference vs document) its_values makes)) follow;
       }
 
--- a line that was read stands behind those before it
+-- a line that was read stands after those before it
 pub begins_line : (left mid now : Option Bytes) (text line : Bytes) (more : Bool) → Consumes left mid text → Consumes mid now (if more then fed line else line) → (more ≡ false → AreAll mid line) → Begins left text line
 begins_line None mid now text line more first next last = tt
 begins_line (Some xs) None now text line more first next last = absurd first

@@ -21,7 +21,7 @@ use Rattle.elasticlunr_job_format.specs.declared.objects.Problem.{Problem}
 use Rattle.elasticlunr_job_format.specs.declared.objects.Problem.TheVariants.{NotJson}
 use Rattle.elasticlunr_job_format.specs.declared.outcome.Refusal.TheVariants as refusal
 
--- of what was left a line was taken, with the line feed behind it where there is more
+-- of what was left a line was taken, with the line feed after it where there is more
 pub record IsTaken (left now : Option Bytes) (line : Bytes) (more : Bool) : Type 0 where
   pub no_feed : HasNoFeed line
   pub taken : Consumes left now (if more then fed line else line)
@@ -36,13 +36,13 @@ IsValueOf line (Some d) = (is_blank line ≡ false) × (reading line ≡ Some d)
 abbrev pub IsUnreadAfter : (left now : Option Bytes) → Bytes → Problem → Type 0
 IsUnreadAfter left now line problem = (more : Bool) × IsTaken left now line more × (is_blank line ≡ false) × (reading line ≡ None) × (problem ≡ NotJson)
 
--- a line was not read: the reader failed, or memory is wanting
+-- a line was not read: the reader failed, or memory runs out
 abbrev pub IsUnread : LinesError → Type 0
 IsUnread error.Memory = ⊤
 IsUnread (error.Device _) = ⊤
 IsUnread _ = ⊥
 
--- the line of this number has a problem, or memory is wanting
+-- the line of this number has a problem, or memory runs out
 abbrev pub StopsOn : ℕ → (Problem → Type 0) → LinesError → Type 0
 StopsOn number Has error.Memory = ⊤
 StopsOn number Has (error.Document place problem) = (place ≡ number) × Has problem
@@ -68,7 +68,7 @@ pub record IsFilledLine (options : Options) (language : AnyLanguage) (input text
   pub are_documents : AreDocumentsOf options items documents
   pub is_line : IsIndexLine (job_of options documents) language text
 
--- how a refusal of the builder ends the work on lines; the others are want of memory
+-- how a refusal of the builder ends the work on lines; the others are out of memory
 abbrev pub index_error_of : IndexError → LinesError
 index_error_of DuplicateField = error.Refused refusal.DuplicateField
 index_error_of _ = error.Memory

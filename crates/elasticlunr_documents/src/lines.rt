@@ -126,7 +126,7 @@ fn unread<R: MarkedRead>(reader: &R, error: io::Error) -> LinesError
 }
 
 /// Reads the next line, and its value where it isn't blank: it has this number then. Also whether a
-/// line feed was behind it.
+/// line feed was after it.
 fn next_value<R: MarkedRead>(
     alloc: Global,
     reader: &mut R,
@@ -217,7 +217,7 @@ fn fill_and_print<R: MarkedRead, W: Watch>(
         number += 1;
         let object = object_on(alloc, options, &value, number, watch)?;
         let Ok(()) = index.add_doc(object.reference.as_str(), &object.values) else {
-            // It has a value for each field, so it is not refused: memory is wanting.
+            // It has a value for each field, so it is not refused: memory runs out.
             return Err(LinesError::Memory);
         };
         if !more {

@@ -28,7 +28,7 @@ pub struct Marked<R> {
 }
 
 impl<R: Read> Marked<R> {
-    /// A reader that has not failed yet. Requests no memory.
+    /// A reader that has not failed yet. Does not allocate.
     pub fn new(reader: R) -> Marked<R>
         ensures bytes { ⟦<Marked<R> as Read>⟧.remaining result ≡ R.remaining reader }
         ensures unmarked { result.failed ≡ false }

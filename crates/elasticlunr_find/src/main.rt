@@ -1,7 +1,7 @@
 //! Finds documents in a printed index. Standard input has a line with a JSON array of a field, a
 //! query and `any` or `all`, and after it the text of the index; the references that are found go
 //! to standard output, one a line. It ends with status 0 where it searched, 2 where it refused and
-//! printed why, and 1 where a device failed or memory was wanting.
+//! printed why, and 1 where a device failed or memory ran out.
 #![tactic(auto)]
 
 use elasticlunr_search::answer::{Refusal, answer, reason};

@@ -50,7 +50,7 @@ use Rattle.elasticlunr_input.proofs.LinesBy.{FailLinesOf, IsPlaceInLines}
 use Rattle.elasticlunr_input.proofs.LineLemmas.{fail_with, fails_also, first_among, line_with, problem_among}
 use Rattle.elasticlunr_input.proofs.LinePlaces.{place_with, placed_for}
 
--- lines behind others, up to the end of a line
+-- lines after others, up to the end of a line
 pub lines_front : (read rest : Bytes) → AreWhole read ⊎ EndsLine rest → (more : List Bytes) × (filled_lines (read ++ rest) ≡ filled_lines read ++ more)
 lines_front read rest ends = elim ends [
   | inl whole ↦ (filled_lines rest, filled_append read rest whole)
@@ -229,7 +229,7 @@ module _ (text before line : Bytes) (feeds : ℕ) (after : IsLineAfter (Some tex
               (λ place is. place_with settings read options first (begins ∙ first_same) told place (place_in place is)) placed,
         )
 
--- nothing is behind what is all
+-- nothing is after what is all
 none_behind : (line rest : Bytes) → line ≡ line ++ rest → rest ≡ []
 none_behind line [] same = refl
 none_behind line (b ∷ rest) same = absurd (omega (arith, ap length same, length-append line (b ∷ rest)))
@@ -317,7 +317,7 @@ module _ (head : Bytes) (left : Option Bytes) (settings : Settings) (last : Last
           (record { items = []; documents = []; are_values = sym (ap (map reading) is_head.blank); are_documents = tt; number_is = refl; has = subst (λ o. HasLineProblem options o problem) (sym one.1) is.4 })
           (Refused message) is.5)
 
-    -- or a line behind it is none
+    -- or a line after it is none
     pub chained_document : (number : ℕ) (problem : Problem) (later : LastLine) → (before : Bytes) × IsLineAfter (option_append (Some head) left) before later.text.items later.before × IsFirstNoDocument options before later.text.items number problem
         → IfPlaced (IsBelow later.before (IsPlaceInLine options later.text.items problem)) trouble → IfSome left (λ rest. IsHeadOf head rest last.text.items last.before → AreRefusedFrom settings (head ++ rest) trouble)
     chained_document number problem later stops placed = at left stops where

@@ -26,7 +26,7 @@ without_mark-append (a ∷ (b ∷ (c ∷ more))) rest h = either ((a == 0xef) &&
     either true = refl
     either false = refl
 
--- what is so of the start without its mark, and what is behind it, is so of the whole without its mark
+-- what is so of the start without its mark, and what is after it, is so of the whole without its mark
 pub of_whole : (P : Bytes → Type 0) (old now : Option Bytes) (start : Bytes) → Consumes old now start → (length start ≡ 3) ⊎ IsAtEnd now → IfSome (option_append (Some (without_mark start)) now) P → IfSome old (λ text. P (without_mark text))
 of_whole P None now start taken whole is = tt
 of_whole P (Some text) None start taken whole is = absurd taken

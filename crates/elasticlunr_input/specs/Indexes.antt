@@ -41,6 +41,6 @@ FailsInput form settings text = IsNotJson form text ⊎ FailsAs form settings te
 abbrev pub IsRefusedInput : Form → Settings → Bytes → Trouble → Type 0
 IsRefusedInput form settings text = IsMemoryOr (FailsInput form settings text)
 
--- where a text of this form has to be JSON, and is not, it is refused with a place, or memory is wanting
+-- where a text of this form has to be JSON, and is not, it is refused with a place, or memory runs out
 abbrev pub IsPlacedIfNotJson : Form → Bytes → Trouble → Type 0
 IsPlacedIfNotJson form text trouble = IsNotJson form text → IsMemoryOrPlaced trouble

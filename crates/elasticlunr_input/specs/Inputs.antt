@@ -23,7 +23,7 @@ use Rattle.elasticlunr_diagnostics.specs.Messages.{IsLowered}
 use Rattle.elasticlunr_diagnostics.specs.declared.message.Trouble.{Trouble}
 use Rattle.elasticlunr_diagnostics.specs.declared.message.Trouble.TheVariants as trouble
 
--- the line that was read last ends the head of a text, and all before it is blank; it is not, or nothing is behind it
+-- the line that was read last ends the head of a text, and all before it is blank; it is not, or nothing is after it
 pub record IsHeadOf (head rest line : Bytes) (feeds : ℕ) : Type 0 where
   pub before : Bytes
   pub whole : AreWhole before
@@ -51,13 +51,13 @@ IsBelow lines Is place = (at : Place) × (place ≡ below lines at) × Is at
 abbrev pub IsPlacedBelow : ℕ → (Place → Type 0) → Option Place → Type 0
 IsPlacedBelow lines Is place = (at : Place) × Is at × IsLowered (Some at) lines place
 
--- memory is wanting; or the line that was read last is refused, and a place in it is known
+-- memory runs out; or the line that was read last is refused, and a place in it is known
 abbrev pub IsUnreadLine : LastLine → Trouble → Type 0
 IsUnreadLine last (trouble.Refused message) = IsPlacedBelow last.before (IsPlaceIn last.text.items) message.place
 IsUnreadLine last trouble.Memory = ⊤
 IsUnreadLine last (trouble.Device _) = ⊥
 
--- memory is wanting; or the first of the values is no document, and the place is that of its problem, which stands in the line that was read last
+-- memory runs out; or the first of the values is no document, and the place is that of its problem, which stands in the line that was read last
 abbrev pub IsRefusedFirst : Options → List Data → LastLine → Trouble → Type 0
 IsRefusedFirst options items last (trouble.Refused message) = (d : Data) × (rest : List Data) × (problem : Problem) × (items ≡ d ∷ rest) × HasProblem options d problem
     × IfSome message.place (IsBelow last.before (IsPlaceInLine options last.text.items problem))
@@ -69,7 +69,7 @@ abbrev pub IsRefusal : Trouble → Type 0
 IsRefusal (trouble.Refused _) = ⊤
 IsRefusal _ = ⊥
 
--- the trouble that an error of lines makes: memory is wanting, or the reader failed, where it says so, and else they are refused
+-- the trouble that an error of lines makes: memory runs out, or the reader failed, where it says so, and else they are refused
 abbrev pub IsTroubleOf : LinesError → Trouble → Type 0
 IsTroubleOf lines_error.Memory e = e ≡ trouble.Memory
 IsTroubleOf (lines_error.Device failed) e = e ≡ trouble.Device failed

@@ -20,7 +20,7 @@ abbrev pub IsReadOf : Form → (text read : Bytes) → Type 0
 IsReadOf Lines text read = BeginsWith text read
 IsReadOf _ text read = read ≡ text
 
--- what was read of an input of this form is refused, and the place is that of what it is refused for, and is known where it has to be JSON and is not; or memory is wanting, or the reader failed
+-- what was read of an input of this form is refused, and the place is that of what it is refused for, and is known where it has to be JSON and is not; or memory runs out, or the reader failed
 abbrev pub IsRefusedFrom : Form → Settings → Bytes → Trouble → Type 0
 IsRefusedFrom form settings text (Refused message) = (read : Bytes) × IsReadOf form text read × FailsInput form settings read
     × IfSome message.place (IsInputPlace form settings read) × (IsNotJson form read → IsSome message.place)

@@ -1,4 +1,4 @@
--- A job with the settings in the place of what it says itself.
+-- A job with the settings instead of what it says itself.
 use Rattle.std.specs.Prelude.{List, Bool, true, false, Option, option_map, unwrap_or, string_bytes, if◌then◌else◌}
 use Rattle.serde_json.specs.Data.{Data}
 use Rattle.elasticlunr_text.specs.Text.{Bytes, bytes_of}
@@ -26,7 +26,7 @@ settings_told s = record {
   pretty = s.pretty;
 }
 
--- each setting that is given stands in the place of the job's
+-- each setting that is given stands instead of the job's
 abbrev pub settled : Settings → Job → Job
 settled settings job = record job {
   fields = unwrap_or settings.fields job.fields;

@@ -116,7 +116,7 @@ pub(crate) fn problem_text(
         Problem::NotJson => format!(in alloc; "document {number}: not JSON"),
         Problem::NotAnObject(kind) => {
             let found = kind_words(kind);
-            format!(in alloc; "document {number}: {found}, where an object is wanted")
+            format!(in alloc; "document {number}: expected an object, found {found}")
         }
         Problem::NoReference => {
             format!(in alloc;
@@ -126,13 +126,13 @@ pub(crate) fn problem_text(
         Problem::NotAReference(kind) => {
             let found = kind_words(kind);
             format!(in alloc;
-                "document {number}, reference \"{key}\": {found}, where a text or a whole number is wanted"
+                "document {number}, reference \"{key}\": expected a string or a whole number, found {found}"
             )
         }
         Problem::NotAText(_, kind) => {
             let found = kind_words(kind);
             let label = document_label(alloc, options, number, value)?;
-            format!(in alloc; "{label}, field \"{key}\": {found}, where a text is wanted")
+            format!(in alloc; "{label}, field \"{key}\": expected a string, found {found}")
         }
     }
 }
@@ -181,7 +181,7 @@ fn is_field(key: &str, member: &Value, reference_key: &str) -> bool
     member.is_string() && key != reference_key
 }
 
-/// Notes what is unwise in objects that are documents.
+/// Notes what is suspicious in objects that are documents.
 pub(crate) fn note_objects(
     alloc: Global,
     options: &Options<'_>,
@@ -195,7 +195,7 @@ pub(crate) fn note_objects(
     notes.end(&options.fields)
 }
 
-/// Notes what is unwise in an object that is a document.
+/// Notes what is suspicious in an object that is a document.
 pub(crate) fn note_object(
     alloc: Global,
     options: &Options<'_>,

@@ -35,7 +35,7 @@ use serde_json::Value;
 use std::alloc::{AllocError, Global};
 use std::io::Read;
 
-/// The text of the index of an input, and a line feed; what is unwise goes to the notes, whose
+/// The text of the index of an input, and a line feed; what is suspicious goes to the notes, whose
 /// warnings are of no use after an error. A byte order mark before the input is passed over, and no
 /// place counts it. Lines are read one by one, and the value of a line is let go before the next one
 /// is read; of an input in another form all is read, and held.
@@ -167,7 +167,7 @@ fn text_of_array(
 {
     let value = read_value(alloc, text)?;
     let Some(items) = value.as_array() else {
-        let message = wants(alloc, text, &[], "the input", &value, "a list of objects")?;
+        let message = wants(alloc, text, &[], "the input", &value, "an array of objects")?;
         return Err(Trouble::Refused(message));
     };
     text_of_objects(alloc, text, items, settings, notes)

@@ -23,7 +23,7 @@ use elasticlunr_json_place::member::Step;
 use serde_json::Value;
 use std::alloc::{AllocError, Global};
 
-/// The text of the index that a job asks for, in the place of whose members the settings stand.
+/// The text of the index that a job asks for, with the settings instead of its own members.
 pub(crate) fn job_text<'a>(
     alloc: Global,
     value: &'a Value,
@@ -37,7 +37,7 @@ pub(crate) fn job_text<'a>(
     job_line(alloc, &job)
 }
 
-/// The message of a refusal of a job, in the place of whose members the settings stand.
+/// The message of a refusal of a job, with the settings instead of its own members.
 pub(crate) fn job_refused(
     alloc: Global,
     text: &[u8],
@@ -173,7 +173,7 @@ fn too_many_values(alloc: Global, text: &[u8], job: &Job<'_>) -> Result<Message,
     message_at(alloc, text, &[Step::Key("docs"), Step::Item(number)], said)
 }
 
-/// Notes what is unwise in the documents of a job.
+/// Notes what is suspicious in the documents of a job.
 pub(crate) fn note_job(
     alloc: Global,
     value: &Value,

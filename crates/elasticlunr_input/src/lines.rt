@@ -57,7 +57,7 @@ pub(crate) fn read_head<R: BufRead>(
     Err(Trouble::Memory)
 }
 
-/// What notes what is unwise in documents.
+/// What notes what is suspicious in documents.
 #[derive(Drop)]
 pub(crate) struct Watcher<'n> {
     pub tokens: Tokens,
@@ -223,7 +223,7 @@ fn trouble_of(
 }
 
 /// The text of the index of the documents in lines, of which a head was read before, and a line
-/// feed; what is unwise goes to the notes.
+/// feed; what is suspicious goes to the notes.
 pub(crate) fn lines_text<R: MarkedRead>(
     alloc: Global,
     options: &Options<'_>,
@@ -246,7 +246,7 @@ pub(crate) fn lines_text<R: MarkedRead>(
     }
 }
 
-/// The same text, while what is unwise in each document goes to the notes.
+/// The same text, while what is suspicious in each document goes to the notes.
 fn watched_line<R: MarkedRead>(
     alloc: Global,
     options: &Options<'_>,

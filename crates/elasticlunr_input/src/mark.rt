@@ -8,7 +8,7 @@ use elasticlunr_diagnostics::message::Trouble;
 use std::alloc::Global;
 use std::io::{self, BufRead};
 
-/// The text behind the byte order mark, U+FEFF in UTF-8, that it begins with; the text itself where
+/// The text after the byte order mark, U+FEFF in UTF-8, that it begins with; the text itself where
 /// it begins with none.
 pub fn without_mark(text: &[u8]) -> &[u8]
     ensures { result.now ≡ without_mark text.now }

@@ -1,4 +1,4 @@
-//! What is unwise in documents that are fine.
+//! What is suspicious in documents that are fine.
 
 use crate::settings::Settings;
 use crate::tokens::Tokens;
@@ -23,7 +23,7 @@ const TAKEN: [&str; 12] = [
     "valueOf",
 ];
 
-/// What was seen of documents, and what is unwise in them.
+/// What was seen of documents, and what is suspicious in them.
 #[derive(Drop)]
 pub struct Notes {
     alloc: Global,
@@ -37,7 +37,7 @@ pub struct Notes {
     pub documents: usize,
     /// The tokens of all documents, each once.
     tokens: HashSet<String>,
-    /// What is unwise, in the order in which it was seen.
+    /// What is suspicious, in the order in which it was seen.
     pub warnings: Vec<String>,
 }
 
@@ -109,9 +109,9 @@ impl Notes {
         }
         known.insert(String::from_str(self.alloc, key)?)?;
         let why =
-            "the first document has no text there, so it is no field; `--fields` names fields";
+            "the first document has no string there, so it is not a field; `--fields` names fields";
         let said = format!(in self.alloc;
-            "document {number} (\"{reference}\"): the text \"{key}\" is not indexed: {why}"
+            "document {number} (\"{reference}\"): the member \"{key}\" is not indexed: {why}"
         )?;
         self.warnings.push(said)?;
         Ok(())
@@ -135,7 +135,7 @@ impl Notes {
         let key = String::from_str(self.alloc, reference)?;
         if let Some(before) = self.references.insert(key, number)? {
             let said = format!(in self.alloc;
-                "document {number} (\"{reference}\") takes the place of document {before}, which has its reference"
+                "document {number} (\"{reference}\") replaces document {before}, which has the same reference"
             )?;
             self.warnings.push(said)?;
         }
@@ -147,7 +147,7 @@ impl Notes {
         }
         if TAKEN.contains(&reference) {
             let why =
-                "each object of JavaScript has a property of this name, so the script of browsers fails on it";
+                "every JavaScript object has a property of this name, so elasticlunr.js fails on it";
             let said = format!(in self.alloc; "document {number} (\"{reference}\"): {why}")?;
             self.warnings.push(said)?;
         }

@@ -7,7 +7,7 @@ ghost use Rattle.elasticlunr_input.specs.Settled.{settled, settings_told};
 use elasticlunr_job::job::Job;
 use std::alloc::{AllocError, Global};
 
-/// What is said of an index beside its input: each setting stands in the place of the input's own.
+/// What is said of an index beside its input: each setting stands instead of the input's own.
 #[derive(Drop)]
 pub struct Settings {
     /// The key of a document's reference, or the name of its field.
@@ -58,7 +58,7 @@ pub(crate) fn text_or<'a>(given: &'a Option<String>, own: &'a str) -> &'a str
     }
 }
 
-/// The job with the settings in the place of what it says itself.
+/// The job with the settings instead of what it says itself.
 pub(crate) fn settle<'a>(
     alloc: Global,
     job: Job<'a>,

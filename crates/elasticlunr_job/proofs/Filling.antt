@@ -1,4 +1,4 @@
--- One command more, or several, of what an index stands for.
+-- One command more, or several, of what an index represents.
 use Rattle.std.proofs.Common.{◌≡◌, ◌<◌, ◌≤◌, ◌+◌, ℕ, List, [], ◌∷◌, ◌++◌, length, map, take, get_or, All, Any, Bor, refl, sym, ap, subst, ◌∙◌}
 use Rattle.std.proofs.lemmas.List.{take_more, map-append, get_or-map, take_all, length-map}
 use Rattle.std.proofs.lemmas.List.Elements.{All-push}

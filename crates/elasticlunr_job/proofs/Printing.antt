@@ -16,7 +16,7 @@ use Rattle.elasticlunr_job.specs.Filled.{IsBuiltFor}
 use Rattle.elasticlunr_job.proofs.Taken.{HasDone}
 use Rattle.elasticlunr_job_format.specs.Job.{Job}
 
--- its text, of the commands that it stands for
+-- its text, of the commands that it represents
 pub told_print : {E : Type 0} (r : Result (String Global) E) (Stands : Commands → Type 0) (plan : Plan) (pretty : Bool) (text_of : Data → Bytes) → ((value : Data) → text_of value ≡ printed_text pretty value)
     → IfOk r (λ text. (commands other : Commands) → Stands commands → Agree commands other → (value : Data) × IsValue plan other value × (string_bytes text ≡ text_of value))
     → IfOk r (λ text. (commands : Commands) → Stands commands → IsTextAfter (printed_text pretty) plan commands (string_bytes text))

@@ -29,7 +29,7 @@ later_too_many r Fails Later Q e is still fails many h =
 pub StopsWithReason-by : (reason : Refusal → Type 0) (refusal : Refusal) (P : Type 0) (stop : Stop) → StopsOnlyBy refusal P stop → (P → reason refusal) → StopsWithReason reason stop
 StopsWithReason-by reason refusal P stop h f = elim h [ inl m ↦ rw m tt | inr p ↦ rw (p.0) (f p.1) ]
 
--- the exit of a call that stops for want of memory alone
+-- the exit of a call that stops for out of memory alone
 pub memory_exit : {T : Type 0} (r : Result T Stop) (reason : Refusal → Type 0) (e : Stop) → IsErrAnd r (λ y. y ≡ e) → e ≡ Memory → IfErr r (StopsWithReason reason)
 memory_exit r reason e is m =
     let p = err_from_is_err_and r is in

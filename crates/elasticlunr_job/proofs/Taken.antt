@@ -1,5 +1,5 @@
 -- What was done to an index for a job.
--- `made` relates a reference and values to the document that the index makes of them; `old` and `new` are what it stood for before, and what it stands for now.
+-- `made` relates a reference and values to the document that the index makes of them; `old` and `new` are what it stood for before, and what it represents now.
 use Rattle.std.proofs.Common.{List, map}
 use Rattle.std.specs.List.{AllZip}
 use Rattle.elasticlunr_text.specs.Text.{Bytes}
@@ -15,7 +15,7 @@ Makes = Bytes → List Bytes → Document → Type 0
 abbrev pub Standing : Type 1
 Standing = Commands → Type 0
 
--- whatever it stood for, it stands for that and these commands after it
+-- whatever it stood for, it represents that and these commands after it
 pub record Follows (old new : Standing) (more : List Command) : Type 0 where
   pub stands : (commands : Commands) → old commands → new (followed_by commands more)
 

@@ -41,7 +41,7 @@ pub fn run<S: Source, K: Sink>(
     ensures device { IsErrOf result RunError.Device
         → (S.has_failed reader.new ≡ true) ⊎ (K.has_failed writer.new ≡ true) }
 
-    // Want of memory came before anything was written.
+    // Memory ran out before anything was written.
     ensures memory { IsErrOf result RunError.Memory → Keeps (K.taken writer.old) (K.taken writer.new) }
     ensures memory_unmarked { IsErrOf result RunError.Memory
         → (S.has_failed reader.new ≡ false) × (K.has_failed writer.new ≡ false) }
@@ -57,7 +57,7 @@ pub fn run<S: Source, K: Sink>(
 }
 
 /// The status that the process ends with: 0 where an index was printed, 2 where the job was
-/// refused, 1 where a device failed or memory was wanting.
+/// refused, 1 where a device failed or memory ran out.
 pub fn status(ended: &Result<Outcome, RunError>) -> u8
     ensures { result ≡ status_of ended.now }
 {

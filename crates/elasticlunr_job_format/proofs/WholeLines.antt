@@ -1,4 +1,4 @@
--- On a text that goes on behind whole lines.
+-- On a text that goes on after whole lines.
 use Rattle.std.proofs.Common.{◌≡◌, ◌<◌, List, [], ◌∷◌, ◌++◌, length, Bool, true, false, eqb, inl, inr, refl, sym, ap, ◌∙◌, append_assoc, arith}
 use Rattle.std.specs.List.{filter, slice_split, onto_first}
 use Rattle.std.proofs.lemmas.List.{append-nil}

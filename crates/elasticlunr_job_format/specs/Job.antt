@@ -28,7 +28,7 @@ texts ss = array (items_of (map string ss))
 abbrev pub document : Document → Data
 document doc = texts (doc.reference ∷ doc.values)
 
--- the member of an object, or what stands for it where there is none
+-- the member of an object, or what represents it where there is none
 abbrev pub get_or : Bytes → Data → Data → Data
 get_or key d absent = unwrap_or (get key d) absent
 

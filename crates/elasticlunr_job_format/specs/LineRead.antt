@@ -19,11 +19,11 @@ AreAll known text = IfSome known (λ bytes. bytes ≡ text)
 abbrev pub AreWhole : Bytes → Type 0
 AreWhole text = (text ≡ []) ⊎ ((front : Bytes) × (text ≡ fed front))
 
--- what comes behind a line: nothing, or a line feed and more
+-- what comes after a line: nothing, or a line feed and more
 abbrev pub EndsLine : Bytes → Type 0
 EndsLine rest = (rest ≡ []) ⊎ ((more : Bytes) × (rest ≡ 10 ∷ more))
 
--- where the bytes that were left are known, they begin with this line, to its end, behind these
+-- where the bytes that were left are known, they begin with this line, to its end, after these
 abbrev pub Begins : Option Bytes → (before line : Bytes) → Type 0
 Begins known before line = IfSome known (λ bytes. (rest : Bytes) × EndsLine rest × (bytes ≡ before ++ (line ++ rest)))
 

@@ -28,7 +28,7 @@ options_told options = record {
 abbrev pub object_told : Object → Document
 object_told object = record { reference = string_bytes object.reference; values = texts_told object.values.items }
 
--- it is want of memory, or a problem that there is
+-- it is out of memory, or a problem that there is
 abbrev pub IsMemoryOr : (Problem → Type 0) → AddError → Type 0
 IsMemoryOr Is add.Memory = ⊤
 IsMemoryOr Is (add.Problem problem) = Is problem

@@ -4,11 +4,11 @@ use Rattle.elasticlunr_job_format.specs.declared.outcome.Refusal.{Refusal}
 use Rattle.elasticlunr_job_format.specs.declared.outcome.Stop.{Stop}
 use Rattle.elasticlunr_job_format.specs.declared.outcome.Stop.TheVariants.{Memory, Refused}
 
--- it is want of memory, or this refusal, for this reason
+-- it is out of memory, or this refusal, for this reason
 abbrev pub StopsOnlyBy : Refusal → Type 0 → Stop → Type 0
 StopsOnlyBy refusal reason stop = (stop ≡ Memory) ⊎ ((stop ≡ Refused refusal) × reason)
 
--- it is want of memory, or a refusal for which there is a reason
+-- it is out of memory, or a refusal for which there is a reason
 abbrev pub StopsWithReason : (Refusal → Type 0) → Stop → Type 0
 StopsWithReason reason Memory = ⊤
 StopsWithReason reason (Refused refusal) = reason refusal

@@ -42,13 +42,13 @@ const NOT_A_JOB: Stop = Stop::Refused(Refusal::NotAJob);
 
 /// What a member of a job is: a text, a truth value, or an array.
 trait Member<'a>: Sized + Drop {
-    /// The JSON value that it stands for.
+    /// The JSON value that it represents.
     ghost told: { Self → Data };
 
-    /// A JSON value stands for none.
+    /// A JSON value represents none.
     ghost IsOther: { Data → Type 0 };
 
-    /// What this JSON value stands for.
+    /// What this JSON value represents.
     fn read(alloc: Global, value: &'a Value) -> Result<Self, Stop>
         ensures ok { IfOk result (λ member. view value.now ≡ told member) }
         ensures err { IfErr result (StopsOnlyBy NotAJob (IsOther (view value.now))) };

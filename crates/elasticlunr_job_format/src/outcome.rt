@@ -13,7 +13,7 @@ pub enum Refusal {
     TooManyValues,
 }
 
-/// Why no index is printed: the refusal, or want of memory.
+/// Why no index is printed: the refusal, or out of memory.
 #[derive(Clone, Copy)]
 pub enum Stop {
     Refused(Refusal),

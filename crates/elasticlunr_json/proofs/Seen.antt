@@ -1,4 +1,4 @@
--- What a map of the program stands for, after each change.
+-- What a map of the program represents, after each change.
 use Rattle.std.proofs.Common.{◌≡◌, ◌≢◌, Bool, true, false, cond, length, unwrap_or, IfSome, arith, List, [], ◌∷◌, Option, Some, None, option_map, map, refl, sym, ap, ◌∙◌, String, Global, string_bytes, BTreeMap, bytes_eq, is_eq, is_some, nat_cmp, Result, Ok, Err, OnOk, OnErr}
 use Rattle.std.specs.Ordering.{eq_by_cmp}
 use Rattle.std.specs.Cmp.{eq_by_cmp_equiv}
@@ -30,7 +30,7 @@ module _ {X Y : Type 0} (f : X → Y) where
   find_seen [] q = refl
   find_seen (e ∷ es) q = found (is_eq (slice_cmp nat_cmp q (string_bytes e.0))) e.1 _ _ (find_seen es q)
 
-  -- a look-up in what the entries stand for
+  -- a look-up in what the entries represent
   pub get_seen : (m : BTreeMap (String Global) X) (q : Bytes) → finite.get (seen f m.entries) q ≡ option_map f (get_by_text m q)
   get_seen m q = finite.get-from_entries nat_list_cmp_total _ q ∙ find_seen m.entries q
 
@@ -79,7 +79,7 @@ pub on_err_map : {T E : Type 0} (r : Result T E) (P Q : Type 0) → (P → Q) �
 on_err_map (Ok x) P Q f p = tt
 on_err_map (Err e) P Q f p = f p
 
--- a clone stands for the same
+-- a clone represents the same
 pub cloned : {X Y : Type 0} (f : X → Y) (D : X → X → Type 0) → ((x y : X) → D x y → f y ≡ f x) → (es fs : List (String Global × X)) → AllZip (λ p q. (string_bytes q.0 ≡ string_bytes p.0) × D p.1 q.1) es fs → seen f fs ≡ seen f es
 cloned f D alike [] [] h = refl
 cloned f D alike [] (q ∷ fs) h = absurd h
@@ -93,7 +93,7 @@ filled_map m k x e =
     let gone : finite.get (finite.insert m k x) k ≡ None = ap (λ n. finite.get n k) e ∙ finite.get-empty text_cmp k in
     let both : None ≡ Some x = sym gone ∙ there in (cc)
 
--- entries that stand for the empty map are none, and none stand for it
+-- entries that represent the empty map are none, and none represent it
 pub bare_entries : {X Y : Type 0} (f : X → Y) (es : List (String Global × X)) → length es ≡ 0 → seen f es ≡ finite.empty
 bare_entries f [] e = refl
 bare_entries f (x ∷ es) e = absurd (omega arith)

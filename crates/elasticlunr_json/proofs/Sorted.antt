@@ -1,4 +1,4 @@
--- What the entries of a map stand for, in order.
+-- What the entries of a map represent, in order.
 use Rattle.std.proofs.Common.{◌≡◌, suc, true, false, cond, Option, Some, IfSome, is_eq, List, [], ◌∷◌, ◌++◌, map, length, refl, sym, ap, subst, ◌∙◌, string_bytes, string_cmp, String, Global, Bool, Less, Greater, rules}
 use Rattle.std.specs.Ordering.{nat_cmp, ordering_reverse}
 use Rattle.std.specs.Cmp.Lexicographic.{slice_cmp}

@@ -7,7 +7,7 @@ use Rattle.std.specs.FinMap as finite
 use Rattle.serde_json.specs.Data.{Data, number, object, unsigned, Members, no_members, member}
 use Rattle.elasticlunr_error.specs.Text.{Bytes, text_cmp}
 
--- what the entries of a map stand for, each value seen by f
+-- what the entries of a map represent, each value seen by f
 abbrev pub seen : {X Y : Type 0} → (X → Y) → List (String Global × X) → finite.FinMap text_cmp Y
 seen f entries = finite.from_entries (map (λ e. (string_bytes e.0, f e.1)) entries)
 

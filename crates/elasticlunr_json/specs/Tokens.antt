@@ -28,7 +28,7 @@ abbrev pub IsSmallToken : json.Token → Type 0
 IsSmallToken (json.number s) = (n : ℕ) × (n < 2 ^ 64) × (s ≡ decimal n)
 IsSmallToken _ = Unit {0}
 
--- behind the tokens `old` stand those of the value, and nothing else
+-- after the tokens `old` stand those of the value, and nothing else
 abbrev pub WritesValue : List json.Token → List json.Token → Data → Type 0
 WritesValue old new value = new ≡ old ++ json_tokens (outline value)
 

@@ -1,4 +1,4 @@
--- On places in a text that goes on behind whole lines.
+-- On places in a text that goes on after whole lines.
 use Rattle.std.proofs.Common.{◌≡◌, ◌+◌, ◌-◌, ℕ, List, [], ◌∷◌, ◌++◌, length, take, drop, Bool, true, false, not, cond, eqb, count_by, reverse, inl, inr, refl, ap, ◌∙◌, length-append, arith}
 use Rattle.std.specs.List.{after_last, suffix_len, prefix_len}
 use Rattle.std.proofs.lemmas.Bool.{cond-false, eqb-true}
@@ -40,7 +40,7 @@ after_whole text more whole = elim whole [
 feeds_append : (text more : Bytes) → count_by is_line_feed (text ++ more) ≡ count_by is_line_feed text + count_by is_line_feed more
 feeds_append text more = sum_by-append (λ b. cond (is_line_feed b) 1 0) text more
 
--- a place behind whole lines is so many lines below
+-- a place after whole lines is so many lines below
 pub place_below : (text more : Bytes) (offset : ℕ) → AreWhole text → place_at (text ++ more) (length text + offset) ≡ below (count_by is_line_feed text) (place_at more offset)
 place_below text more offset whole =
     let part = take-append-add text more offset in

@@ -49,7 +49,7 @@ value_at line path text = option_and_then (follow path) (value_of line text)
 abbrev pub HasValue : Option ℕ → List Move → Bytes → ℕ → ℕ → Type 0
 HasValue line path text start end = (value : Data) × (value_at line path text ≡ Some value) × (reading (slice_range text start end) ≡ Some value)
 
--- the text with this word in the place of the bytes from one offset up to another
+-- the text with this word instead of the bytes from one offset up to another
 abbrev pub with_word : Bytes → ℕ → ℕ → Bytes → Bytes
 with_word text start end word = take start text ++ word ++ drop end text
 

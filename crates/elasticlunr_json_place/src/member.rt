@@ -102,7 +102,7 @@ fn is_same(alloc: Global, value: &Value, other: &Value) -> Result<bool, AllocErr
     Ok(printed.as_str() == others.as_str())
 }
 
-/// Whether the path leads to null where that stands in the place of these bytes.
+/// Whether the path leads to null where that stands instead of these bytes.
 fn gives_null(
     alloc: Global,
     text: &[u8],
@@ -120,7 +120,7 @@ fn gives_null(
     }
 }
 
-/// Whether the path leads to true where that stands in the place of these bytes.
+/// Whether the path leads to true where that stands instead of these bytes.
 fn gives_true(
     alloc: Global,
     text: &[u8],
@@ -139,7 +139,7 @@ fn gives_true(
     }
 }
 
-/// The text with a word in the place of these bytes.
+/// The text with a word instead of these bytes.
 fn with_word(alloc: Global, text: &[u8], span: Span, word: &str) -> Result<Vec<u8>, AllocError>
     ensures { IfOk result (λ bytes. bytes.items ≡ with_word text.now span.start span.end word.now) }
 {

@@ -68,7 +68,7 @@ fn seek_key(reader: &mut Reader<'_>, key: &str) -> Result<Option<Span>, Invalid>
     Ok(found)
 }
 
-/// Where the next value stands, and what is right before and behind it; it is passed over.
+/// Where the next value stands, and what is right before and after it; it is passed over.
 fn next_span(reader: &mut Reader<'_>) -> Result<Span, Invalid>
     ensures { OnOk result (length reader.new < length reader.old) }
 {
@@ -101,7 +101,7 @@ fn span_of(text: &[u8], line: Option<usize>) -> Span {
     Span { start, end: start }
 }
 
-/// Without the white space around it, and the comma behind it.
+/// Without the white space around it, and the comma after it.
 fn trimmed(text: &[u8], span: Span) -> Span {
     let Span { mut start, mut end } = span;
     while start < end && text.get(start).is_some_and(|byte| is_between(*byte)) {

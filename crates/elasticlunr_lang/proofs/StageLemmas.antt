@@ -1,4 +1,4 @@
--- On what the stages of the kept languages leave.
+-- On what the stages of the built-in languages leave.
 use Rattle.std.proofs.Common.{◌≡◌, ℕ, Bool, List, [], ◌∷◌, ◌++◌, Option, Some, None, MatchOption, IsSomeAnd, IsTrue, ◌↔◌, if◌then◌else◌, option_and_then, String, refl, sym, ap, ◌∙◌, subst}
 use Rattle.std.proofs.Math.Path.{fun_ext}
 use Rattle.std.specs.Str.{all_scalars}

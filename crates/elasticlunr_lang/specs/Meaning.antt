@@ -6,7 +6,7 @@ use Rattle.elasticlunr_lang.specs.Known.{language_name, language_code, language_
 use Rattle.elasticlunr_lang.specs.declared.any.AnyLanguage.{AnyLanguage}
 use Rattle.elasticlunr_lang.specs.declared.language.Language.{Ghosts}
 
--- the language, of a type with these members of `Language`, means what the definition of the kept languages says of the variant
+-- the language, of a type with these members of `Language`, means what the definition of the built-in languages says of the variant
 pub record MeansAs {L : Type 0} (members : Ghosts L) (language : L) (variant : AnyLanguage) : Type 0 where
   pub name : members.name_of language ≡ language_name variant
   pub code : members.code_of language ≡ language_code variant

@@ -1,4 +1,4 @@
--- The stop words of the kept languages, as texts. A proof sees the words of a list only where it asks for them.
+-- The stop words of the built-in languages, as texts. A proof sees the words of a list only where it asks for them.
 use Rattle.std.specs.Prelude.{◌==◌, List, [], map}
 use Rattle.std.specs.List.{slice_split}
 use Rattle.std.specs.Str.{chars}

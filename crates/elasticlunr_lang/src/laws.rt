@@ -29,7 +29,7 @@ use crate::kept::{
 use crate::language::Language;
 use elasticlunr_text::pipeline::Pipeline;
 
-/// A variant of `AnyLanguage` means what the one definition of the kept languages says of it, and
+/// A variant of `AnyLanguage` means what the one definition of the built-in languages says of it, and
 /// so does the type of its name.
 pub fn a_type_means_what_its_variant_means()
     ensures any { (language : AnyLanguage) → MeansAs ⟦<AnyLanguage as Language>⟧ language language }
@@ -51,12 +51,12 @@ pub fn a_type_means_what_its_variant_means()
     ensures turkish { (language : Turkish) → MeansAs ⟦<Turkish as Language>⟧ language AnyLanguage.Turkish }
 {}
 
-/// A name is the name of one of the kept languages at most.
+/// A name is the name of one of the built-in languages at most.
 pub fn a_name_names_one_language()
     ensures { (one other : AnyLanguage) → language_name one ≡ language_name other → one ≡ other }
 {}
 
-/// The stages of a kept language leave one answer of a token.
+/// The stages of a built-in language leave one answer of a token.
 pub fn a_kept_language_leaves_one_answer()
     ensures { (language : AnyLanguage) (token : Text) (left other : Option Text)
         → language_leaves language token left → language_leaves language token other → left ≡ other }

@@ -1,10 +1,10 @@
-//! The kept languages by name and by code.
+//! The built-in languages by name and by code.
 ghost use Rattle.std.specs.Prelude.{◌≡◌, ◌≢◌, All, IfSome, IsNone};
 ghost use Rattle.elasticlunr_lang.specs.Known.{all_languages, language_name, language_code, SameCode};
 
 use crate::any::AnyLanguage;
 
-/// The kept languages, in the order in which look-ups try them. Requests no memory.
+/// The built-in languages, in the order in which look-ups try them. Does not allocate.
 pub fn languages() -> [AnyLanguage; 16]
     ensures { result ≡ all_languages }
 {
@@ -28,7 +28,7 @@ pub fn languages() -> [AnyLanguage; 16]
     ]
 }
 
-/// The language with exactly this name, as `German`. Requests no memory.
+/// The language with exactly this name, as `German`. Does not allocate.
 pub fn from_name(name: &str) -> Option<AnyLanguage>
     ensures found { IfSome result (λ language. language_name language ≡ name.now) }
     ensures none { IsNone result → All (λ language. language_name language ≢ name.now) all_languages }
@@ -41,7 +41,7 @@ pub fn from_name(name: &str) -> Option<AnyLanguage>
     None
 }
 
-/// The language whose code equals the text but for ASCII case, as `de`. Requests no memory.
+/// The language whose code equals the text but for ASCII case, as `de`. Does not allocate.
 pub fn from_code(code: &str) -> Option<AnyLanguage>
     ensures found { IfSome result (λ language. SameCode (language_code language) code.now) }
     ensures none { IsNone result → All (λ language. ¬ (SameCode (language_code language) code.now)) all_languages }

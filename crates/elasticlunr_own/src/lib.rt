@@ -1,4 +1,4 @@
-//! A stage, a language and a tokenizer of one's own.
+//! A custom stage, language and tokenizer.
 #![tactic(auto)]
 
 ghost use Rattle.std.specs.Prelude.{◌≡◌, ◌∷◌, [], IfOk};

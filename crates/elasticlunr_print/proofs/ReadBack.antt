@@ -59,7 +59,7 @@ split [] us small = (tt, small)
 split (t ∷ ts) us small = let more = split ts us small.1 in ((small.0, more.0), more.1)
 
 mutual
-  -- the JSON of a plain value stands for it
+  -- the JSON of a plain value represents it
   data_back : (d : Data) → IsPlain d → AreSmall (json_tokens (outline d)) → of_json (outline d) ≡ Some d
   data_back null plain small = refl
   data_back (boolean b) plain small = refl

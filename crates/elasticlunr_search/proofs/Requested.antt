@@ -95,7 +95,7 @@ why_text text v field refusal.NoStore reads why = (v, reads, why)
 why_text text v field refusal.NoSuchField reads why = (v, reads, why)
 why_text text v field refusal.Memory reads why = tt
 
--- a query that a searcher refuses is refused for its field, or memory is wanting
+-- a query that a searcher refuses is refused for its field, or memory runs out
 pub refused_for : (v : Data) (field : Option Bytes) (e : SearchError) → (e ≡ NoSuchField) ⊎ (e ≡ Memory) → (e ≡ NoSuchField → IsSomeAnd field (HasNoField v)) → IsNotSearched v field (refusal_of e)
 refused_for v field e only none = elim only [ inl n ↦ rw n (none n) | inr m ↦ rw m tt ]
 

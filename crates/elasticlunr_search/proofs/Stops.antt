@@ -21,7 +21,7 @@ by_exit r R refusal P e is memory f h =
     let p = err_from_is_err_and r is in
     rw (p.1, p.2) (elim h [ inl m ↦ subst R (sym m) memory | inr q ↦ subst R (sym q.0) (f q.1) ])
 
--- the exit of a call for want of memory
+-- the exit of a call for out of memory
 pub memory_exit : {T : Type 0} (r : Result T SearchError) (R : SearchError → Type 0) → IsErrAnd r (λ y. y ≡ Memory) → R Memory → IfErr r R
 memory_exit r R is memory =
     let p = err_from_is_err_and r is in

@@ -1,4 +1,4 @@
--- What a searcher stands for.
+-- What a searcher represents.
 use Rattle.std.specs.Prelude.{◌≡◌, ℕ, List, Option, Some, false, All, Contains, IsTrue, slice_get}
 use Rattle.std.specs.FinMap.{get}
 use Rattle.std.specs.List.{AllZip}

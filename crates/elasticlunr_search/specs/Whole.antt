@@ -7,7 +7,7 @@ one_for_float (unsigned n) = unsigned n
 one_for_float (negative z) = negative z
 one_for_float (float x) = unsigned 1
 
--- the value with 1 in place of each number that is a fraction
+-- the value with 1 instead of each number that is a fraction
 abbrev mutual
   pub with_ones : Data → Data
   with_ones null = null

@@ -1,4 +1,4 @@
-//! The parts of a printed index, made anew from its text and judged by printing them.
+//! The parts of a printed index, rebuilt from its text and judged by printing them.
 ghost use Rattle.std.specs.Prelude.{◌≡◌, ◌<◌, [], true, Some, All, IfOk, IfSome, length, vec_len};
 ghost use Rattle.elasticlunr_text.specs.Text.{bytes_of};
 ghost use Rattle.elasticlunr_commands.specs.Fields.{all_differ as differ};

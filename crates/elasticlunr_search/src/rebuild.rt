@@ -1,4 +1,4 @@
-//! An index made anew from the tokens of its printed text, with no JSON value of its tries.
+//! An index rebuilt from the tokens of its printed text, with no JSON value of its tries.
 //!
 //! What is made is well formed, and no clause says more of it: whether it is what was printed is
 //! judged by printing it, token by token, beside the text (`make_anew`).

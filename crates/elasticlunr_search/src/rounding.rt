@@ -1,4 +1,4 @@
-//! A value with a whole number in place of each fraction.
+//! A value with a whole number instead of each fraction.
 ghost use Rattle.std.specs.Prelude.{◌≡◌, IfOk};
 ghost use Rattle.elasticlunr_search.specs.Whole.{with_ones, items_with_ones, members_with_ones};
 ghost use Rattle.serde_json.specs.View.{view, items_view, members_view};
@@ -6,7 +6,7 @@ ghost use Rattle.serde_json.specs.View.{view, items_view, members_view};
 use serde_json::{Map, Value};
 use std::alloc::{AllocError, Global};
 
-/// The value with 1 in place of each number that is a fraction. Each level of it takes a call.
+/// The value with 1 instead of each number that is a fraction. Each level of it takes a call.
 #[cycle(round)]
 pub(crate) fn round(alloc: Global, value: &Value) -> Result<Value, AllocError>
     ensures { IfOk result (λ v. view v ≡ with_ones (view value.now)) }

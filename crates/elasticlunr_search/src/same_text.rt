@@ -12,7 +12,7 @@ use std::alloc::AllocError;
 use std::marker::Model;
 
 /// Takes the tokens of a text, one after another, and stops at the first one that the text has not
-/// next. The stop is told as want of memory, the one error that a printer has.
+/// next. The stop is reported as out of memory, the one error that a printer has.
 ///
 /// A clause sees the text and the tokens that are left of it.
 #[derive(Drop)]

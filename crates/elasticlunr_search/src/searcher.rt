@@ -73,7 +73,7 @@ impl<L: Language> Searcher<L> {
         Searcher::with_pipeline(alloc, language, pipeline, text)
     }
 
-    /// The same by this pipeline in place of the language's, with which the index must have been
+    /// The same by this pipeline instead of the language's, with which the index must have been
     /// built (`IndexBuilder::with_pipeline`): a text that names other stages is refused.
     pub fn with_pipeline(
         alloc: Global,

@@ -16,7 +16,7 @@ use crate::printed::Printed;
 use serde_json::Value;
 use std::alloc::{AllocError, Global};
 
-/// An index that was made anew from its text, or else the JSON value that the text is.
+/// An index that was rebuilt from its text, or else the JSON value that the text is.
 #[derive(Drop)]
 pub(crate) enum Source {
     Anew(Anew),

@@ -235,7 +235,7 @@ rooted_more [] (m2 ∷ roots) t u n m so_far same is = absurd so_far
 rooted_more (n2 ∷ counts) [] t u n m so_far same is = absurd so_far
 rooted_more (n2 ∷ counts) (m2 ∷ roots) t u n m so_far same is = (so_far.0, so_far.1, rooted_more counts roots t u n m so_far.2 same is)
 
--- the roots are set behind what is posted
+-- the roots are set after what is posted
 pub posts_all : (old mid new : Table) (reference : Bytes) (done counts roots : List (Text × ℕ)) → Posts old mid reference done → AreRooted counts roots → AreChanged (additions reference roots) mid new → Posts old new reference (done ++ counts)
 posts_all old mid new reference done [] [] so_far are same = subst (λ T. Posts old T reference (done ++ [])) (sym same) (subst (Posts old mid reference) (sym (append-nil done)) so_far)
 posts_all old mid new reference done [] (m ∷ roots) so_far are changed = absurd are

@@ -1,4 +1,4 @@
--- A document in the place of what its reference had, from the parts of the work.
+-- A document instead of what its reference had, from the parts of the work.
 use Rattle.std.proofs.Common.{◌≡◌, ◌≢◌, inl, inr, ℕ, zero, suc, ◌+◌, ◌≤◌, ◌<◌, List, [], ◌∷◌, ◌++◌, length, map, arith, Bool, true, false, not, cond, Option, None, Some, IfSome, option_map, option_and_then, true≢false, bytes_eq, refl, sym, ap, subst, ◌∙◌}
 use Rattle.std.specs.Prelude.{IsSome, IsTrue}
 use Rattle.std.specs.List.{slice_get, zip}

@@ -40,7 +40,7 @@ impl IndexContents {
         })
     }
 
-    /// Puts a document in the place of what its reference had. The tokens are those of the values,
+    /// Puts a document in, which replaces what its reference had. The tokens are those of the values,
     /// in their order, none for the field that holds the reference. What other references have
     /// stays; after an error, what this one has may be anything between the old and the new.
     pub fn enter(

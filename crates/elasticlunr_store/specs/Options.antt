@@ -22,7 +22,7 @@ pub record Options : Type 0 where
   pub expand : Bool
   pub fields : FieldMap
 
--- what a map of options stands for
+-- what a map of options represents
 abbrev pub field_map : List (String Global × SearchOptionsField) → FieldMap
 field_map entries = seen (λ field. field) entries
 

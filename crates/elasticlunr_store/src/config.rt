@@ -27,7 +27,7 @@ pub enum SearchBool {
     And,
 }
 
-/// What is used for one field in place of the options for all. `None` is what is used for all.
+/// What is used for one field instead of the options for all. `None` is what is used for all.
 #[derive(Clone, Copy, Debug)]
 pub struct SearchOptionsField {
     /// How much the field weighs.
@@ -49,7 +49,7 @@ pub struct SearchOptions {
     pub bool: SearchBool,
     /// Whether tokens that go on count, too.
     pub expand: bool,
-    /// What is used for some fields in place of these.
+    /// What is used for some fields instead of these.
     pub fields: FieldOptions,
 }
 
@@ -80,7 +80,7 @@ impl Default for SearchOptionsField {
 impl SearchOptions {
     ghost use Rattle.elasticlunr_store.specs.Options.{Options, HasSmallBoosts, options_of, new_options, options_value, ReadsOptions};
 
-    /// `Or`, no expansion, and no field with options of its own. Requests no memory.
+    /// `Or`, no expansion, and no field with options of its own. Does not allocate.
     pub fn new(alloc: Global) -> Self
         ensures { options_of result ≡ new_options }
     {

@@ -29,7 +29,7 @@ use std::marker::Model;
 /// The texts of the documents of an index, where they are kept, and how many tokens their fields
 /// have.
 ///
-/// It stands for its contents: whether texts are kept, a map from references to texts by field, and
+/// It represents its contents: whether texts are kept, a map from references to texts by field, and
 /// a map from references to lengths by field. A reference may have lengths and no texts. Where
 /// texts are not kept each map of texts is empty.
 #[derive(Debug, Drop)]
@@ -53,7 +53,7 @@ impl Model for DocumentStore {
 }
 
 impl DocumentStore {
-    /// An empty store, which keeps texts or does not. It requests no memory; later calls take it
+    /// An empty store, which keeps texts or does not. It does not allocate; later calls take it
     /// from this allocator.
     pub fn new(alloc: Global, save: bool) -> Self
         ensures new { result ≡ new_contents save }

@@ -20,7 +20,7 @@ pub fn one_value_a_store()
 {}
 
 /// An answer that keeps the contract of `DocumentStore::from_value` on the value of contents is
-/// those contents, or want of memory.
+/// those contents, or out of memory.
 pub fn store_values_are_read_back()
     ensures { (c : Contents) (v : Data) (answer : Result Contents IndexError)
         → IsConsistent c → IsStoreValue c v
@@ -45,7 +45,7 @@ pub fn one_options_a_value()
 {}
 
 /// An answer that keeps the contract of `SearchOptions::from_value` on what is written for options
-/// is those options, or want of memory.
+/// is those options, or out of memory.
 pub fn written_options_are_read_back()
     ensures { (options : Options) (answer : Result Options IndexError)
         → IfOk answer (ReadsOptions (options_value options))

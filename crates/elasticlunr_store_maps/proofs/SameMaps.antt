@@ -1,4 +1,4 @@
--- A test of what entries stand for.
+-- A test of what entries represent.
 use Rattle.std.proofs.Common.{◌≡◌, Bool, true, false, not, ◌&&◌, Option, Some, None, MatchOption, is_some, List, [], ◌∷◌, ◌++◌, length, suc, refl, sym, ap, ◌∙◌, string_cmp, String, Global, string_bytes}
 use Rattle.std.specs.Cmp.Lexicographic.{pointwise}
 use mathlib.Core.Bool.{false≢true}
@@ -15,7 +15,7 @@ falls true b e = e
 falls false b e = refl
 
 module _ {X Y : Type 0} (f : X → Y) (E : Bytes × Y → Bytes × Y → Bool) where
-  -- a test of what entries stand for
+  -- a test of what entries represent
   pub pointwise_shown : (es fs : List (String Global × X)) → pointwise (λ p q. E (string_bytes p.0, f p.1) (string_bytes q.0, f q.1)) es fs ≡ pointwise E (shown f es) (shown f fs)
   pointwise_shown [] [] = refl
   pointwise_shown [] (q ∷ fs) = refl
@@ -28,7 +28,7 @@ module _ {X Y : Type 0} (f : X → Y) (E : Bytes × Y → Bytes × Y → Bool) w
   apart_shown (p ∷ es) [] h = refl
   apart_shown (p ∷ es) (q ∷ fs) h = falls (E (string_bytes p.0, f p.1) (string_bytes q.0, f q.1)) _ (apart_shown es fs (λ e. h (ap suc e)))
 
-  -- behind entries that are the same
+  -- after entries that are the same
   pub front : (es fs r s : List (String Global × X)) → pointwise E (shown f es) (shown f fs) ≡ true → pointwise E (shown f (es ++ r)) (shown f (fs ++ s)) ≡ pointwise E (shown f r) (shown f s)
   front [] [] r s e = refl
   front [] (q ∷ fs) r s e = absurd (false≢true e)

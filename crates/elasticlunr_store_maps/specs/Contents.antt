@@ -1,4 +1,4 @@
--- What a document store stands for, and its JSON value.
+-- What a document store represents, and its JSON value.
 use Rattle.std.specs.Prelude.{◌≡◌, ◌≢◌, ◌<◌, ◌^◌, ℕ, List, Bool, false, Option, Some, IsSome, IfSome, unwrap_or, option_and_then, refl, if◌then◌else◌, codes, ◌&&◌, nat_eq, String, string_bytes}
 use Rattle.std.specs.declared.alloc.Global.{Global}
 use Rattle.std.specs.BTreeMap.{BTreeMap}
@@ -94,19 +94,19 @@ IsStoreValue c value = value ≡ store_value c
 abbrev pub same_contents : Contents → Contents → Bool
 same_contents c d = beq c.save d.save && (same_map (same_map bytes_eq) c.texts d.texts && same_map (same_map nat_eq) c.lengths d.lengths)
 
--- what a map of texts stands for
+-- what a map of texts represents
 abbrev pub text_map : List (String Global × String Global) → TextMap
 text_map entries = seen string_bytes entries
 
--- what a map of lengths stands for
+-- what a map of lengths represents
 abbrev pub length_map : List (String Global × ℕ) → LengthMap
 length_map entries = seen (λ n. n) entries
 
--- what a map of documents stands for
+-- what a map of documents represents
 abbrev pub document_texts : List (String Global × BTreeMap (String Global) (String Global)) → map.FinMap text_cmp TextMap
 document_texts entries = seen (λ m. text_map m.entries) entries
 
--- what a map of the lengths of documents stands for
+-- what a map of the lengths of documents represents
 abbrev pub document_lengths : List (String Global × BTreeMap (String Global) ℕ) → map.FinMap text_cmp LengthMap
 document_lengths entries = seen (λ m. length_map m.entries) entries
 

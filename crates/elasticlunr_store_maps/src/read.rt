@@ -16,7 +16,7 @@ use serde_json::Value;
 use std::alloc::Global;
 use std::collections::BTreeMap;
 
-// The texts that a value stands for.
+// The texts that a value represents.
 fn read_texts(alloc: Global, value: &Value) -> Result<BTreeMap<String, String>, IndexError>
     ensures ok { IfOk result (λ texts. view value.now ≡ keyed string (text_map texts.entries)) }
     ensures err { IfErr result (IsRefused ((m : TextMap) → view value.now ≢ keyed string m)) }
@@ -34,7 +34,7 @@ fn read_texts(alloc: Global, value: &Value) -> Result<BTreeMap<String, String>, 
     Ok(texts)
 }
 
-/// The texts of documents that a value stands for.
+/// The texts of documents that a value represents.
 pub fn read_document_texts(
     alloc: Global,
     value: &Value,
@@ -54,7 +54,7 @@ pub fn read_document_texts(
     Ok(docs)
 }
 
-// The lengths that a value stands for.
+// The lengths that a value represents.
 fn read_lengths(alloc: Global, value: &Value) -> Result<BTreeMap<String, usize>, IndexError>
     ensures ok { IfOk result (λ lengths. view value.now ≡ keyed count (length_map lengths.entries)) }
     ensures small { IfOk result (λ lengths. AreSmallLengths (length_map lengths.entries)) }
@@ -73,7 +73,7 @@ fn read_lengths(alloc: Global, value: &Value) -> Result<BTreeMap<String, usize>,
     Ok(lengths)
 }
 
-/// The lengths of documents that a value stands for.
+/// The lengths of documents that a value represents.
 pub fn read_document_lengths(
     alloc: Global,
     value: &Value,

@@ -14,7 +14,7 @@ pub struct Call<'a> {
 }
 
 impl<'a> Call<'a> {
-    /// The call of a value, `None` where it is none or where memory is wanting.
+    /// The call of a value, `None` where it is none or where memory runs out.
     pub fn read(alloc: Global, value: &'a Value) -> Option<Call<'a>> {
         let (name, arguments) = value.as_array()?.split_first()?;
         let name = name.as_str()?;

@@ -72,7 +72,7 @@ fn of_language(rt: &HostRuntime, line: &str) -> io::Result<()> {
     }
 }
 
-/// A kept language by its type.
+/// A built-in language by its type.
 fn kept(rt: &HostRuntime, name: &str) -> io::Result<()> {
     match name {
         "Arabic" => speaker(rt, lang::Arabic::new()),

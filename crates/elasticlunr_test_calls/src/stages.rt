@@ -133,7 +133,7 @@ fn called(pipeline: &Pipeline, call: &Call<'_>, tokens: Vec<String>) -> Answer {
     }
 }
 
-/// A call of the stage, or of what it holds or stands for.
+/// A call of the stage, or of what it holds or represents.
 fn of_stage(stage: &Stage, call: &Call<'_>, token: String) -> Answer {
     match call.name {
         "Stage::name" => Answer::text(stage.name(call.alloc)),

@@ -69,7 +69,7 @@ pub fn tell(rt: &HostRuntime, answer: Answer) -> io::Result<()> {
     }
 }
 
-/// Tells that a line is no call, or that memory was wanting to make it.
+/// Tells that a line is no call, or that memory ran out to make it.
 pub fn not_made(rt: &HostRuntime, line: &str) -> io::Result<()> {
     println!(rt; "{line} -> not made")
 }

@@ -43,7 +43,7 @@ AllZip-both R (x ∷ xs) ys [] qs one other = absurd one
 AllZip-both R (x ∷ xs) ys (a ∷ ps) qs one other = (one.0, AllZip-both R xs ys ps qs one.1 other)
 
 module _ {f x p calls : _} (leaves : DynBox x Global p → List ℕ → Option (List ℕ)) where
-  -- the stage at i of the listed ones, which leaves the text u, and then those behind it
+  -- the stage at i of the listed ones, which leaves the text u, and then those after it
   pub MayLeaveAll-step : (listed stages : List (Stage f x p calls)) (i : ℕ) (stage : Stage f x p calls) (t u : List ℕ) (left : Option (List ℕ)) → listed ≡ stages → i < length listed → stage ≡ get_or listed i stage → MayLeave leaves stage t (Some u) → MayLeaveAll leaves (drop (i + 1) stages) u left → MayLeaveAll leaves (drop i stages) t left
   MayLeaveAll-step listed stages i stage t u left e within same one others =
       rw (drop_more stages i stage (rw e at within)) (rw (← (rw e at same)) (Some u, one, others))

@@ -10,11 +10,11 @@ use Rattle.elasticlunr_text.specs.declared.lang.en.endings.Cut.{Cut}
 abbrev pub LosesLast : Rule
 LosesLast w v = (front : List ℕ) (c : ℕ) → w ≡ front ++ c ∷ [] → v ≡ front
 
--- the letter stands in the place of the first one
+-- the letter stands instead of the first one
 abbrev pub SetsFirst : ℕ → Rule
 SetsFirst letter w v = (c : ℕ) (rest : List ℕ) → w ≡ c ∷ rest → v ≡ letter ∷ rest
 
--- the ending stands in the place of the suffix
+-- the ending stands instead of the suffix
 abbrev pub Exchanges : List ℕ → List ℕ → Rule
 Exchanges suffix ending w v = (s : List ℕ) → w ≡ s ++ suffix → v ≡ s ++ ending
 

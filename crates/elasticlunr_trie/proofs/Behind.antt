@@ -1,4 +1,4 @@
--- References with their frequencies, put into an object one behind the other.
+-- References with their frequencies, put into an object one after the other.
 use Rattle.std.proofs.Common.{◌≡◌, ℕ, List, [], ◌∷◌, ◌++◌, refl, ap, ◌∙◌, arith, Less, Greater}
 use Rattle.std.specs.Prelude.{T}
 use Rattle.std.specs.Ordering.{ordering_reverse}

@@ -1,4 +1,4 @@
--- What nodes stand for is a table.
+-- What nodes represent is a table.
 use Rattle.std.proofs.Common.{◌≡◌, ℕ, ◌<◌, ◌^◌, Bool, true, false, List, [], ◌∷◌, Option, Some, None, refl, sym, ◌∙◌}
 use mathlib.Core.Bool.{◌&&◌}
 use Rattle.std.specs.Str.{all_scalars, IsUtf8}

@@ -1,4 +1,4 @@
--- The nodes that are kept stand for the postings of all, with no path that leads to none.
+-- The nodes that are kept represent the postings of all, with no path that leads to none.
 use Rattle.std.proofs.Common.{◌≡◌, ◌⊎◌, ◌↔◌, inl, inr, ℕ, suc, ◌+◌, ◌<◌, ◌≤◌, Bool, false, IsTrue, IsSome, is_some, List, [], ◌∷◌, ◌++◌, length, set, unwrap_or, length-append, get_or, cond, Option, Some, None, option_and_then, refl, sym, ap, subst, ◌∙◌, arith}
 use Rattle.std.proofs.lemmas.Bool.{cases_lt, cases_eq, eq-eqb}
 use Rattle.std.specs.List.{slice_get}

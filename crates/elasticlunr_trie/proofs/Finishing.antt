@@ -46,7 +46,7 @@ some_of (Some x) h = (x, refl)
 pub letters_same : (c d : ℕ) → encode_utf8 c ≡ encode_utf8 d → c ≡ d
 letters_same c d e = (encode_same c d [] [] (ap (λ t. t ++ []) e)).0
 
--- a child that is put behind the others
+-- a child that is put after the others
 pub child_push : (es : Children) (c k : ℕ) → child es c ≡ None → child (es ++ (c, k) ∷ []) c ≡ Some k
 child_push [] c k none = ap (λ b. cond b (Some k) None) (eq-eqb c c refl)
 child_push ((d, j) ∷ es) c k none = elim (cases_eq d c) [

@@ -299,7 +299,7 @@ nothing_read vs = record {
   only = λ q found. absurd (false≢true found);
 }
 
--- ---- values behind references
+-- ---- values after references
 
 pub borrowed_push : (rs : List (Bor Value)) (r : Bor Value) → borrowed_values (rs ++ r ∷ []) ≡ borrowed_values rs ++ r.now ∷ []
 borrowed_push [] r = refl

@@ -21,7 +21,7 @@ changed_more : (changes : List Change) (change : Change) (T U V : Table) → Are
 changed_more [] change T U V same last = (V, subst (λ W. IsChanged change W V) same last, refl)
 changed_more (c ∷ changes) change T U V are last = (are.0, are.1, changed_more changes change are.0 U V are.2 last)
 
--- one start is added behind those before it
+-- one start is added after those before it
 pub changed_on : (r : Bytes) (starts : List Start) (i : ℕ) (d : Start) (T U V : Table) → i < length starts → AreChanged (additions r (map told (take i starts))) T U
     → IsChanged (add (chars (slice_index_or starts i d).token.now) r (slice_index_or starts i d).frequency) U V → AreChanged (additions r (map told (take (i + 1) starts))) T V
 changed_on r starts i d T U V lt are last =
@@ -41,7 +41,7 @@ walked_on step n old new rest tokens count same are tell =
     let all = ap (λ m. take m (new ++ rest)) (sym count ∙ sym (length-map old told) ∙ ap length (sym same) ∙ length-map new told) ∙ take-append_seam new rest in
     (subst (All (IsStart step)) (sym all) are, ap (map told) all ∙ same ∙ tell)
 
--- a start that tells a token comes behind those of the tokens before
+-- a start that tells a token comes after those of the tokens before
 pub pushed : (step : Step) (old new : List Start) (s : Start) (tokens : List (Bor Bytes × ℕ)) (i : ℕ) (d : Bor Bytes × ℕ) → i < length tokens → new ≡ old ++ s ∷ [] → IsStart step s
     → told s ≡ (chars (slice_index_or tokens i d).0.now, (slice_index_or tokens i d).1)
     → All (IsStart step) old × (map told old ++ told_tokens (drop i tokens) ≡ told_tokens tokens) → All (IsStart step) new × (map told new ++ told_tokens (drop (i + 1) tokens) ≡ told_tokens tokens)

@@ -72,7 +72,7 @@ get_inside xs k x e = elim (cases_lt k (length xs)) [
   | inr past ↦ let none = get_past xs k past in absurd (cc)
 ]
 
--- what waits behind a node is at some text of each table that has the node's value
+-- what waits after a node is at some text of each table that has the node's value
 child_possible : (kids : Children) (es : Entries) (old new : List Value) (d : Data) → ReadsNode kids es old new d → (T : Table) (p : Text) → IsTree T p d → (k : ℕ) (v : Value) → length old ≤ k → slice_get new k ≡ Some v → (q : Text) × IsTree T q (view v)
 child_possible kids es old new d reads T p tree k v low there =
     let whole = subst (IsTree T p) reads.is tree in

@@ -13,11 +13,11 @@ use Rattle.elasticlunr_trie_nodes.specs.Table.{Entries, postings_of}
 use Rattle.elasticlunr_trie.specs.Tree.{frequencies}
 use Rattle.elasticlunr_trie.specs.Finished.{value_at, IsNode}
 
--- the values behind references
+-- the values after references
 abbrev pub borrowed_values : List (Bor Value) → List Value
 borrowed_values rs = map (λ r. r.now) rs
 
--- new is old with the values of these children behind it, each once
+-- new is old with the values of these children after it, each once
 pub record HasNewValues (children : Children) (old new : List Value) : Type 0 where
   pub more : List Value
   pub grown : new ≡ old ++ more

@@ -47,7 +47,7 @@ use value::tree_value;
 /// The tokens of a field, each with the references of the documents that have it, and how often
 /// they do.
 ///
-/// It stands for a table: the known texts, among them the empty one and each beginning of a known
+/// It represents a table: the known texts, among them the empty one and each beginning of a known
 /// one, and for some pairs of a known token and a reference a frequency. Known texts stay known
 /// when their postings go, until the trie is compacted.
 ///
@@ -91,7 +91,7 @@ impl Model for InvertedIndex {
 }
 
 impl InvertedIndex {
-    /// A trie that knows the empty text alone. It requests no memory; later calls take it from this
+    /// A trie that knows the empty text alone. It does not allocate; later calls take it from this
     /// allocator.
     pub fn new(alloc: Global) -> Self
         ensures new { result ≡ new_table }
@@ -174,7 +174,7 @@ impl InvertedIndex {
 
     /// Takes every posting of a reference away. The known texts stay. It visits the nodes where the
     /// reference has or had a posting, and no others; an unknown reference is looked up and costs
-    /// no more. Requests no memory.
+    /// no more. Does not allocate.
     pub fn remove_doc(&mut self, doc_ref: &str)
         ensures known { (t : Text) → knows self.new t ≡ knows self.old t }
         ensures gone { (t : Text) → posting self.new t doc_ref.now ≡ None }
@@ -191,7 +191,7 @@ impl InvertedIndex {
     }
 
     /// Takes a posting away if it is there. The known texts stay. The work is in proportion to the
-    /// token and to the postings of the reference. Requests no memory.
+    /// token and to the postings of the reference. Does not allocate.
     pub fn remove_token(&mut self, doc_ref: &str, token: &str)
         ensures { RemovesToken self.old self.new (chars token.now) doc_ref.now }
     {
@@ -217,7 +217,7 @@ impl InvertedIndex {
     }
 
     /// The frequency of a reference at a token, 0 where it has no posting. A step for each
-    /// character of the token, and a look-up of the reference; requests no memory.
+    /// character of the token, and a look-up of the reference; does not allocate.
     pub fn get_term_frequency(&self, doc_ref: &str, token: &str) -> u64
         ensures { result ≡ unwrap_or (posting self.now (chars token.now) doc_ref.now) 0 }
     {
@@ -225,7 +225,7 @@ impl InvertedIndex {
     }
 
     /// Has a reference a posting at a token? A step for each character of the token, and a look-up
-    /// of the reference; requests no memory.
+    /// of the reference; does not allocate.
     pub fn has_posting(&self, doc_ref: &str, token: &str) -> bool
         ensures { result ≡ is_some (posting self.now (chars token.now) doc_ref.now) }
     {
@@ -233,7 +233,7 @@ impl InvertedIndex {
     }
 
     /// How many references have a posting at a token. A step for each character of the token;
-    /// requests no memory.
+    /// does not allocate.
     pub fn get_doc_frequency(&self, token: &str) -> u64
         ensures { result ≡ len (postings self.now (chars token.now)) }
     {
@@ -316,8 +316,8 @@ impl PartialEq for InvertedIndex {
 
     ghost laws = { partial_equiv_from_equiv tables_equivalence };
 
-    /// Do both stand for the same table? The numbers of their nodes and references make no
-    /// difference. Requests no memory. A path without branches takes no stack.
+    /// Do both represent the same table? The numbers of their nodes and references make no
+    /// difference. Does not allocate. A path without branches takes no stack.
     fn eq(&self, other: &InvertedIndex) -> bool
         ensures test { result ≡ same_tables self.now other.now }
         ensures equal { IsTrue result ↔ (self.now ≡ other.now) }

@@ -1,4 +1,4 @@
-//! Laws of the tables that a trie stands for.
+//! Laws of the tables that a trie represents.
 ghost use Rattle.std.specs.Prelude.{◌≡◌, ◌⊎◌, ◌↔◌, [], List, Result, IfOk, IfErr, IsTrue, unwrap_or, option_map};
 ghost use Rattle.std.specs.Bool.{Decides};
 ghost use Rattle.std.specs.FinMap.{get, len};
@@ -21,7 +21,7 @@ pub fn one_value_a_table()
 {}
 
 /// An answer that keeps the contract of `InvertedIndex::from_value` on the trie value of a table is
-/// that table, or want of memory.
+/// that table, or out of memory.
 pub fn trie_values_are_read_back()
     ensures { (T : Table) (v : Data) (answer : Result Table IndexError)
         → IsTable T → IsTrieValue T v

@@ -14,7 +14,7 @@ use Rattle.elasticlunr_trie_nodes.specs.declared.nodes.Node.{Node}
 pub no_nodes : (n : ℕ) → IsInner n [] []
 no_nodes n = record { count = refl; children = λ j lt. absurd (omega arith); no_entries = λ j. refl }
 
--- one more node behind the others
+-- one more node after the others
 pub inner_push : (n : ℕ) (cs : Text) (front : List Node) (c : ℕ) (node : Node) → IsInner n cs front → node.children.items ≡ (c, n + length front) ∷ [] → node.postings ≡ map.empty → IsInner n (cs ++ c ∷ []) (front ++ node ∷ [])
 inner_push n cs front c node inner children none = record {
   count = length-append front (node ∷ []) ∙ ap (λ k. k + 1) inner.count ∙ sym (length-append cs (c ∷ []));
@@ -37,7 +37,7 @@ inner_push n cs front c node inner children none = record {
     beyond zero = none
     beyond (suc i) = refl
 
--- nodes with another node at k, which has the postings of the old one, and with a branch behind them
+-- nodes with another node at k, which has the postings of the old one, and with a branch after them
 module _ (old branch new : List Node) (k : ℕ) (node : Node) (lt : k < length old) (same : node.postings ≡ entries_of (slice_get old k)) (is : new ≡ set old k node ++ branch) where
   before : (j : ℕ) → j < length old → slice_get new j ≡ slice_get (set old k node) j
   before j there = ap (λ ns. slice_get ns j) is ∙ get_before (set old k node) branch j (subst (λ n. j < n) (sym (length-set old k node)) there)

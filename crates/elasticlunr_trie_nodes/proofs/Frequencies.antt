@@ -38,7 +38,7 @@ find_value [] q = refl
 find_value (e ∷ l) q = ap (λ b. cond b (Some e.1) (find nat_cmp q l)) (ties q e.0) ∙ ap (λ o. cond (eqb e.0 q) (Some e.1) o) (find_value l q)
 
 module _ (l : Pairs) (sorted : IsStrictlySorted l) where
-  -- what the pairs stand for
+  -- what the pairs represent
   pub seen_entries : map.entries (frequencies_of l) ≡ l
   seen_entries = map.entries-from_sorted nat_cmp l (rising l sorted)
 

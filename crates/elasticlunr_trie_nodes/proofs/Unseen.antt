@@ -1,4 +1,4 @@
--- What is done before memory is wanting, which the table does not show.
+-- What is done before memory runs out, which the table does not show.
 use Rattle.std.proofs.Common.{◌≡◌, ◌+◌, ◌<◌, ℕ, List, [], ◌∷◌, length, length-append, Some, None, refl, sym, ap, subst, ◌∙◌}
 use Rattle.std.specs.FinMap.{get, get-empty}
 use Rattle.std.specs.Ordering.{nat_cmp}

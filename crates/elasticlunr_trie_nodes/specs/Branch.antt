@@ -25,7 +25,7 @@ pub record IsBranch (n : ℕ) (cs : Text) (r m : ℕ) (branch : List Node) : Typ
   pub no_children : leaf.children.items ≡ []
   pub posting : leaf.postings ≡ map.insert map.empty r m
 
--- The old nodes with the branch behind them. The old nodes have the entries that they had, and the children, but for the node k.
+-- The old nodes with the branch after them. The old nodes have the entries that they had, and the children, but for the node k.
 pub record HasBranch (old new branch : List Node) : Type 0 where
   pub count : length new ≡ length old + length branch
   pub fresh : (j : ℕ) → slice_get new (length old + j) ≡ slice_get branch j
@@ -56,7 +56,7 @@ pub record SameTrie (root : Pairs) (nodes : List Node) (root2 : Pairs) (nodes2 :
   pub children : (q : Place) → children_at root2 nodes2 q ≡ children_at root nodes q
   pub entries : (q : Place) → entries_at root2 nodes2 q ≡ entries_at root nodes q
 
--- The nodes with a branch behind them, whose first node is the child of the place p under the character c. Nothing else changes.
+-- The nodes with a branch after them, whose first node is the child of the place p under the character c. Nothing else changes.
 pub record Grows (root : Pairs) (nodes : List Node) (root2 : Pairs) (nodes2 : List Node) (p : Place) (c : ℕ) (branch : List Node) : Type 0 where
   pub count : length nodes2 ≡ length nodes + length branch
   pub fresh : (j : ℕ) → slice_get nodes2 (length nodes + j) ≡ slice_get branch j

@@ -1,4 +1,4 @@
--- What a copy of the postings of a text stands for.
+-- What a copy of the postings of a text represents.
 use Rattle.std.specs.Prelude.{ℕ, Option, option_map, String}
 use Rattle.std.specs.BTreeMap.{BTreeMap}
 use Rattle.std.specs.declared.alloc.Global.{Global}

@@ -18,7 +18,7 @@ abbrev pub number_of : Names → Bytes → Option ℕ
 number_of [] r = None
 number_of (name ∷ names) r = if bytes_eq name r then Some 0 else option_map suc (number_of names r)
 
--- the names, with r behind them if it is new
+-- the names, with r after them if it is new
 abbrev pub entered : Names → Bytes → Names
 entered names r = if is_some (number_of names r) then names else names ++ r ∷ []
 
@@ -57,7 +57,7 @@ pub record ArePostings (names : Names) (l : Pairs) : Type 0 where
   pub sorted : IsStrictlySorted l
   pub there : (i : ℕ) → i < length l → key_at l i < length names
 
--- what pairs stand for, under the names of their numbers
+-- what pairs represent, under the names of their numbers
 abbrev pub named_pairs : Names → Pairs → Postings
 named_pairs names l = from_entries (under_names names l)
 

@@ -1,4 +1,4 @@
--- What an inverted index stands for: a table of texts and postings.
+-- What an inverted index represents: a table of texts and postings.
 use Rattle.std.specs.Prelude.{◌≡◌, ◌≢◌, ◌↔◌, ◌⊎◌, ℕ, ◌^◌, ◌<◌, Bool, true, List, [], ◌∷◌, ◌++◌, Option, Some, None, IsTrue, unwrap_or, nat_eq, map, String}
 use Rattle.std.specs.declared.alloc.Global.{Global}
 use Rattle.std.specs.Borrow.{Bor}
@@ -15,7 +15,7 @@ Postings = FinMap {K = Bytes} text_cmp ℕ
 abbrev pub Entries : Type 0
 Entries = List (String Global × ℕ)
 
--- what they stand for
+-- what they represent
 abbrev pub postings_of : Entries → Postings
 postings_of entries = seen (λ n. n) entries
 

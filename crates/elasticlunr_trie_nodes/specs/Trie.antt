@@ -1,4 +1,4 @@
--- The table that numbered nodes stand for, whose postings name their references by number; for private clauses.
+-- The table that numbered nodes represent, whose postings name their references by number; for private clauses.
 use Rattle.std.specs.Prelude.{◌≡◌, true, ℕ, zero, suc, ◌<◌, ◌≤◌, List, [], ◌∷◌, ◌++◌, map, length, slice_get, Option, Some, None, option_map, option_and_then}
 use Rattle.std.specs.Str.{all_scalars}
 use Rattle.std.specs.FinMap.{from_entries, empty}
@@ -65,7 +65,7 @@ module _ (step : Step) where
   abbrev pub HaveOneParent : ℕ → Type 0
   HaveOneParent n = (k : ℕ) → k < n → HasOneParent k
 
--- the postings that frequencies by number stand for: those of each name
+-- the postings that frequencies by number represent: those of each name
 abbrev pub named : Names → Frequencies → Postings
 named names P = from_entries (pairs (λ r. at names r P) names)
 
@@ -91,7 +91,7 @@ module _ (root : Pairs) (nodes : List Node) where
   paths zero p = [] ∷ []
   paths (suc n) p = [] ∷ branches (λ k. paths n (At k)) (children_at p)
 
-  -- the table that the nodes stand for, by the names of the references
+  -- the table that the nodes represent, by the names of the references
   unfoldable pub table_of : Names → Table
   table_of names = from_entries (pairs (look names) (paths (length nodes) Root))
 

@@ -14,7 +14,7 @@ enum Kept<T> {
     Many(Box<Vec<T>>),
 }
 
-/// A list. It requests no memory for one item.
+/// A list. It does not allocate for one item.
 #[derive(Debug, Drop)]
 pub struct Few<T> {
     alloc: Global,
@@ -34,7 +34,7 @@ impl<T> Model for Few<T> {
 }
 
 impl<T: Copy> Few<T> {
-    /// No items. It requests no memory.
+    /// No items. It does not allocate.
     pub fn new(alloc: Global) -> Self
         ensures { result.items ≡ [] }
     {
@@ -44,7 +44,7 @@ impl<T: Copy> Few<T> {
         }
     }
 
-    /// One item. It requests no memory.
+    /// One item. It does not allocate.
     pub fn one(alloc: Global, item: T) -> Self
         ensures { result.items ≡ item ∷ [] }
     {
@@ -54,7 +54,7 @@ impl<T: Copy> Few<T> {
         }
     }
 
-    /// No items, with room for a number of them. It requests no memory for one.
+    /// No items, with room for a number of them. It does not allocate for one.
     pub fn with_room(alloc: Global, count: usize) -> Result<Self, AllocError>
         ensures { IfOk result (λ f. f.items ≡ []) }
     {
@@ -123,7 +123,7 @@ impl<T: Copy> Few<T> {
         Ok(())
     }
 
-    /// Puts an item in place of another.
+    /// Replaces an item.
     pub fn set(&mut self, at: usize, item: T)
         requires { at < length self.old.items }
         ensures { self.new.items ≡ slice_set self.old.items at item }
@@ -139,7 +139,7 @@ impl<T: Copy> Few<T> {
         }
     }
 
-    /// Takes an item away, and puts those behind it one nearer.
+    /// Takes an item away, and puts those after it one nearer.
     pub fn remove(&mut self, at: usize)
         requires { at < length self.old.items }
         ensures { self.new.items ≡ remove self.old.items at }

@@ -34,7 +34,7 @@ impl Model for Names {
 }
 
 impl Names {
-    /// No names. It requests no memory.
+    /// No names. It does not allocate.
     pub fn new(alloc: Global) -> Self
         ensures { result ≡ [] }
     {

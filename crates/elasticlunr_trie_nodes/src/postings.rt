@@ -35,7 +35,7 @@ impl Model for Postings {
 }
 
 impl Postings {
-    /// No postings. It requests no memory.
+    /// No postings. It does not allocate.
     pub fn new(alloc: Global) -> Self
         ensures { result ≡ map.empty }
     {
@@ -73,7 +73,7 @@ impl Postings {
         value_of(self.pairs.as_slice(), number)
     }
 
-    /// Sets the posting of a reference. One alone requests no memory.
+    /// Sets the posting of a reference. One alone does not allocate.
     pub fn set(&mut self, number: usize, frequency: u64) -> Result<(), AllocError>
         ensures ok { OnOk result (self.new ≡ map.insert self.old number frequency) }
         ensures err { OnErr result (self.new ≡ self.old) }

@@ -38,7 +38,7 @@ module _ (reads : ℕ → Bytes → List Text → Type 0) where
       let its : HasReadToken reads (none ▸ add d ▸ add e) 0 r token = subst (λ o. IsSomeAnd o (λ d. IsSomeAnd (slice_get d.given 0) (λ g. IsSomeAnd g.tokens (λ ts. reads 0 g.value ts × Contains ts token)))) (sym current) (first_has body token has e.given is.its_values is.each) in
       (them.exact r).1 (token, asks, its)
 
-  -- the fields that an index has, in place of their names
+  -- the fields that an index has, instead of their names
   pub at_fields : (fields : List Bytes) (reference_field : Bytes) → fields ≡ codes "body" ∷ [] → reference_field ≡ codes "id" → (commands : Commands) (query : Bytes) (found : List Bytes)
       → (AreRead reads fields reference_field commands → (i : ℕ) × (slice_get fields i ≡ Some (codes "body")) × Finds reads Any commands i query found)
       → AreRead reads (codes "body" ∷ []) (codes "id") commands → (i : ℕ) × (slice_get (codes "body" ∷ []) i ≡ Some (codes "body")) × Finds reads Any commands i query found

@@ -1,4 +1,4 @@
--- What a trimmer and a stage of one's own leave.
+-- What a trimmer and a stage of the caller's leave.
 use Rattle.std.proofs.Common.{◌≡◌, List, [], ◌∷◌, Option, None, Some, map, filter_map, codes, refl, sym, ap, subst, ◌∙◌}
 use Rattle.std.specs.Prelude.{MatchOption}
 use Rattle.std.specs.List.{AllZip, cons_option}
@@ -33,7 +33,7 @@ of_step : {x Y : Type 0} {p : x → Type 0} (step : DynBox x Global p) (place : 
     → ((value : p place) → member (record { ptr = step.ptr; vtable = place; alloc = step.alloc; value = value }) ≡ y) → member step ≡ y
 of_step {x} {Y} {p} step place is member y here = subst (λ v. (value : p v) → member (record { ptr = step.ptr; vtable = v; alloc = step.alloc; value = value }) ≡ y) (sym is) here step.value
 
--- In each lemma the stages are the trimmer and a step of one's own, whose table is at this place.
+-- In each lemma the stages are the trimmer and a step of the caller's, whose table is at this place.
 module _ {f x : Type 0} {p : x → Type 0} {calls : _} (step : DynBox x Global p) (place : x) (is : step.vtable ≡ place) where
   -- their names
   pub names_are : (name_text : DynBox x Global p → Bytes) (stages : List (Stage f x p calls)) → stages ≡ EnglishTrimmer ∷ Own step ∷ []

@@ -4,7 +4,7 @@ use elasticlunr::IndexError;
 use elasticlunr_search::SearchError;
 use std::alloc::{AllocError, AllocFailed};
 
-/// A refusal of the index, or of the search, or want of memory of the use's own.
+/// A refusal of the index, or of the search, or out of memory of the use's own.
 #[derive(Clone, Copy)]
 pub enum UseError {
     Index(IndexError),

@@ -1,6 +1,6 @@
 //! The first index.
 //!
-//! One document of one word goes into an English index. Proved: the printed text, letter by letter.
+//! One document of one word goes into an English index. Proved: the printed text, byte for byte.
 //! A caller has to know nothing more: the law that it calls says what one word becomes.
 ghost use Rattle.std.specs.Prelude.{◌≡◌, ◌++◌, IfOk, codes, string_bytes};
 

@@ -1,4 +1,4 @@
-//! An index with a stage and a language of one's own, those of `elasticlunr_own`.
+//! An index with a custom stage and language, those of `elasticlunr_own`.
 //!
 //! What each means stands in its `ghost` lines, in words of the library; the prover holds the body
 //! against them. Proved: the printed text names the language, the stages and the field, and is that

@@ -1,4 +1,4 @@
-//! The stop words of the kept languages: each list compared whole with that of the original.
+//! The stop words of the built-in languages: each list compared whole with that of the original.
 use crate::cells;
 use crate::tables::Counts;
 use elasticlunr::Language;

@@ -24,7 +24,7 @@ pub fn an_index_makes_one_document<L: Language>(index: &Index<L>)
     a_run_has_one_answer(&index.settings.pipeline);
 }
 
-/// So does a kept language.
+/// So does a built-in language.
 pub fn a_kept_language_makes_one_document()
     ensures reading { (language : AnyLanguage) → HasOneReading (KeptReads language) }
     ensures document { (language : AnyLanguage) (fields : List Bytes) (reference_field : Bytes)
@@ -57,7 +57,7 @@ pub fn equal_settings_print_equal_texts<L: Language>(index: &Index<L>, other: &I
     settings_and_commands_have_one_value();
 }
 
-/// Equal calls whose documents a kept language makes are equal commands, and the texts that indexes
+/// Equal calls whose documents a built-in language makes are equal commands, and the texts that indexes
 /// of one plan print after them are equal.
 pub fn kept_languages_print_equal_texts()
     ensures commands { (language : AnyLanguage) (fields : List Bytes) (reference_field : Bytes)

@@ -32,7 +32,7 @@ impl Model for PrettyText {
 }
 
 impl PrettyText {
-    /// An empty text. It requests no memory; later calls take it from this allocator.
+    /// An empty text. It does not allocate; later calls take it from this allocator.
     pub fn new(alloc: Global) -> Self
         ensures { result ≡ [] }
     {

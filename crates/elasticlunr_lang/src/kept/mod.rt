@@ -1,4 +1,4 @@
-//! The kept languages, one type each.
+//! The built-in languages, one type each.
 mod arabic;
 mod danish;
 mod dutch;

@@ -9,7 +9,7 @@ use std::alloc::{AllocError, Global};
 /// A step of a pipeline: it keeps a token, changes it or drops it.
 ///
 /// Both calls have a meaning, a function of the value and of the token's characters; an answer is
-/// that meaning, or want of memory.
+/// that meaning, or out of memory.
 pub trait PipelineFn: Drop {
     ghost use Rattle.std.specs.Prelude.{◌≡◌, Option, IfOk, option_map, string_bytes};
     ghost use Rattle.elasticlunr_text.specs.Text.{Text, Bytes, text_of};
@@ -32,7 +32,7 @@ pub trait PipelineFn: Drop {
 /// A function on tokens, with a name.
 ///
 /// Who builds one owes two facts: the function may be called on every text, and it has one answer
-/// for each text, want of memory aside.
+/// for each text, unless memory runs out.
 #[derive(Drop)]
 pub struct FnWrapper {
     /// The name by which a printed index lists the function.
@@ -43,7 +43,7 @@ pub struct FnWrapper {
     // the function may be called on every text
     pub ghost callable: { IsAlwaysCallable function },
 
-    // two answers to one text are equal, want of memory aside
+    // two answers to one text are equal, unless memory runs out
     pub ghost one_answer: { (a b : Global) (s t : String Global) (p q : Option (String Global)) →
         text_of s ≡ text_of t → post function a s (Ok p) → post function b t (Ok q) →
         option_map text_of p ≡ option_map text_of q },

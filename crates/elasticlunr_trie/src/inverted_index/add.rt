@@ -1,4 +1,4 @@
-//! Adding a posting. Where memory is wanting, what was done before is not seen: a name without postings, and a node in a list that has no posting.
+//! Adding a posting. Where memory runs out, what was done before is not seen: a name without postings, and a node in a list that has no posting.
 ghost use Rattle.std.specs.Prelude.{◌≡◌, ◌≢◌, ◌<◌, ◌∷◌, [], true, None, Some, length, OnOk, OnErr};
 ghost use Rattle.std.specs.Str.{chars, all_scalars};
 ghost use Rattle.elasticlunr_error.specs.Text.{Text};

@@ -49,7 +49,7 @@ impl InvertedIndex {
     }
 }
 
-// The children and the nodes from which a posting is reached, numbered anew, with the names that their postings have.
+// The children and the nodes from which a posting is reached, numbered again, with the names that their postings have.
 fn compact(
     alloc: Global,
     root: &[Child],

@@ -27,7 +27,7 @@ impl RegexTrimmer {
     ///
     /// A class text is one or more items: a range `x-y`, a character that no `-` follows, or
     /// `\p{Name}`, the set that the crate `unicode` finds by that name. The characters of `\[]^-&~`
-    /// stand for themselves nowhere. Every other text is `BadClass`.
+    /// never stand for themselves. Every other text is `BadClass`.
     pub fn new(alloc: Global, name: &str, word_chars: &str) -> Result<Self, IndexError>
         ensures name { IfOk result (λ trimmer. trimmer_name trimmer ≡ name.now) }
         ensures class { IfOk result (λ trimmer. Names (chars word_chars.now) (keeps trimmer)) }

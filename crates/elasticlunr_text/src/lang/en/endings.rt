@@ -115,7 +115,7 @@ pub fn push_e(word: &mut String)
     word.push('e').unwrap();
 }
 
-/// Puts the ending in the place of the suffix, which isn't shorter.
+/// Replaces the suffix, which isn't shorter, by the ending.
 pub fn replace_suffix(word: &mut String, suffix: &str, ending: &str)
     requires ascii_suffix { IsTrue (all_ascii suffix.now) }
     requires ascii_ending { IsTrue (all_ascii ending.now) }

@@ -1,7 +1,7 @@
 use Rattle.std.proofs.Common.{◌≢◌, ◌<◌, ◌≤◌, ℕ, length, slice_index}
 use Rattle.elasticlunr_trie_nodes.proofs.lists.place_in.Given as goal
 
--- what is behind the place was looked at
+-- what is after the place was looked at
 abbrev pub invariant-loop-i : goal.invariant-loop-i
 invariant-loop-i l = (l.i ≤ length l.list) × ((q : ℕ) → l.i ≤ q → q < length l.list → slice_index l.list q ≢ l.k)
 

@@ -9,7 +9,7 @@ use Rattle.elasticlunr_trie.proofs.Marks.{is_marked_or, number_next, number_stay
 use Rattle.elasticlunr_trie.proofs.inverted_index.compact.new_numbers.Goals.{then-marked, else-marked}
 use Rattle.elasticlunr_trie.proofs.inverted_index.compact.new_numbers.Goals as goal
 
--- the numbers with the next behind them
+-- the numbers with the next after them
 more_numbers : (marks : List Bool) (numbers : List ℕ) (i count : ℕ) → length numbers ≡ i → count ≡ new_number marks i → ((k : ℕ) → k < i → slice_get numbers k ≡ Some (new_number marks k))
     → (k : ℕ) → k < i + 1 → slice_get (numbers ++ count ∷ []) k ≡ Some (new_number marks k)
 more_numbers marks numbers i count long is each k lt = elim (cases_eq k i) [

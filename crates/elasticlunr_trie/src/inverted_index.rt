@@ -20,6 +20,7 @@ mod references;
 mod remove;
 mod same;
 mod starts;
+mod tokens;
 mod value;
 mod write;
 

@@ -1,0 +1,12 @@
+-- Which of a table's texts are tokens, and which of these begin with a text.
+use Rattle.std.specs.Prelude.{IsSome}
+use Rattle.elasticlunr_error.specs.Text.{Text, Bytes}
+use Rattle.elasticlunr_trie_nodes.specs.Table.{Table, posting, IsPrefix}
+
+-- t is a token: a reference has a posting there
+abbrev pub IsToken : Table → Text → Type 0
+IsToken T t = (r : Bytes) × IsSome (posting T t r)
+
+-- t is a token that begins with s
+abbrev pub IsTokenFrom : Table → Text → Text → Type 0
+IsTokenFrom T s t = IsPrefix s t × IsToken T t

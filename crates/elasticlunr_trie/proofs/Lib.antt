@@ -12,6 +12,7 @@ pub mod Printing
 pub mod Visits
 pub mod Tokens
 pub mod Visiting
+pub mod NameOrder
 pub mod Reading
 pub mod Refusing
 pub mod Waiting

@@ -15,6 +15,7 @@ ghost use Rattle.elasticlunr_trie.specs.Tree.{IsTrieValue};
 mod add;
 mod compact;
 mod ends;
+mod postings;
 mod read;
 mod references;
 mod remove;

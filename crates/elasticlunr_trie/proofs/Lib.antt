@@ -13,6 +13,7 @@ pub mod Visits
 pub mod Tokens
 pub mod Visiting
 pub mod NameOrder
+pub mod TokenBytes
 pub mod Reading
 pub mod Refusing
 pub mod Waiting

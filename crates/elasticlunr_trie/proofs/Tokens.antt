@@ -98,9 +98,9 @@ module _ (root : Children) (nodes : List Node) (trie : IsTrie root nodes) (names
     tokens_none none u = (
       (λ h. absurd (false≢true h)),
       (λ token.
-      let at = token_posted u token.1 in
-      let to = walk_front (step_of root nodes) t token.0.0 Root (At at.0) (ap (walk (step_of root nodes) Root) token.0.1 ∙ at.1) in
-      absurd (let both : None ≡ Some to.0 = sym none ∙ to.1 in cc)),
+          let at = token_posted u token.1 in
+          let to = walk_front (step_of root nodes) t token.0.0 Root (At at.0) (ap (walk (step_of root nodes) Root) token.0.1 ∙ at.1) in
+          absurd (let both : None ≡ Some to.0 = sym none ∙ to.1 in cc)),
     )
 
 pub none_rise : IsStrictlySortedBy text_cmp []

@@ -28,7 +28,7 @@ in_either x (y ∷ xs) ys (inr h) = elim (in_either x xs ys h) [ inl l ↦ inl (
 goes_on : (t w : Text) (c : ℕ) → IsPrefix (t ++ c ∷ []) w → IsPrefix t w
 goes_on t w c h = (c ∷ h.0, sym (append_assoc t (c ∷ []) h.0) ∙ h.1)
 
-front_less : (t xs ys : Text) → IsLess xs ys → IsLess (t ++ xs) (t ++ ys)
+pub front_less : (t xs ys : Text) → IsLess xs ys → IsLess (t ++ xs) (t ++ ys)
 front_less [] xs ys h = h
 front_less (c ∷ t) xs ys h = same_first c (t ++ xs) (t ++ ys) (front_less t xs ys h)
 
@@ -169,7 +169,7 @@ module _ (root : Children) (nodes : List Node) (trie : IsTrie root nodes) where
   whole (suc n) t k (c ∷ rest) j e short =
       let at = walk_cons (step_of root nodes) (At k) (At j) c rest e in
       inr (in_below (visits nodes n) t (children_of (slice_get nodes k)) c at.0 (t ++ c ∷ rest, j) at.1
-          (subst (λ u. In (u, j) (visits nodes n (t ++ c ∷ []) at.0)) (append_assoc t (c ∷ []) rest) (whole n (t ++ c ∷ []) at.0 rest j at.2 (omega arith))))
+      (subst (λ u. In (u, j) (visits nodes n (t ++ c ∷ []) at.0)) (append_assoc t (c ∷ []) rest) (whole n (t ++ c ∷ []) at.0 rest j at.2 (omega arith))))
 
 -- ---- the texts with postings among visits
 

@@ -1,4 +1,4 @@
--- Which of a table's texts are tokens, which of these begin with a text, and postings that are handed out.
+-- The tokens of a table, those that begin with a text, and postings that are handed out.
 use Rattle.std.specs.Prelude.{ℕ, List, map, IsSome}
 use Rattle.std.specs.Borrow.{Bor}
 use Rattle.elasticlunr_error.specs.Text.{Text, Bytes}

@@ -13,17 +13,19 @@ use elasticlunr_trie_nodes::posting::Posting;
 use std::alloc::{AllocError, Global};
 
 impl InvertedIndex {
-    /// The references that have a posting at a token, each once with its frequency in millionths,
-    /// in the order of their bytes. There are none where the token is unknown.
+    /// The references that have a posting at a token, each once and with its frequency, in the
+    /// order of their bytes. There are none where the token is unknown. An index sets frequencies
+    /// in millionths.
     ///
-    /// No name is copied. A step for each character of the token, and the postings are sorted by
+    /// No name is copied. A step for each character of the token, and a sort of its postings by
     /// their names; each takes 24 bytes.
     pub fn postings<'a>(
         &'a self,
         alloc: Global,
         token: &str,
     ) -> Result<Vec<(&'a str, u64)>, AllocError>
-        ensures { IfOk result (λ v. told_postings v.items ≡ entries (postings self.now (chars token.now))) }
+        ensures { IfOk result (λ v. told_postings v.items
+            ≡ entries (postings self.now (chars token.now))) }
     {
         match find_postings(&self.root, &self.nodes, token) {
             Some(postings) => in_name_order(alloc, &self.names, postings.pairs()),
@@ -32,7 +34,7 @@ impl InvertedIndex {
     }
 }
 
-// Postings under their names, in the order of these. No name comes twice, so no frequency is compared.
+// Postings under their names, in the order of these. No name comes twice, so frequencies decide nothing.
 fn in_name_order<'a>(
     alloc: Global,
     names: &'a Names,

@@ -1,10 +1,8 @@
 //! The tokens that begin with a text.
-ghost use Rattle.std.specs.Prelude.{◌≡◌, ◌↔◌, ◌+◌, ◌++◌, ◌∷◌, [], ℕ, Some, IsTrue, IfOk, OnOk, length, if◌then◌else◌};
+ghost use Rattle.std.specs.Prelude.{◌≡◌, ◌↔◌, ◌+◌, ◌++◌, ℕ, IsTrue, IfOk, OnOk, length};
 ghost use Rattle.std.specs.List.Sorted.{IsStrictlySortedBy};
 ghost use Rattle.std.specs.Str.{chars};
 ghost use Rattle.elasticlunr_error.specs.Text.{Text, bytes_of, is_listed, text_cmp, text_of, texts_of};
-ghost use Rattle.elasticlunr_trie_nodes.specs.Nodes.{children_of};
-ghost use Rattle.elasticlunr_trie_nodes.specs.Trie.{children_at, step_of, walk, IsTrie};
 ghost use Rattle.elasticlunr_trie.specs.Tokens.{IsTokenFrom};
 ghost use Rattle.elasticlunr_trie.specs.Visits.{below, is_posted, left, node_visits, posted, Advances, HasVisits};
 
@@ -14,13 +12,15 @@ use elasticlunr_trie_nodes::nodes::{Node, Place, children_of, find, postings_at}
 use std::alloc::{AllocError, Global};
 
 impl InvertedIndex {
-    /// The tokens that have a posting and begin with a text, each once. They come in the order of
-    /// their characters, which is that of their bytes. The empty text asks for all tokens.
+    /// The tokens that have a posting and begin with a text, each once, in the order of their
+    /// characters. All tokens begin with the empty text.
     ///
     /// A step for each character of the text and for each node below it, with no recursion, and a
-    /// copy of each token. Beside the tokens it takes 16 bytes a level of the trie.
+    /// copy of each token. Beside the tokens it takes a copy of the longest one, and 16 bytes for
+    /// each of its characters.
     pub fn tokens(&self, alloc: Global, prefix: &str) -> Result<Vec<String>, AllocError>
         ensures order { IfOk result (λ v. IsStrictlySortedBy text_cmp (texts_of v.items)) }
+        ensures bytes { IfOk result (λ v. IsStrictlySortedBy text_cmp (bytes_of v.items)) }
         ensures tokens { IfOk result (λ v. (t : Text) → IsTrue (is_listed t (texts_of v.items))
             ↔ IsTokenFrom self.now (chars prefix.now) t) }
     {
@@ -40,7 +40,8 @@ fn tokens_from(
     text: &str,
 ) -> Result<Vec<String>, AllocError>
     requires { HasVisits nodes.now }
-    ensures { IfOk result (λ v. texts_of v.items ≡ posted nodes.now (node_visits nodes.now (chars text.now) k)) }
+    ensures { IfOk result (λ v. texts_of v.items
+        ≡ posted nodes.now (node_visits nodes.now (chars text.now) k)) }
 {
     let mut found = Vec::new(alloc);
     if has_posting(nodes, k) {

@@ -6,6 +6,7 @@ use Rattle.elasticlunr_trie_nodes.specs.Trie.{step_of, table_of, walk}
 use Rattle.elasticlunr_trie_nodes.specs.declared.nodes.Place.TheVariants.{Root, At}
 use Rattle.elasticlunr_trie.specs.Tokens.{IsTokenFrom}
 use Rattle.elasticlunr_trie.specs.Visits.{HasVisits}
+use Rattle.elasticlunr_trie.proofs.TokenBytes.{bytes_rise}
 use Rattle.elasticlunr_trie.proofs.Tokens.{none_rise, tokens_at, tokens_none, tokens_root}
 use Rattle.elasticlunr_trie.proofs.Visiting.{if_ok}
 use Rattle.elasticlunr_trie.proofs.Visits.{at_rise, has_visits, root_rise}
@@ -22,6 +23,12 @@ returns-in-Some-Root-clause-order c =
     let t = chars c.args.prefix.now in
     let found = rw (c.deref-in-Some-Root.ensures.value, c.deref-in-Some-Root-2.ensures.value) at c.tokens_below.ensures in
     if_ok c.tokens_below.result found (λ v is. subst (IsStrictlySortedBy text_cmp) (sym is) (root_rise c.self.inside.root.items c.self.inside.nodes.items c.self.invariant.0.trie t))
+
+pub returns-in-Some-Root-clause-bytes : goal.returns-in-Some-Root-clause-bytes
+returns-in-Some-Root-clause-bytes c =
+    let t = chars c.args.prefix.now in
+    let found = rw (c.deref-in-Some-Root.ensures.value, c.deref-in-Some-Root-2.ensures.value) at c.tokens_below.ensures in
+    if_ok c.tokens_below.result found (λ v is. bytes_rise v.items (subst (IsStrictlySortedBy text_cmp) (sym is) (root_rise c.self.inside.root.items c.self.inside.nodes.items c.self.invariant.0.trie t)))
 
 pub returns-in-Some-Root-clause-tokens : goal.returns-in-Some-Root-clause-tokens
 returns-in-Some-Root-clause-tokens c =
@@ -40,6 +47,12 @@ returns-in-Some-At-clause-order c =
     let found = rw (c.deref-in-Some-At.ensures.value) at c.tokens_from.ensures in
     if_ok c.tokens_from.result found (λ v is. subst (IsStrictlySortedBy text_cmp) (sym is) (at_rise c.self.inside.root.items c.self.inside.nodes.items c.self.invariant.0.trie t c.in-Some-At.k))
 
+pub returns-in-Some-At-clause-bytes : goal.returns-in-Some-At-clause-bytes
+returns-in-Some-At-clause-bytes c =
+    let t = chars c.args.prefix.now in
+    let found = rw (c.deref-in-Some-At.ensures.value) at c.tokens_from.ensures in
+    if_ok c.tokens_from.result found (λ v is. bytes_rise v.items (subst (IsStrictlySortedBy text_cmp) (sym is) (at_rise c.self.inside.root.items c.self.inside.nodes.items c.self.invariant.0.trie t c.in-Some-At.k)))
+
 pub returns-in-Some-At-clause-tokens : goal.returns-in-Some-At-clause-tokens
 returns-in-Some-At-clause-tokens c =
     let t = chars c.args.prefix.now in
@@ -53,6 +66,9 @@ returns-in-Some-At-clause-tokens c =
 
 pub returns-in-None-clause-order : goal.returns-in-None-clause-order
 returns-in-None-clause-order c = subst (λ vs. IsStrictlySortedBy text_cmp (texts_of vs)) (sym c.new.ensures.items) none_rise
+
+pub returns-in-None-clause-bytes : goal.returns-in-None-clause-bytes
+returns-in-None-clause-bytes c = bytes_rise c.new.result.items (subst (λ vs. IsStrictlySortedBy text_cmp (texts_of vs)) (sym c.new.ensures.items) none_rise)
 
 pub returns-in-None-clause-tokens : goal.returns-in-None-clause-tokens
 returns-in-None-clause-tokens c u =

@@ -10,8 +10,8 @@ from tools.repository import read
 
 TABLE = "crates/elasticlunr_test_calls/rows.txt"
 # how many rows and calls the table has
-ROWS = 141
-CALLS = 1328
+ROWS = 143
+CALLS = 1365
 
 MEMORY = "refused: out of memory"  # IndexError::Memory
 ALLOC_ERROR = "no memory"  # AllocError
@@ -47,7 +47,7 @@ PREPARING = {"swap", "give", "script", "EnglishTrimmer", "EnglishStemmer", "Arab
 # What a call answers when memory is refused. None: the call does not allocate.
 TRIE = {"new": None, "from_value": MEMORY, "compacted": MEMORY, "eq": None, "add_token": MEMORY, "add_tokens": MEMORY,
         "remove_token": None, "remove_doc": None, "has_token": None, "get_docs": MEMORY, "get_doc_frequency": None, "get_term_frequency": None,
-        "has_posting": None, "references": MEMORY, "to_value": MEMORY}
+        "has_posting": None, "references": MEMORY, "tokens": ALLOC_ERROR, "postings": ALLOC_ERROR, "to_value": MEMORY}
 STORE = {"new": None, "from_value": MEMORY, "clone": MEMORY, "eq": None, "add_doc": MEMORY, "add_field_length": MEMORY,
          "remove_doc": None, "forget_doc": None, "is_empty": None, "is_stored": None, "has_doc": None, "get_doc": MEMORY,
          "to_value": MEMORY, "len": None, "length": None, "docs": None, "doc_info": None, "get_field_length": None}

@@ -41,6 +41,13 @@ impl Answer {
         }
     }
 
+    pub fn gave(answer: Result<Value, AllocError>) -> Answer {
+        match answer {
+            Ok(value) => Answer::Gave(value),
+            Err(AllocError) => Answer::NoMemory,
+        }
+    }
+
     pub fn json(answer: Result<String, IndexError>) -> Answer {
         match answer {
             Ok(text) => Answer::Text(text),

@@ -5,7 +5,7 @@ use crate::subject::Subject;
 use elasticlunr::IndexError;
 use elasticlunr::inverted_index::InvertedIndex;
 use serde_json::Value;
-use std::alloc::Global;
+use std::alloc::{AllocError, Global};
 use std::mem;
 
 /// The trie that is called, and another, which may be put in its place.
@@ -84,6 +84,18 @@ fn changed(trie: &mut InvertedIndex, call: &Call<'_>) -> Answer {
     }
 }
 
+/// Postings as an array of arrays, which shows their order.
+fn told_postings(trie: &InvertedIndex, call: &Call<'_>) -> Result<Value, AllocError> {
+    let mut told = Vec::new(call.alloc);
+    for (doc_ref, frequency) in trie.postings(call.alloc, call.text(0))? {
+        let mut posting = Vec::new(call.alloc);
+        posting.push(Value::String(String::from_str(call.alloc, doc_ref)?))?;
+        posting.push(Value::from(frequency))?;
+        told.push(Value::Array(posting))?;
+    }
+    Ok(Value::Array(told))
+}
+
 /// A call that changes nothing.
 pub fn looked_up(trie: &InvertedIndex, call: &Call<'_>) -> Answer {
     match call.name {
@@ -91,6 +103,8 @@ pub fn looked_up(trie: &InvertedIndex, call: &Call<'_>) -> Answer {
         "get_docs" => Answer::postings(trie.get_docs(call.text(0))),
         "has_posting" => Answer::Flag(trie.has_posting(call.text(0), call.text(1))),
         "references" => Answer::listed(trie.references(call.text(0))),
+        "tokens" => Answer::texts(trie.tokens(call.alloc, call.text(0))),
+        "postings" => Answer::gave(told_postings(trie, call)),
         "get_doc_frequency" => Answer::Number(trie.get_doc_frequency(call.text(0))),
         "get_term_frequency" => {
             Answer::Number(trie.get_term_frequency(call.text(0), call.text(1)))

@@ -9,6 +9,11 @@ pub mod OneValue
 pub mod Rising
 pub mod Printed
 pub mod Printing
+pub mod Visits
+pub mod Tokens
+pub mod Visiting
+pub mod NameOrder
+pub mod TokenBytes
 pub mod Reading
 pub mod Refusing
 pub mod Waiting

@@ -28,11 +28,11 @@ use Rattle.elasticlunr_trie_nodes.specs.declared.nodes.Place.TheVariants.{Root, 
 
 -- ---- children in the order of their characters
 
-abbrev IsAbove : ℕ → Children → Type 0
+abbrev pub IsAbove : ℕ → Children → Type 0
 IsAbove c [] = Unit {0}
 IsAbove c ((d, k) ∷ es) = (c < d) × IsAbove c es
 
-abbrev AreRising : Children → Type 0
+abbrev pub AreRising : Children → Type 0
 AreRising [] = Unit {0}
 AreRising ((c, k) ∷ es) = IsAbove c es × AreRising es
 
@@ -40,17 +40,17 @@ above_all : (c : ℕ) (es : Children) → ((j : ℕ) → j < length es → c < k
 above_all c [] h = tt
 above_all c ((d, k) ∷ es) h = (h 0 (omega arith), above_all c es (λ j lt. h (suc j) (omega arith)))
 
-are_rising : (es : Children) → IsStrictlySorted es → AreRising es
+pub are_rising : (es : Children) → IsStrictlySorted es → AreRising es
 are_rising [] h = tt
 are_rising ((c, k) ∷ es) h = (above_all c es (λ j lt. h 0 (suc j) (omega arith) (omega arith)), are_rising es (λ i j lt range. h (suc i) (suc j) (omega arith) (omega arith)))
 
-above_not : (c d k : ℕ) (es : Children) → IsAbove c es → In (d, k) es → c < d
+pub above_not : (c d k : ℕ) (es : Children) → IsAbove c es → In (d, k) es → c < d
 above_not c d k [] h there = elim there [ ]
 above_not c d k ((x, j) ∷ es) h (inl e) = omega (arith, h.0, ap (λ (p : ℕ × ℕ). p.0) e)
 above_not c d k ((x, j) ∷ es) h (inr there) = above_not c d k es h.1 there
 
 -- each pair is what `child` finds
-found : (es : Children) → AreRising es → (c k : ℕ) → In (c, k) es → child es c ≡ Some k
+pub found : (es : Children) → AreRising es → (c k : ℕ) → In (c, k) es → child es c ≡ Some k
 found [] h c k there = elim there [ ]
 found ((d, j) ∷ es) h c k (inl e) =
     ap (λ b. cond b (Some j) (child es c)) (eq-eqb d c (sym (ap (λ (p : ℕ × ℕ). p.0) e))) ∙ ap Some (sym (ap (λ (p : ℕ × ℕ). p.1) e))

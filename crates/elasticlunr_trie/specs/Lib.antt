@@ -11,3 +11,5 @@ pub mod Same
 pub mod Printed
 pub mod Compact
 pub mod References
+pub mod Tokens
+pub mod Visits

@@ -15,11 +15,13 @@ ghost use Rattle.elasticlunr_trie.specs.Tree.{IsTrieValue};
 mod add;
 mod compact;
 mod ends;
+mod postings;
 mod read;
 mod references;
 mod remove;
 mod same;
 mod starts;
+mod tokens;
 mod value;
 mod write;
 

@@ -1,12 +1,13 @@
 //! Laws of the tables that a trie represents.
-ghost use Rattle.std.specs.Prelude.{◌≡◌, ◌⊎◌, ◌↔◌, [], List, Result, IfOk, IfErr, IsTrue, unwrap_or, option_map};
+ghost use Rattle.std.specs.Prelude.{◌≡◌, ◌≢◌, ◌⊎◌, ◌↔◌, [], List, Result, IfOk, IfErr, IsTrue, unwrap_or, option_map};
 ghost use Rattle.std.specs.Bool.{Decides};
-ghost use Rattle.std.specs.FinMap.{get, len};
+ghost use Rattle.std.specs.FinMap.{entries, get, len};
 ghost use Rattle.serde_json.specs.Data.{Data};
 ghost use Rattle.elasticlunr_error.specs.Text.{Text};
 ghost use Rattle.elasticlunr_error.specs.declared.error.IndexError.{IndexError};
 ghost use Rattle.elasticlunr_json.specs.Refused.{IsRefused, IsAnswer};
 ghost use Rattle.elasticlunr_trie_nodes.specs.Table.{Table, new_table, knows, postings, same_tables, IsPrefix, IsTable, Change, AreChanged, IsAdded};
+ghost use Rattle.elasticlunr_trie.specs.Tokens.{IsTokenFrom};
 ghost use Rattle.elasticlunr_trie.specs.Tree.{IsTrieValue};
 
 /// A value is the trie value of one table at most.
@@ -40,6 +41,13 @@ pub fn known_after_changes()
 /// The document frequency of a token is the number of its postings, and 0 where it is unknown.
 pub fn frequency_counts_postings()
     ensures { (T : Table) (t : Text) → len (postings T t) ≡ unwrap_or (option_map len (get T t)) 0 }
+{}
+
+/// What `InvertedIndex::tokens` lists is what begins with the text and has a posting in
+/// `InvertedIndex::postings`.
+pub fn tokens_have_postings()
+    ensures { (T : Table) (s : Text) (t : Text)
+        → IsTokenFrom T s t ↔ (IsPrefix s t × (entries (postings T t) ≢ [])) }
 {}
 
 /// Two tries are `==` exactly if their tables are equal.

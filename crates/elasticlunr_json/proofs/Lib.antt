@@ -1,7 +1,11 @@
-pub mod Texts
+pub mod Deeper
+pub mod Keyed
+pub mod Readers
+pub mod ReadingMaps
+pub mod Refusals
 pub mod Rows
 pub mod Seen
 pub mod Sorted
-pub mod Keyed
-pub mod ReadingMaps
-pub mod Refusals
+pub mod Spaced
+pub mod Texts
+pub mod Told

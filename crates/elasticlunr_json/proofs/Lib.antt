@@ -1,6 +1,4 @@
-pub mod Deeper
 pub mod Keyed
-pub mod Readers
 pub mod ReadingMaps
 pub mod Refusals
 pub mod Rows

@@ -5,8 +5,8 @@ use Rattle.json.specs.Lex.{tokens}
 use Rattle.json.specs.Json as json
 use Rattle.serde_json.specs.Data.{Data}
 use Rattle.serde_json.specs.Read.{of_json}
-use Rattle.elasticlunr_json.specs.Texts.{read_within}
-use Rattle.elasticlunr_json.proofs.Deeper.{value_deeper}
+use Rattle.elasticlunr_print.specs.Printed.{read_within}
+use Rattle.elasticlunr_print.proofs.Deeper.{value_deeper}
 
 abbrev of_last : Option (json.Json × List Token) → Option Data
 of_last o = option_and_then of_json (option_and_then (λ p. json.if_last p.0 p.1) o)

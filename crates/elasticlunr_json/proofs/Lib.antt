@@ -1,7 +1,9 @@
-pub mod Texts
-pub mod Rows
-pub mod Seen
-pub mod Sorted
 pub mod Keyed
 pub mod ReadingMaps
 pub mod Refusals
+pub mod Rows
+pub mod Seen
+pub mod Sorted
+pub mod Spaced
+pub mod Texts
+pub mod Told

@@ -2,6 +2,7 @@
 //! and what prints them, and the words and lemmas for maps and their objects.
 #![tactic(auto)]
 
+pub mod laws;
 mod members;
 mod tokens;
 

@@ -1,9 +1,8 @@
 -- The value and the text of what commands leave.
-use Rattle.std.proofs.Common.{◌≡◌, ℕ, List, Some, sym, subst, ◌∙◌}
+use Rattle.std.proofs.Common.{◌≡◌, ℕ, List, arith, sym, subst}
 use Rattle.elasticlunr_trie.specs.Table.{Table}
 use Rattle.elasticlunr_store.specs.Contents.{Contents}
-use Rattle.serde_json.specs.Data.{Data}
-use Rattle.serde_json.specs.Read.{read}
+use Rattle.serde_json.specs.Data.{Data, depth}
 use Rattle.elasticlunr_commands.specs.History.{Commands, Agree}
 use Rattle.elasticlunr_commands.specs.Standing.{Plan, Holds}
 use Rattle.elasticlunr_commands.proofs.Agreeing.{holds_agreed}
@@ -24,7 +23,7 @@ module _ (plan : Plan) (tables : List Table) (contents : Contents) where
 
     -- the value of an index is that of no other
     pub text_of_no_other : (IsIndexValue plan tables contents is.value → IsValueOfNoOther plan tables contents is.value) → IsTextOfNoOther plan tables contents text
-    text_of_no_other only v reads = subst (IsValueOfNoOther plan tables contents) (sym (is.read_as.no_other v reads)) (only is.of_index)
+    text_of_no_other only limit v reads = subst (IsValueOfNoOther plan tables contents) (sym (is.read_as.no_other_within limit v reads)) (only is.of_index)
 
     pub print_of : (commands : Commands) → Holds plan commands tables contents → IsPrintOf plan commands text
     print_of commands holds = record {
@@ -38,10 +37,10 @@ module _ (plan : Plan) (tables : List Table) (contents : Contents) where
       read_as = is.read_as;
     }
 
-    -- one text that is read is printed of equal parts
+    -- one text is printed of equal parts
     pub parts_of_text : ((value : Data) → IsIndexValue plan tables contents value → IsValueOfNoOther plan tables contents value)
-        → (other_text : Data → List ℕ) (other : Plan) (others : List Table) (kept : Contents) (value : Data) → read text ≡ Some value → IsTextOf other_text other others kept text
+        → (other_text : Data → List ℕ) (other : Plan) (others : List Table) (kept : Contents) → IsTextOf other_text other others kept text
         → PrintAlike plan other × (tables ≡ others) × (contents ≡ kept)
-    parts_of_text only other_text other others kept value reads also =
-        let same : also.value ≡ is.value = sym (also.read_as.no_other value reads) ∙ is.read_as.no_other value reads in
+    parts_of_text only other_text other others kept also =
+        let same : also.value ≡ is.value = is.read_as.no_other_within (depth also.value) also.value (also.read_as.reads_within (depth also.value) (omega arith)) in
         only is.value is.of_index other others kept also.of_index.one_each also.of_index.are_tables (subst (IsValueOf other others kept) same also.of_index.printed)

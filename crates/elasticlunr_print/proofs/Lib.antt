@@ -7,6 +7,7 @@ pub mod Members
 pub mod Plain
 pub mod PlainValues
 pub mod ReadBack
+pub mod Readers
 pub mod Shapes
 pub mod Sorting
 pub mod Telling

@@ -19,7 +19,7 @@ use Rattle.serde_json.specs.Data.{Data, null, boolean, number, string, array, ob
 use Rattle.serde_json.specs.Read.{number_of, of_json, of_items, of_members, max_depth, read}
 use Rattle.serde_json.specs.Written.{outline, items_outline, members_outline}
 use Rattle.serde_json.proofs.Numbers.{number_of-decimal}
-use Rattle.elasticlunr_print.specs.Printed.{IsValueOf, IsReadAs}
+use Rattle.elasticlunr_print.specs.Printed.{IsValueOf, IsReadAs, read_within}
 use Rattle.elasticlunr_commands.specs.Standing.{Plan}
 use Rattle.elasticlunr_print.proofs.Decimals.{same_number}
 use Rattle.elasticlunr_print.proofs.Deeper.{value_deeper}
@@ -111,36 +111,35 @@ module _ (j : json.Json) (ts : List Token) (are : ts ≡ json_tokens j) where
   deep_enough n h = ap (json.value n) (are ∙ sym (append-nil (json_tokens j))) ∙ value-json_tokens j n [] h
 
   -- of no other JSON value are these the tokens
-  only_value : (k : json.Json) → json.value max_depth ts ≡ Some (k, []) → k ≡ j
-  only_value k is =
-      let n : ℕ = max_depth + tree.depth j in
-      ap (λ (o : Option (json.Json × List Token)). (unwrap_or o (j, [])).0) (sym (value_deeper max_depth n (omega arith) ts (k, []) is) ∙ deep_enough n (omega arith))
+  only_value : (limit : ℕ) (k : json.Json) → json.value limit ts ≡ Some (k, []) → k ≡ j
+  only_value limit k is =
+      let n : ℕ = limit + tree.depth j in
+      ap (λ (o : Option (json.Json × List Token)). (unwrap_or o (j, [])).0) (sym (value_deeper limit n (omega arith) ts (k, []) is) ∙ deep_enough n (omega arith))
 
-  only_json : (o : Option (json.Json × List Token)) (w : Data) → json.value max_depth ts ≡ o → option_and_then of_json (option_and_then (λ p. json.if_last p.0 p.1) o) ≡ Some w → of_json j ≡ Some w
-  only_json None w is e = absurd (cc)
-  only_json (Some (k, t ∷ more)) w is e = absurd (cc)
-  only_json (Some (k, [])) w is e = ap of_json (sym (only_value k is)) ∙ e
+  only_json : (limit : ℕ) (o : Option (json.Json × List Token)) (w : Data) → json.value limit ts ≡ o → option_and_then of_json (option_and_then (λ p. json.if_last p.0 p.1) o) ≡ Some w → of_json j ≡ Some w
+  only_json limit None w is e = absurd (cc)
+  only_json limit (Some (k, t ∷ more)) w is e = absurd (cc)
+  only_json limit (Some (k, [])) w is e = ap of_json (sym (only_value limit k is)) ∙ e
 
   -- what is passed over is nested no deeper than a reader goes
   passed : (o : Option (json.Json × List Token)) → json.value max_depth ts ≡ o → option_map (λ p. p.1) o ≡ Some [] → tree.depth j ≤ max_depth
   passed None is e = absurd (cc)
   passed (Some (k, t ∷ more)) is e = absurd (cc)
-  passed (Some (k, [])) is e = subst (λ x. tree.depth x ≤ max_depth) (only_value k is) (value-depth max_depth ts [] k is)
+  passed (Some (k, [])) is e = subst (λ x. tree.depth x ≤ max_depth) (only_value max_depth k is) (value-depth max_depth ts [] k is)
 
 -- the text of an index's value is read as this value, and as no other
 pub printed_reads : (plan : Plan) (tables : List Table) (contents : Contents) (v : Data) (text : List ℕ) (ts : List Token)
     → IsValueOf plan tables contents v → tokens text ≡ ts → ts ≡ json_tokens (outline v) → All IsSmallToken ts → IsReadAs text v
 printed_reads plan tables contents v text ts printed found are small =
     let back = data_back v (value_plain plan tables contents v printed) (recursion_from_All IsSmallToken _ (subst (All IsSmallToken) are small)) in
-    record {
-      reads = λ shallow.
-          ap (λ o. option_and_then of_json (option_and_then (λ p. json.if_last p.0 p.1) o)) (deep_enough (outline v) (tokens text) (found ∙ are) max_depth (omega (arith, same_depth v, shallow)))
-          ∙ back;
-      no_other = λ w e.
-          let both : Some v ≡ Some w = sym back ∙ only_json (outline v) (tokens text) (found ∙ are) _ w refl e in
-          let same : w ≡ v = cc in
-          same;
-    }
+    let reads : (limit : ℕ) → depth v ≤ limit → read_within limit text ≡ Some v = λ limit deep.
+    ap (λ o. option_and_then of_json (option_and_then (λ p. json.if_last p.0 p.1) o)) (deep_enough (outline v) (tokens text) (found ∙ are) limit (omega (arith, same_depth v, deep)))
+    ∙ back in
+    let no_other : (limit : ℕ) (w : Data) → read_within limit text ≡ Some w → w ≡ v = λ limit w e.
+    let both : Some v ≡ Some w = sym back ∙ only_json (outline v) (tokens text) (found ∙ are) limit _ w refl e in
+    let same : w ≡ v = cc in
+    same in
+    record { reads = reads max_depth; no_other = no_other max_depth; reads_within = reads; no_other_within = no_other }
 
 -- a text whose tokens are those of an index's value, and that is passed over as one value, is read as this value
 pub passed_reads : (plan : Plan) (tables : List Table) (contents : Contents) (v : Data) (text : List ℕ)

@@ -8,9 +8,8 @@ use Rattle.elasticlunr_trie.specs.Tree.{IsTrieValue}
 use Rattle.elasticlunr_store.specs.Contents.{Contents, IsStoreValue}
 use Rattle.serde_json.specs.Data.{Data, array, string}
 use Rattle.serde_json.specs.Find.{get}
-use Rattle.serde_json.specs.Read.{read}
 use Rattle.elasticlunr_commands.specs.History.{Commands}
-use Rattle.elasticlunr_print.specs.Printed.{texts, IsIndexValue, IsPrintOf}
+use Rattle.elasticlunr_print.specs.Printed.{texts, IsIndexValue, IsPrintOf, read_within}
 use Rattle.elasticlunr_print.specs.Shape.{HasFields, HasTrie, HasTries, HasStore, HasLanguage, HasParts, ArePartsOf}
 use Rattle.elasticlunr_commands.specs.Standing.{Plan, Holds}
 use Rattle.elasticlunr_commands.proofs.OneZip.{one_zip}
@@ -65,11 +64,11 @@ index_parts plan tables contents v of_index = record {
 pub parts_held : (plan : Plan) (commands : Commands) (text : List ℕ) (p : IsPrintOf plan commands text) → HasParts p.value plan.fields p.tables p.contents
 parts_held plan commands text p = index_parts plan p.tables p.contents p.value (record { differ = p.differ; one_each = p.holds.one_each; are_tables = p.are_tables; printed = p.printed })
 
--- what was read of a print is what it was printed of
-pub parts_read : HasOneTable → HasOneContents → (plan : Plan) (commands : Commands) (text : List ℕ) (v : Data) (names : List Bytes) (tables : List Table) (contents : Contents)
-    → IsPrintOf plan commands text → read text ≡ Some v → HasParts v names tables contents → ArePartsOf plan commands names tables contents
-parts_read one_table one_contents plan commands text v names tables contents p reads has =
-    let its : HasParts v plan.fields p.tables p.contents = subst (λ w. HasParts w plan.fields p.tables p.contents) (sym (p.read_as.no_other v reads)) (parts_held plan commands text p) in
+-- what a reader read of a print is what it was printed of
+pub parts_read : HasOneTable → HasOneContents → (limit : ℕ) (plan : Plan) (commands : Commands) (text : List ℕ) (v : Data) (names : List Bytes) (tables : List Table) (contents : Contents)
+    → IsPrintOf plan commands text → read_within limit text ≡ Some v → HasParts v names tables contents → ArePartsOf plan commands names tables contents
+parts_read one_table one_contents limit plan commands text v names tables contents p reads has =
+    let its : HasParts v plan.fields p.tables p.contents = subst (λ w. HasParts w plan.fields p.tables p.contents) (sym (p.read_as.no_other_within limit v reads)) (parts_held plan commands text p) in
     let fields : names ≡ plan.fields = one_fields v names plan.fields has.fields its.fields in
     let same : tables ≡ p.tables = one_tries one_table v plan.fields tables p.tables (subst (λ ns. HasTries v ns tables) fields has.tries) its.tries in
     let kept : contents ≡ p.contents = one_store one_contents v contents p.contents has.store its.store in

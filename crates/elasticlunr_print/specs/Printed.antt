@@ -1,12 +1,14 @@
 -- The JSON value of an index.
-use Rattle.std.specs.Prelude.{◌≡◌, ◌≤◌, ℕ, List, [], ◌∷◌, Some, codes, length, All, IsTrue}
+use Rattle.std.specs.Prelude.{◌≡◌, ◌≤◌, ℕ, List, [], ◌∷◌, Option, Some, option_and_then, codes, length, All, IsTrue}
 use Rattle.std.specs.List.{zip}
 use Rattle.elasticlunr_error.specs.Text.{Bytes}
 use Rattle.elasticlunr_trie.specs.Table.{Table, IsTable}
 use Rattle.elasticlunr_trie.specs.Tree.{IsTrieValue}
 use Rattle.elasticlunr_store.specs.Contents.{Contents, IsStoreValue}
 use Rattle.serde_json.specs.Data.{Data, string, array, object, Items, no_items, item, Members, no_members, put, depth}
-use Rattle.serde_json.specs.Read.{read, max_depth}
+use Rattle.serde_json.specs.Read.{of_json, read, max_depth}
+use Rattle.json.specs.Json as json
+use Rattle.json.specs.Lex.{tokens}
 use Rattle.json.specs.Layout.{pretty}
 use Rattle.json.specs.Tree.{json_tokens}
 use Rattle.serde_json.specs.Written.{outline}
@@ -75,10 +77,16 @@ pub record PrintAlike (plan other : Plan) : Type 0 where
 abbrev pub pretty_text : Data → List ℕ
 pretty_text value = pretty (json_tokens (outline value))
 
--- `serde_json` reads the text as this value, unless that is nested too deep for it, and as no other
+-- the value that a text is to a reader of JSON that goes this many steps deep; `read` is that of `serde_json`, which goes 127
+abbrev pub read_within : (limit : ℕ) → (text : List ℕ) → Option Data
+read_within limit text = option_and_then of_json (option_and_then (λ p. json.if_last p.0 p.1) (json.value limit (tokens text)))
+
+-- a reader that goes as deep as the value nests reads the text as this value, and no reader as another; so does `serde_json`
 pub record IsReadAs (text : List ℕ) (value : Data) : Type 0 where
   pub reads : depth value ≤ max_depth → read text ≡ Some value
   pub no_other : (other : Data) → read text ≡ Some other → other ≡ value
+  pub reads_within : (limit : ℕ) → depth value ≤ limit → read_within limit text ≡ Some value
+  pub no_other_within : (limit : ℕ) (other : Data) → read_within limit text ≡ Some other → other ≡ value
 
 -- the value of an index of this plan: its names differ, and these are the tables of its fields and the contents of its store
 pub record IsIndexValue (plan : Plan) (tables : List Table) (contents : Contents) (value : Data) : Type 0 where
@@ -100,9 +108,9 @@ pub record IsTextOf (text_of : Data → List ℕ) (plan : Plan) (tables : List T
   pub written : text ≡ text_of value
   pub read_as : IsReadAs text value
 
--- what is read of the text is the value of no other tables and contents
+-- what a reader reads of the text, however deep it goes, is the value of no other tables and contents
 abbrev pub IsTextOfNoOther : Plan → List Table → Contents → List ℕ → Type 0
-IsTextOfNoOther plan tables contents text = (value : Data) → read text ≡ Some value → IsValueOfNoOther plan tables contents value
+IsTextOfNoOther plan tables contents text = (limit : ℕ) (value : Data) → read_within limit text ≡ Some value → IsValueOfNoOther plan tables contents value
 
 -- the text is that of the value after these commands, as `text_of` writes it
 abbrev pub IsTextAfter : (text_of : Data → List ℕ) → Plan → Commands → List ℕ → Type 0

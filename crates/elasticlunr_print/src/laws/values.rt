@@ -1,5 +1,5 @@
 //! Laws of the values of indexes.
-ghost use Rattle.std.specs.Prelude.{◌≡◌, ℕ, List, false, length, IsTrue, IsSomeAnd, Some, codes};
+ghost use Rattle.std.specs.Prelude.{◌≡◌, ◌≤◌, ℕ, List, false, length, IsTrue, IsSomeAnd, Some, codes};
 ghost use Rattle.std.specs.List.{AllZip};
 ghost use Rattle.elasticlunr_error.specs.Text.{Bytes};
 ghost use Rattle.elasticlunr_trie.specs.Table.{Table};
@@ -8,7 +8,7 @@ ghost use Rattle.elasticlunr_trie.specs.Tree.{IsTrieValue};
 ghost use Rattle.elasticlunr_commands.specs.Fields.{all_differ};
 ghost use Rattle.elasticlunr_commands.specs.History.{Commands, Agree};
 ghost use Rattle.elasticlunr_commands.specs.Standing.{Plan};
-ghost use Rattle.elasticlunr_print.specs.Printed.{IsIndexValue, IsPrintOf, IsTextOf, IsValue, IsValueOf, IsValueOfNoOther, PrintAlike, texts};
+ghost use Rattle.elasticlunr_print.specs.Printed.{IsIndexValue, IsPrintOf, IsTextOf, IsValue, IsValueOf, IsValueOfNoOther, PrintAlike, read_within, texts};
 ghost use Rattle.elasticlunr_print.specs.Shape.{ArePartsOf, HasFields, HasLanguage, HasParts, HasStore, HasTries};
 ghost use Rattle.serde_json.specs.Data.{Data, array, string};
 ghost use Rattle.serde_json.specs.Find.{get};
@@ -57,12 +57,12 @@ pub fn equal_parts_have_equal_values()
     one_value_a_table();
 }
 
-/// Where two indexes print one text that a reader of JSON takes, their tables and contents are
-/// equal, and their plans print alike.
+/// Where two indexes print one text, their tables and contents are equal, and their plans print
+/// alike. The text may nest as deep as it likes.
 pub fn equal_texts_have_equal_parts()
     ensures { (one_text : Data → List ℕ) (other_text : Data → List ℕ) (plan : Plan) (other : Plan)
-        (tables : List Table) (others : List Table) (contents : Contents) (kept : Contents) (text : List ℕ) (v : Data)
-        → read text ≡ Some v → IsTextOf one_text plan tables contents text → IsTextOf other_text other others kept text
+        (tables : List Table) (others : List Table) (contents : Contents) (kept : Contents) (text : List ℕ)
+        → IsTextOf one_text plan tables contents text → IsTextOf other_text other others kept text
         → PrintAlike plan other × (tables ≡ others) × (contents ≡ kept) }
 {
     values_tell_what_they_print();
@@ -98,7 +98,16 @@ pub fn a_value_has_its_parts_once()
     one_contents_a_value();
 }
 
-/// A printed text is read as a value with the parts that it was printed of, and with no others.
+/// A reader that goes deeper reads the same in a text, so what readers read in it is one value.
+pub fn readers_agree()
+    ensures deeper { (text : List ℕ) (limit : ℕ) (more : ℕ) (v : Data)
+        → limit ≤ more → read_within limit text ≡ Some v → read_within more text ≡ Some v }
+    ensures one { (text : List ℕ) (limit : ℕ) (other : ℕ) (v : Data) (w : Data)
+        → read_within limit text ≡ Some v → read_within other text ≡ Some w → v ≡ w }
+{}
+
+/// A printed text is read as a value with the parts that it was printed of, and with no others, by a
+/// reader of any depth, too.
 pub fn printed_texts_have_their_parts()
     ensures parts { (plan : Plan) (commands : Commands) (text : List ℕ) (print : IsPrintOf plan commands text)
         → HasParts print.value plan.fields print.tables print.contents }
@@ -107,6 +116,10 @@ pub fn printed_texts_have_their_parts()
     ensures only { (plan : Plan) (commands : Commands) (text : List ℕ)
         (v : Data) (names : List Bytes) (tables : List Table) (contents : Contents)
         → IsPrintOf plan commands text → read text ≡ Some v → HasParts v names tables contents
+        → ArePartsOf plan commands names tables contents }
+    ensures only_within { (plan : Plan) (commands : Commands) (text : List ℕ) (limit : ℕ)
+        (v : Data) (names : List Bytes) (tables : List Table) (contents : Contents)
+        → IsPrintOf plan commands text → read_within limit text ≡ Some v → HasParts v names tables contents
         → ArePartsOf plan commands names tables contents }
 {
     one_table_a_value();

@@ -377,18 +377,21 @@
       return question(this.pieces);
     }
 
-    // Reads the head again, unless another call did, and takes it if it names another folder.
+    // Reads the head again, unless another call did or does so.
     async renew(pieces) {
       if (this.pieces !== pieces) return;
       if (!this.renewal) {
-        const newer = openPieces(this.get).then((newer) => {
-          if (newer.head.folder !== pieces.head.folder) this.pieces = newer;
-        });
-        this.renewal = newer.finally(() => {
+        this.renewal = this.readAgain().finally(() => {
           this.renewal = null;
         });
       }
       await this.renewal;
+    }
+
+    // Takes the head that is there now, if it names another folder.
+    async readAgain() {
+      const newer = await openPieces(this.get);
+      if (newer.head.folder !== this.pieces.head.folder) this.pieces = newer;
     }
   }
 

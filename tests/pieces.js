@@ -75,10 +75,14 @@ function tokensOf(index, query) {
   return new Set([].concat(...texts.map((text) => index.pipeline.run(elasticlunr.tokenizer(text)))));
 }
 
+// The tokens of each piece of the tries.
+function piecesOf(files) {
+  return Object.keys(files).filter((name) => /\/t\d+\.json$/.test(name)).map((name) => Object.keys(JSON.parse(files[name])));
+}
+
 // How many pieces of the tries a query may fetch: for each word those that have words that begin so, and one more.
-function mostFetched(index, files, query, options) {
+function mostFetched({ index, pieces }, query, options) {
   const expands = JSON.stringify(options || {}).includes('"expand":true'), minimum = (options && options.minimum) || MINIMUM;
-  const pieces = Object.keys(files).filter((name) => /\/t\d+\.json$/.test(name)).map((name) => Object.keys(JSON.parse(files[name])));
   let most = 0;
   for (const token of tokensOf(index, query)) {
     const isExpanded = expands && Array.from(token).length >= minimum;
@@ -103,7 +107,7 @@ async function compareOne(given, query, options) {
   told.fetched = names.length;
   if (new Set(names).size < names.length) told.wrong = "fetches a file twice";
   if (names.some((name) => !/\/t\d+\.json$/.test(name))) told.wrong = "fetches more than tries";
-  if (names.length > mostFetched(given.index, given.files, query, options)) told.wrong = `fetches ${names.length} pieces`;
+  if (names.length > mostFetched(given, query, options)) told.wrong = `fetches ${names.length} pieces`;
   return told;
 }
 
@@ -338,6 +342,7 @@ const CASES = {
   },
 
   async "members that would change every object"({ site }) {
+    const before = JSON.stringify(Object.getOwnPropertyNames(Object.prototype));
     const { files } = withoutPipeline(site), head = JSON.parse(files[HEAD]), posting = JSON.stringify(head.fields.map(() => [0, 1]));
     const hostile = { ...files, [HEAD]: JSON.stringify({ ...head, tries: ["__proto__"], polluted: 1 }).replace('"polluted"', '"__proto__"') };
     hostile[piece(head, "t0")] = `{"__proto__":${posting},"constructor":${posting},"prototype":${posting}}`;
@@ -347,7 +352,13 @@ const CASES = {
       for (const expand of [true, false]) assert.deepStrictEqual((await opened.search(token, { expand })).map((hit) => hit.ref), [head.references[0]]);
     }
     await opened.doc(head.references[0]);
+    for (const field of ["__proto__", "constructor"]) {
+      const named = { ...head, fields: [field], lengths: [head.lengths[0]], tries: ["a"] };
+      const server = new Server({ ...files, [HEAD]: JSON.stringify(named), [piece(head, "t0")]: '{"a":[[0,1]]}' });
+      await (await open(server.get)).search("a", {}).catch(() => {}); // elasticlunr.js breaks on these names
+    }
     assert.strictEqual({}.polluted, undefined);
+    assert.strictEqual(JSON.stringify(Object.getOwnPropertyNames(Object.prototype)), before);
   },
 
   async "an index without texts"({ bare }) {
@@ -413,11 +424,23 @@ async function tryCases(given, numbers) {
   return told;
 }
 
+// A site, or what gives its error to each call.
+async function siteOf(files) {
+  try {
+    return await open(new Server(files).get);
+  } catch (error) {
+    const fail = async () => {
+      throw error;
+    };
+    return { search: fail, doc: fail };
+  }
+}
+
 async function main() {
   const { indexes, queries, cases } = JSON.parse(fs.readFileSync(0, "utf8")), given = [];
   for (const { whole, files, names } of indexes) {
     const index = elasticlunr.Index.load(JSON.parse(whole));
-    given.push({ whole, files, names: new Map(names), index, site: await open(new Server(files).get) });
+    given.push({ whole, files, names: new Map(names), index, pieces: piecesOf(files), site: await siteOf(files) });
   }
   const told = await compare(given, queries), texts = [];
   for (const one of given) texts.push(await compareTexts(one).then(() => null, (error) => String(error.message).slice(0, 300)));

@@ -40,7 +40,7 @@ SHOWN = 10  # failures that are printed
 SECONDS = 600
 CASES = 18  # of pieces.js
 # For each kind of index: how many queries each gets, and how many of them must find something
-LEAST = {"examples": (60, 0.35), "pages": (600, 0.35), "random": (24, 0.35), "characters": (24, 0.35)}
+LEAST = {"examples": (60, 0.35), "pages": (300, 0.35), "random": (24, 0.35), "characters": (24, 0.35)}
 FEW_PIECES = 5  # most indexes have more
 
 # References that are in the order of numbers, of UTF-16 or of nothing in JavaScript, and those that every object has
@@ -50,6 +50,7 @@ OF_EVERY_OBJECT = """constructor __proto__ __defineGetter__ __defineSetter__ __l
 # Characters around the places where UTF-16 has another order than UTF-8, and those that come first in a trie of JavaScript
 CHARACTERS = ["\ue000", "\uffee", "\U00010000", "\U0001f600", "\U0001f601", "\U0010ffff", "a", "0", "1", "9", ".", "/", ":", "z"]
 UNKNOWN = ["zebra", "\u0001", "zzzzzz", "\U0001f602", "__proto__", "nowhere", "9999", "\uffff"]
+HALF = "\ud83d"  # one half of some of these characters
 ANOTHER_NAME = "renamed "
 
 
@@ -142,6 +143,7 @@ def a_text(rng, words, tokens):
         word,
         token,
         beginning(rng, token),
+        beginning(rng, token) + HALF,
         token[0],
         f"{word} {word} {beginning(rng, token)}",
         " ".join(rng.choices(words, k=rng.randint(2, 4))),
@@ -255,6 +257,8 @@ def note_kind(kind, tried, answers, results):
 
 def compare(options, library, results):
     tried = collect(options, results)
+    if not tried.cases:
+        return results.note(False, "pieces: no index is printed")
     told, wrong = told_by_node(options, library, tried)
     if told is None:
         return results.note(False, wrong)

@@ -183,10 +183,9 @@
       return lists ? lists[this.field] : NOTHING;
     }
 
-    // The tokens that begin so, in the order of a trie.
+    // The tokens that begin so, in the order of a trie. One without postings in this field changes nothing.
     expandToken(start) {
-      const tokens = this.wanted.starts.has(start) ? [...this.postings.keys()].filter((token) => begins(token, start)) : [start];
-      return tokens.filter((token) => this.of(token).count > 0);
+      return this.wanted.starts.has(start) ? [...this.postings.keys()].filter((token) => begins(token, start)) : [start];
     }
 
     getDocs(token) {
@@ -333,7 +332,7 @@
     }
 
     async doc(reference) {
-      const { texts } = this.head, number = this.numbers.get(reference);
+      const { texts } = this.head, number = this.numbers.get(String(reference));
       if (number === undefined || texts.length === 0) return null;
       const piece = countUpTo(texts, number, byValue) - 1;
       return (await this.documentsOf(piece))[number - texts[piece]];

@@ -193,7 +193,7 @@ function wrongHeads(text) {
   others.lengths = [lengths.slice(1), lengths.map((list) => list.slice(1)), lengths.map((list) => list.map(() => -1)), lengths.map((list) => list.map(() => 0.5))];
   others.folder = ["pieces-x", "../" + head.folder, "https://example.org/" + head.folder, head.folder + "/..", head.folder + "\n", head.folder.toUpperCase()];
   others.tries = [turned(tries), ["", ...tries]];
-  others.texts = [turned(texts), texts.slice(1), [...texts, references.length]];
+  others.texts = [turned(texts), texts.slice(1), [...texts, references.length], [0, ...turned(texts.slice(1))], [0, ...texts]];
   others.pipeline = [["constructor"], ["__proto__"], ["toString"], ["no such stage"]];
   for (const key of Object.keys(others)) for (const value of others[key]) wrong.push({ ...head, [key]: value });
   return wrong.map((value) => JSON.stringify(value));

@@ -1,7 +1,13 @@
 """The head and the pieces of a whole index, computed from its JSON text.
 
-A folder holds the head, search.json, and next to it a folder of pieces. All are compact JSON texts, with the keys of an object
+A folder holds the head, search.json, and next to it one folder of pieces. All are compact JSON texts, with the keys of objects
 in the order of their bytes. Python compares texts by their characters, which gives the order of their bytes in UTF-8.
+
+The head has the settings of the index; `references`, in order; `lengths`, for each field a list with the length of each
+reference's field or null; the name of the `folder`; `tries`, the first token of each piece of the tries; and `texts`, the
+number of the first reference of each piece of the texts. A piece of the tries is an object of tokens, each with a list for
+each field: the number of a reference and its frequency in turn. A piece of the texts is a list of stored documents. The folder
+is called after the SHA-256 of the texts of all its pieces, one after another: those of the tries, and then those of the texts.
 """
 import hashlib
 import json
@@ -54,7 +60,8 @@ def joined(entries, brackets):
 
 
 def cut(entries, size, brackets):
-    """The entries of each piece: a piece closes before an entry with which its text would have more bytes than the size."""
+    """The entries of each piece. It closes before an entry with which its text, brackets and commas included, would have more
+    bytes than the size."""
     pieces = []
     for entry in entries:
         if pieces and len(joined(pieces[-1] + [entry], brackets).encode()) <= size:

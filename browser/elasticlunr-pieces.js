@@ -117,7 +117,8 @@
     if (!isListOf(tries, (token) => isText(token) && token !== "") || !isSorted(tries, byBytes)) return "its tries aren't in order";
     const isFirst = (value) => isNumberBelow(value, references.length);
     if (!isListOf(texts, isFirst) || !isSorted(texts, byValue)) return "its texts aren't in order";
-    if (head.save && references.length > 0 ? texts[0] !== 0 : texts.length > 0) return "its texts aren't those of its references";
+    const hasTexts = head.save && references.length > 0;
+    if (hasTexts ? texts[0] !== 0 : texts.length > 0) return "its texts aren't those of its references";
     return null;
   }
 
@@ -125,20 +126,22 @@
   function checkStages(head) {
     const known = elasticlunr.Pipeline.registeredFunctions;
     const unknown = head.pipeline.find((stage) => !Object.prototype.hasOwnProperty.call(known, stage));
-    if (unknown !== undefined) throw fault(HEAD, "no script has its stage " + JSON.stringify(unknown) + "; load that of its language first");
+    if (unknown === undefined) return;
+    throw fault(HEAD, "no script has its stage " + JSON.stringify(unknown) + "; load the script of its language first");
   }
 
   async function fetchHead(get) {
-    const head = await fetchValue(get, HEAD, "no-cache"), wrong = wrongInHead(head);
+    const head = await fetchValue(get, HEAD, "no-cache"), wrong = wrongInHead(head), { version } = elasticlunr;
     if (wrong) throw fault(HEAD, wrong);
     checkStages(head);
-    if (head.version !== elasticlunr.version) elasticlunr.utils.warn(HEAD + " is of version " + head.version + ", elasticlunr.js of " + elasticlunr.version);
+    if (head.version !== version) elasticlunr.utils.warn(HEAD + ": version " + head.version + ", elasticlunr.js is " + version);
     return head;
   }
 
-  // What stands in the place of tries while elasticlunr.js searches. It calls these four methods of a trie, and no others.
+  // What takes the place of a trie while elasticlunr.js searches. Of a trie it calls `expandToken`, `getDocs`, `getDocFreq` and,
+  // for what it found, `getTermFrequency`.
 
-  // Finds nothing, and remembers which words a query looks up. This way elasticlunr.js itself says what it needs.
+  // Finds nothing, and remembers which words a query looks up. So elasticlunr.js itself says what it needs.
   class Wanted {
     constructor(minimum) {
       this.minimum = minimum;
@@ -158,10 +161,6 @@
     }
 
     getDocFreq() {
-      return 0;
-    }
-
-    getTermFrequency() {
       return 0;
     }
 
@@ -240,11 +239,11 @@
 
     // The value of a file of the folder, read by `read`. It is fetched once, and again where that failed.
     file(file, read) {
-      const name = this.head.folder + "/" + file;
+      const name = this.head.folder + "/" + file, cache = this.failed.has(name) ? "reload" : "default";
       if (!this.files.has(name)) {
-        const value = fetchValue(this.get, name, this.failed.has(name) ? "reload" : "default").then((value) => read(value, name));
-        this.files.set(name, value);
-        value.catch(() => {
+        const coming = fetchValue(this.get, name, cache).then((value) => read(value, name));
+        this.files.set(name, coming);
+        coming.catch(() => {
           this.files.delete(name);
           this.failed.add(name);
         });
@@ -257,28 +256,27 @@
       const { tries } = this.head;
       return this.file("t" + number + ".json", (value, name) => {
         if (!isObject(value)) throw fault(name, "isn't an object");
-        const tokens = Object.keys(value).sort(byBytes);
+        const tokens = Object.keys(value).sort(byBytes), last = tokens[tokens.length - 1], next = tries[number + 1];
         if (tokens[0] !== tries[number]) throw fault(name, "doesn't begin with the token that " + HEAD + " says");
-        const isLast = number + 1 === tries.length;
-        if (!isLast && byBytes(tokens[tokens.length - 1], tries[number + 1]) >= 0) throw fault(name, "has tokens of the next piece");
+        if (next !== undefined && byBytes(last, next) >= 0) throw fault(name, "has tokens of the next piece");
         return new Map(tokens.map((token) => [token, this.postings(value[token], name)]));
       });
     }
 
     postings(lists, name) {
-      const { fields } = this.head;
-      if (!isListOf(lists, Array.isArray) || lists.length !== fields.length) throw fault(name, "a token has no list for each field");
+      const isOne = isListOf(lists, Array.isArray) && lists.length === this.head.fields.length;
+      if (!isOne) throw fault(name, "a token hasn't a list for each field");
       return lists.map((list) => this.postingsOfField(list, name));
     }
 
     postingsOfField(list, name) {
       const docs = {};
       let next = 0;
-      if (list.length % 2 === 1) throw fault(name, "a reference has no frequency");
       for (let at = 0; at < list.length; at += 2) {
         const number = list[at], frequency = list[at + 1];
-        if (!isNumberBelow(number, this.names.length) || number < next) throw fault(name, "the references of a token aren't in order");
-        if (!Number.isFinite(frequency) || frequency <= 0) throw fault(name, "a frequency isn't above 0");
+        const isInOrder = isNumberBelow(number, this.names.length) && number >= next;
+        if (!isInOrder) throw fault(name, "the references of a token aren't in order");
+        if (!Number.isFinite(frequency) || frequency <= 0) throw fault(name, "a reference has no frequency above 0");
         docs[this.names[number]] = frequency;
         next = number + 1;
       }
@@ -287,7 +285,8 @@
 
     // The documents of a piece of the texts.
     documentsOf(number) {
-      const { texts, references } = this.head, end = number + 1 < texts.length ? texts[number + 1] : references.length;
+      const { texts, references } = this.head, isLast = number + 1 === texts.length;
+      const end = isLast ? references.length : texts[number + 1];
       return this.file("d" + number + ".json", (value, name) => {
         if (!isListOf(value, isObject)) throw fault(name, "isn't a list of documents");
         if (value.length !== end - texts[number]) throw fault(name, "hasn't as many documents as " + HEAD + " says");
@@ -298,8 +297,9 @@
     // The numbers of the pieces in which a word may stand or, with `all`, those that begin so.
     numbersOf(word, all) {
       const { tries } = this.head, numbers = [];
+      const isOne = (first) => byBytes(first, word) <= 0 || (all && begins(first, word));
       let number = Math.max(0, countUpTo(tries, word, byBytes) - 1);
-      while (number < tries.length && (byBytes(tries[number], word) <= 0 || (all && begins(tries[number], word)))) numbers.push(number++);
+      while (number < tries.length && isOne(tries[number])) numbers.push(number++);
       return numbers;
     }
 
@@ -315,8 +315,8 @@
 
     // An index of elasticlunr.js with these tries, one for the number of each field.
     indexWith(trieOf) {
-      const { fields, ref, pipeline } = this.head;
-      const index = elasticlunr.Index.load({ version: elasticlunr.version, fields, ref, pipeline, documentStore: this.store, index: {} });
+      const { fields, ref, pipeline } = this.head, { version } = elasticlunr;
+      const index = elasticlunr.Index.load({ version, fields, ref, pipeline, documentStore: this.store, index: {} });
       fields.forEach((field, at) => {
         index.index[field] = trieOf(at);
       });

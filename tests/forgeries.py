@@ -206,7 +206,7 @@ READERS = {
     "a reader that orders by UTF-16": (".codePointAt(at)", ".charCodeAt(at)", r"pieces, \w+: .* aren't in order"),
     "a reader that counts a document more": ("count: list.length / 2", "count: list.length / 2 + 1", r"pieces, \w+: \{.* hits and not "),
     "a reader that finds nothing": ("return hits.map(", "return [].map(", r"pieces, \w+: \{.*: 0 hits and not "),
-    "a reader that fetches each piece": ("byBytes(tries[number], word) <= 0", "true", r"pieces, \w+: \{.*: fetches \d+ pieces"),
+    "a reader that fetches each piece": ("byBytes(first, word) <= 0", "true", r"pieces, \w+: \{.*: fetches \d+ pieces"),
     "a reader that fetches a piece again": ("!this.files.has(name)", "true", "pieces, calls that overlap: "),
     "a reader that keeps what failed": ("this.files.delete(name);", "", "pieces, a fetch that fails once: "),
     "a reader that takes any piece": ("tokens[0] !== tries[number]", "false", "pieces, a piece of another form: "),

@@ -190,10 +190,12 @@ function wrongHeads(text) {
   }
   const { fields, lengths, references, tries, texts } = head, turned = (list) => [...list].reverse();
   const others = { fields: [fields.map(() => fields[0])], references: [turned(references), references.map(() => "x")], save: [false] };
-  others.lengths = [lengths.slice(1), lengths.map((list) => list.slice(1)), lengths.map((list) => list.map(() => -1)), lengths.map((list) => list.map(() => 0.5))];
-  others.folder = ["pieces-x", "../" + head.folder, "https://example.org/" + head.folder, head.folder + "/..", head.folder + "\n", head.folder.toUpperCase()];
+  others.lengths = [lengths.slice(1), lengths.map((list) => list.slice(1))];
+  for (const length of [-1, 0.5, "1"]) others.lengths.push(lengths.map((list) => list.map(() => length)));
+  others.folder = ["pieces-x", "../" + head.folder, "https://example.org/" + head.folder, head.folder + "/.."];
+  others.folder.push(head.folder + "\n", head.folder.toUpperCase());
   others.tries = [turned(tries), ["", ...tries]];
-  others.texts = [turned(texts), texts.slice(1), [...texts, references.length], [0, ...turned(texts.slice(1))], [0, ...texts]];
+  others.texts = [turned(texts), texts.slice(1), [0, ...turned(texts.slice(1))], [0, ...texts], [...texts, references.length]];
   others.pipeline = [["constructor"], ["__proto__"], ["toString"], ["no such stage"]];
   for (const key of Object.keys(others)) for (const value of others[key]) wrong.push({ ...head, [key]: value });
   return wrong.map((value) => JSON.stringify(value));
@@ -259,7 +261,8 @@ const CASES = {
 
   async "a head that is replaced"({ site, other }) {
     const newer = withoutPipeline(other), server = new Server(withoutPipeline(site).files), opened = await open(server.get);
-    const store = JSON.parse(other.whole).documentStore, options = { expand: true }, want = searchWhole(newer.index, "wo", options, newer.names);
+    const store = JSON.parse(other.whole).documentStore, options = { expand: true };
+    const want = searchWhole(newer.index, "wo", options, newer.names);
     assert(want.length > 0);
     server.files = newer.files;
     const found = await Promise.all([1, 2, 3, 4].map(() => opened.search("wo", options)));
@@ -321,7 +324,8 @@ const CASES = {
 
   async "the files that a call fetches"({ site }) {
     const { files } = withoutPipeline(site), { tries, references } = JSON.parse(files[HEAD]);
-    for (const [query, options, most] of [["\u0001", {}, 0], ["\u0001", { expand: true, minimum: 1 }, 0], ["", {}, 0], [null, {}, 0], [tries[2], null, 1], [tries[2][0], { expand: true }, 1]]) {
+    const calls = [["\u0001", {}, 0], ["\u0001", { expand: true, minimum: 1 }, 0], ["", {}, 0], [null, {}, 0], [tries[2], null, 1]];
+    for (const [query, options, most] of [...calls, [tries[2][0], { expand: true }, 1]]) {
       const server = new Server(files), opened = await open(server.get);
       await opened.search(query, options);
       assert(server.fetched.length <= 1 + most, `${query}: ${server.fetched}`);
@@ -346,10 +350,13 @@ const CASES = {
     const { files } = withoutPipeline(site), head = JSON.parse(files[HEAD]), posting = JSON.stringify(head.fields.map(() => [0, 1]));
     const hostile = { ...files, [HEAD]: JSON.stringify({ ...head, tries: ["__proto__"], polluted: 1 }).replace('"polluted"', '"__proto__"') };
     hostile[piece(head, "t0")] = `{"__proto__":${posting},"constructor":${posting},"prototype":${posting}}`;
-    hostile[piece(head, "d0")] = JSON.stringify(JSON.parse(files[piece(head, "d0")]).map(() => ({ polluted: { polluted: 1 } }))).replace(/"polluted":\{/g, '"__proto__":{');
+    hostile[piece(head, "d0")] = `[${JSON.parse(files[piece(head, "d0")]).map(() => '{"__proto__":{"polluted":1}}').join()}]`;
     const opened = await open(new Server(hostile).get);
     for (const token of ["__proto__", "constructor", "prototype"]) {
-      for (const expand of [true, false]) assert.deepStrictEqual((await opened.search(token, { expand })).map((hit) => hit.ref), [head.references[0]]);
+      for (const expand of [true, false]) {
+        const hits = await opened.search(token, { expand });
+        assert.deepStrictEqual(hits.map((hit) => hit.ref), [head.references[0]]);
+      }
     }
     await opened.doc(head.references[0]);
     for (const field of ["__proto__", "constructor"]) {
@@ -393,7 +400,8 @@ const CASES = {
     try {
       const { folder, references } = JSON.parse(site.files[HEAD]);
       for (const address of ["https://example.org/a/search", "search/", "../search"]) await open(address);
-      assert.deepStrictEqual(asked.splice(0), ["https://example.org/a/search/search.json", "search/search.json", "../search/search.json"].map((one) => [one, "no-cache"]));
+      const heads = ["https://example.org/a/search/search.json", "search/search.json", "../search/search.json"];
+      assert.deepStrictEqual(asked.splice(0), heads.map((one) => [one, "no-cache"]));
       const opened = await open(""), name = folder + "/d0.json";
       answers.push(undefined);
       await assert.rejects(() => opened.doc(references[0]), (error) => error.file === name && error.message.includes("404"));

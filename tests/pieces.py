@@ -350,7 +350,8 @@ def main():
     options = parser.parse_args()
     results = Results("pieces", most=SHOWN)
     library = os.path.join(options.folder, "elasticlunr.min.js")
-    lacking = [name for name, is_there in [("node", shutil.which("node")), ("elasticlunr.min.js", os.path.exists(library) or search_page.fetch())] if not is_there]
+    there = {"node": shutil.which("node"), "elasticlunr.min.js": os.path.exists(library) or search_page.fetch()}
+    lacking = [name for name, is_there in there.items() if not is_there]
     if lacking:
         print(f"pieces: skipped, without {' and '.join(lacking)}")
         results.skipped += 1

@@ -228,11 +228,11 @@ function manyCalls({ index, files, names }) {
   });
 }
 
-// What a page has that loads the scripts one after another.
-function pageWith(elasticlunr) {
-  const page = { elasticlunr };
+// What a page has that loads these scripts one after another.
+function pageWith(...scripts) {
+  const page = vm.createContext({ console });
   page.self = page;
-  vm.runInNewContext(fs.readFileSync(reader, "utf8"), page);
+  for (const script of scripts) vm.runInContext(fs.readFileSync(script, "utf8"), page);
   return page;
 }
 
@@ -412,10 +412,16 @@ const CASES = {
     }
   },
 
-  async "a page that loads the scripts"({ site }) {
-    const opened = await pageWith(elasticlunr).elasticlunrPieces.open(new Server(site.files).get);
-    assert(Array.isArray(await opened.search("word", {})));
-    assert.throws(() => pageWith(undefined), /elasticlunr\.min\.js/);
+  async "a page that loads the scripts"({ site, german }) {
+    const folderOf = (given) => new Server(given.files).get;
+    for (const [given, scripts, word] of [[site, [library], "word0"], [site, [library, languages], "word0"], [german, [library, languages], "Wort"]]) {
+      const hits = await (await pageWith(...scripts, reader).elasticlunrPieces.open(folderOf(given))).search(word);
+      assert.deepStrictEqual(bits([...hits]), searchWhole(given.index, word, {}, given.names));
+      assert(hits.length > 0);
+    }
+    const lacks = (error) => error.file === HEAD && error.message.includes('"trimmer-de"');
+    await assert.rejects(() => pageWith(library, reader).elasticlunrPieces.open(folderOf(german)), lacks);
+    assert.throws(() => pageWith(reader), /elasticlunr\.min\.js/);
   },
 };
 

@@ -110,6 +110,8 @@ def cases():
     yield "site", Given("cases", job, 160)
     yield "other", Given("cases", {**job, "docs": other}, 160)
     yield "hostile", Given("cases", {**job, "docs": hostile}, 160)
+    german = [["1", "Wort", "Ein Wort"], ["2", "Satz", "Zwei Sätze und ein Wort"]]
+    yield "german", Given("cases", {**job, "docs": german, "lang": "German"}, 160)
     yield "bare", Given("cases", {**job, "save": False}, 160)
     yield "empty", Given("cases", {**job, "docs": []}, 160)
 

@@ -250,18 +250,23 @@ def check_files(results):
         ended = ran(folder, ["build", "-o", "link.json"], job)
         results.check("through a link", ended.status == 0 and os.path.islink(os.path.join(folder, "link.json")), ended)
         check_mode(folder, job, results)
-        ended = ran(folder, ["build", "-o", "."], job)
-        results.check("a folder instead of a file", ended.status == 1 and ended.err != b"", ended)
-        ended = ran(folder, ["build", "-o", "none/index.json"], job)
-        results.check("no such folder", ended.status == 1 and ended.err != b"", ended)
-        ended = ran(folder, ["build", "none.json"])
-        results.check("no such file", ended.status == 1 and b"none.json" in ended.err, ended)
-        ended = ran(folder, ["build", "."])
-        results.check("a folder to be read", ended.status == 1 and ended.err != b"", ended)
+        check_no_files(folder, job, results)
         check_rights(folder, job, results)
-        ended = ran(folder, ["build", "-o", "/dev/full"], job)
-        results.check("a full device", ended.status == 1 and b"/dev/full" in ended.err, ended)
         check_streams(folder, job, results)
+
+
+def check_no_files(folder, job, results):
+    """Paths that can't be written or read."""
+    ended = ran(folder, ["build", "-o", "."], job)
+    results.check("a folder instead of a file", ended.status == 1 and ended.err != b"", ended)
+    ended = ran(folder, ["build", "-o", "none/index.json"], job)
+    results.check("no such folder", ended.status == 1 and ended.err != b"", ended)
+    ended = ran(folder, ["build", "none.json"])
+    results.check("no such file", ended.status == 1 and b"none.json" in ended.err, ended)
+    ended = ran(folder, ["build", "."])
+    results.check("a folder to be read", ended.status == 1 and ended.err != b"", ended)
+    ended = ran(folder, ["build", "-o", "/dev/full"], job)
+    results.check("a full device", ended.status == 1 and b"/dev/full" in ended.err, ended)
 
 
 def check_rights(folder, job, results):

@@ -85,7 +85,8 @@ def figures(ended):
     return f"{ended.seconds:.2f} s, {ended.megabytes} MB at most"
 
 
-def check_input(name, status, job, is_right, folder, results):
+def check_input(case, folder, results):
+    name, status, (job, is_right) = case
     out, ended = run(job, folder)
     said = f"long input, {name}: {len(job) / 1e6:.1f} MB in, {len(out) / 1e6:.1f} MB out, {figures(ended)}"
     good = ended.status == status and is_right(out)
@@ -129,9 +130,9 @@ def main():
         ("1,000,000 brackets", 2, deep_text(500_000)),
     ]
     with tempfile.TemporaryDirectory() as folder:
-        for name, status, (job, is_right) in cases:
-            if is_asked(name):
-                check_input(name, status, job, is_right, folder, results)
+        for case in cases:
+            if is_asked(case[0]):
+                check_input(case, folder, results)
         if is_asked("a search"):
             check_search(folder, results)
     return results.report()

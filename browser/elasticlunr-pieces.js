@@ -163,10 +163,6 @@
     getDocFreq() {
       return 0;
     }
-
-    has(token) {
-      return this.words.has(token) || [...this.starts].some((start) => begins(token, start));
-    }
   }
 
   // The tokens of one field that were fetched for a query.
@@ -303,14 +299,14 @@
       return numbers;
     }
 
-    // The postings of all words that are wanted, in the order of a trie.
+    // The postings of the pieces in which the wanted words may stand, in the order of a trie.
     async fetchPostings(wanted) {
       const numbers = new Set();
       for (const word of wanted.words) this.numbersOf(word, false).forEach((number) => numbers.add(number));
       for (const start of wanted.starts) this.numbersOf(start, true).forEach((number) => numbers.add(number));
       const pieces = await Promise.all([...numbers].map((number) => this.tokensOf(number)));
-      const found = [].concat(...pieces.map((piece) => [...piece].filter(([token]) => wanted.has(token))));
-      return new Map(found.sort(([one], [other]) => asInTries(one, other)));
+      const postings = [].concat(...pieces.map((piece) => [...piece]));
+      return new Map(postings.sort(([one], [other]) => asInTries(one, other)));
     }
 
     // An index of elasticlunr.js with these tries, one for the number of each field.

@@ -5,9 +5,9 @@
      const hits = await site.search("install", { expand: true });  // [{ ref, score }, ..], best first
      const text = await site.doc(hits[0].ref);                     // the stored document; null where there is none
 
-   In node: require("./elasticlunr-pieces.js")(elasticlunr).open("https://..").
+   In node: require("./elasticlunr-pieces.js")(elasticlunr).open(async (name) => ..).
 
-   `open` takes the address of the folder of search.json, or a function that gives the text of one of its files by name.
+   `open` takes the address of the folder of search.json, or a function that gives the text of a file of that folder by name.
    Scores and order are those of `index.search` of elasticlunr.js on the whole index, with the same options. One is added:
    `minimum` (2) is how many characters a word has to have so that `expand` finds longer ones by it.
 

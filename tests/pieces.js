@@ -306,6 +306,18 @@ const CASES = {
     for (const isRight of calls) await isRight(opened);
   },
 
+  async "a head that is replaced after a call failed"({ site, other }) {
+    const old = withoutPipeline(site), newer = withoutPipeline(other), options = { expand: true };
+    const want = searchWhole(newer.index, "wo", options, newer.names);
+    for (const files of [{}, { [HEAD]: old.files[HEAD] }]) {
+      const server = new Server(old.files), opened = await open(server.get);
+      server.files = files;
+      await assert.rejects(() => opened.search("wo", options), (error) => /\/t\d+\.json$/.test(error.file));
+      server.files = newer.files;
+      assert.deepStrictEqual(bits(await opened.search("wo", options)), want);
+    }
+  },
+
   async "calls that overlap"({ site }) {
     const given = withoutPipeline(site), calls = [...manyCalls(given), ...manyCalls(given)], server = new Server(given.files);
     const opened = await open(server.get), { references } = server.head();

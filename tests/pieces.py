@@ -117,9 +117,11 @@ def cases():
 
 
 def renamed(text):
-    """The text of an index in which references that every object has got other names, in the same order, and these names."""
+    """The text of an index in which references that every object has have other names, in the same order, and these names."""
     index = json.loads(text)
     names = {name: ANOTHER_NAME + name for name in OF_EVERY_OBJECT if name in index["documentStore"]["docs"]}
+    if not names:
+        return text, []
 
     def rename(holder):
         return {names.get(key, key): value for key, value in holder.items()}
@@ -296,7 +298,7 @@ def told_by_node(options, library, tried):
     """What the driver answers. It may not make a function of a text, as under a strict Content-Security-Policy."""
     command = ["node", "--disallow-code-generation-from-strings", DRIVER, library, LANGUAGES_SCRIPT, options.reader]
     sent = json.dumps({"indexes": tried.indexes, "queries": tried.queries, "cases": tried.cases})
-    ended = run([*command], sent.encode(), seconds=SECONDS)
+    ended = run(command, sent.encode(), seconds=SECONDS)
     if ended.status != 0:
         return None, f"pieces: node: status {ended.status}: {ended.err.decode(errors='replace')[-500:]}"
     return json.loads(ended.out), None

@@ -12,8 +12,8 @@ def is_asked(name):
 class Results:
     """Counts the cases of a check, and prints a line for each failure, or for the first of them."""
 
-    def __init__(self, check, most=sys.maxsize):
-        self.check = check  # the name that its last line has
+    def __init__(self, name, most=sys.maxsize):
+        self.name = name  # of the check, in its last line
         self.most = most  # failures that are printed
         self.passed = self.failed = self.skipped = 0
 
@@ -27,7 +27,7 @@ class Results:
     def report(self):
         """Prints the last line of the check, and gives the status of its script. A check that tried nothing fails."""
         if self.passed + self.failed + self.skipped == 0:
-            self.note(False, f"{self.check}: nothing was tried")
+            self.note(False, f"{self.name}: nothing was tried")
         skipped = f", {self.skipped} skipped" if self.skipped else ""
-        print(f"{self.check}: {self.passed} passed, {self.failed} failed{skipped}", flush=True)
+        print(f"{self.name}: {self.passed} passed, {self.failed} failed{skipped}", flush=True)
         return 1 if self.failed else 0

@@ -2,9 +2,10 @@
 import json
 import re
 
+from tests import pieces_model
 from tests.browser_page import ADDRESSES, BODY, SITES, Page, site
 from tests.browser_tools import POLICY, must
-from tools.repository import read
+from tools.repository import printed, read
 
 
 def part(path, before, after):
@@ -112,6 +113,40 @@ def strict(world):
     must(not found, found)
 
 
+PIECES = """<!doctype html>
+<html lang="en">
+<title>An index in pieces</title>
+<script src="../elasticlunr.min.js"></script>
+<script src="../elasticlunr-languages.js"></script>
+<script src="../elasticlunr-pieces.js"></script>
+</html>
+"""
+SEARCH_PIECES = """
+(async () => {
+  const site = await elasticlunrPieces.open("search"), [hit] = await site.search("bread", { expand: true });
+  const refused = await elasticlunrPieces.open("nowhere/").catch((error) => error.message);
+  return [hit.ref, await site.doc(hit.ref), refused, window.violations || []];
+})().then(arguments[0], (error) => arguments[0](error.message));
+"""
+
+
+def strict_pieces(world):
+    """A page of a site's own that searches an index in pieces."""
+    docs = [list(doc) for doc in SITES["English"]]
+    index = printed({"fields": ["title", "body"], "docs": docs})
+    for name, text in pieces_model.files(index, 300).items():
+        world.write(f"policy-pieces/search/{name}", text)
+    world.write("policy-pieces/page.html", PIECES)
+    world.write(f"policy-pieces/{POLICY}", STRICT)
+    watch = world.browser().execute_cdp_cmd("Page.addScriptToEvaluateOnNewDocument", {"source": WATCH})
+    try:
+        told = world.open("policy-pieces/page.html").execute_async_script(SEARCH_PIECES)
+    finally:
+        world.driver.execute_cdp_cmd("Page.removeScriptToEvaluateOnNewDocument", watch)
+    bread = json.loads(index)["documentStore"]["docs"]["bread.html"]
+    must(told == ["bread.html", bread, "search.json: can't be fetched: the server answered 404", []], told)
+
+
 def forgery(name, more, directive):
     def case(world):
         found = violations(world, strict_site(world, name, more))
@@ -125,4 +160,5 @@ def cases():
         ("page: refusals in German words", german_refusals),
         ("page: plurals of other languages", plurals),
         ("policy: the page under a strict one", strict),
+        ("policy: an index in pieces under a strict one", strict_pieces),
     ] + [forgery(name, *forged) for name, forged in FORGERIES.items()]

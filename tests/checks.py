@@ -26,7 +26,7 @@ from tools.repository import TOP
 
 # The check that takes longest comes first. Words after a name are its arguments.
 GROUPS = [
-    ["compare_search", "browser", "forgeries compare_search browser"],
+    ["compare_search", "pieces", "browser", "forgeries compare_search pieces browser"],
     ["compare_random"],
     ["refuse_memory"],
     ["refuse_calls"],
@@ -39,8 +39,9 @@ GROUPS = [
 # How much each check must try, with what it skips. A check that can try nothing here, and says so, is no failure.
 LEAST = {
     "compare_search": 900,
+    "pieces": 7_000,
     "browser": 170,
-    "forgeries compare_search browser": 11,
+    "forgeries compare_search pieces browser": 23,
     "compare_random": 13_000,
     "refuse_memory": 2_000,
     "refuse_calls": 140,

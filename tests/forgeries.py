@@ -27,6 +27,7 @@ from tools.repository import TOP, lines_of, program, read, write
 
 NEEDS = {
     "compare_search": {"node", "elasticlunr.min.js"},
+    "pieces": {"node", "elasticlunr.min.js"},
     "browser": {"chromium", "chromedriver", "selenium", "elasticlunr.min.js"},
 }
 ROW_1 = tables.row_of({"fields": ["body"], "docs": [["1", "go"]]}).out.decode()
@@ -199,6 +200,31 @@ def forged_pages(folder):
         yield Forgery(name, "browser", f"^{case}: AssertionError: ", arguments=(case,), top=top)
 
 
+# Readers of pieces: a text of the reader, what it is replaced by, and what the check must say
+READERS = {
+    "a reader that adds scores in the order of bytes": ("code >= 48 && code <= 57 ? code - 58 : code", "code", r"pieces, \w+: \{.*, \["),
+    "a reader that orders by UTF-16": (".codePointAt(at)", ".charCodeAt(at)", r"pieces, characters: .*Error: "),
+    "a reader that counts a document more": ("count: list.length / 2", "count: list.length / 2 + 1", r"pieces, \w+: \{.* hits and not "),
+    "a reader that finds nothing": ("return hits.map(", "return [].map(", r"pieces, \w+: \{.*: 0 hits and not "),
+    "a reader that fetches each piece": ("byBytes(first, word) <= 0", "true", r"pieces, \w+: \{.*: fetches \d+ pieces"),
+    "a reader that fetches a piece again": ("!this.files.has(name)", "true", "pieces, calls that overlap: "),
+    "a reader that keeps what failed": ("this.files.delete(name);", "", "pieces, a fetch that fails once: "),
+    "a reader that takes any piece": ("tokens[0] !== tries[number]", "false", "pieces, a piece of another form: "),
+    "a reader that stays with an old head": ("this.pieces = newer;", "this.pieces;", "pieces, a head that is replaced: "),
+    "a reader that takes names of every object": ("name in Object.prototype ||", "", r"pieces, \w+: \{.*: "),
+}
+
+
+def forged_readers(folder):
+    reader = read("browser/elasticlunr-pieces.js")
+    for name, (old, new, says) in READERS.items():
+        assert old in reader, f"the reader of pieces has no {old}"
+        path = write(os.path.join(folder, name.replace(" ", "-") + ".js"), reader.replace(old, new))
+        yield Forgery(name, "pieces", f"^{says}", arguments=("--indexes", "20", "--reader", path))
+    yield Forgery("no reader", "pieces", "^pieces: there is no /none.js", arguments=("--reader", "/none.js"))
+    yield Forgery("a program that crashes", "pieces", "^pieces: elasticlunr_index prints no index: ", "crashes", ("--indexes", "20"))
+
+
 def forged_tables(folder):
     rows = lines_of(tables.JOBS)[-ROWS:]
     forged = [
@@ -276,6 +302,7 @@ def forgeries(folder):
     yield from forged_tables(folder)
     yield from forged_docs(folder)
     yield from forged_searches()
+    yield from forged_readers(folder)
     yield from forged_pages(folder)
 
 

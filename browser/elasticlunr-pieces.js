@@ -1,0 +1,399 @@
+/* Searches an index that is cut into pieces, and fetches only the pieces that a query needs. Load it after elasticlunr.min.js
+   (0.9.5) and the script of the index's language, by its own script element:
+
+     const site = await elasticlunrPieces.open("search/");
+     const hits = await site.search("install", { expand: true });  // [{ ref, score }, ..], best first
+     const text = await site.doc(hits[0].ref);                     // the stored document; null where there is none
+
+   In node: require("./elasticlunr-pieces.js")(elasticlunr).open(async (name) => ..).
+
+   `open` takes the address of the folder of search.json, or a function that gives the text of a file of that folder by name.
+   Scores and order are those of `index.search` of elasticlunr.js on the whole index, with the same options. One is added:
+   `minimum` (2) is how many characters a word has to have so that `expand` finds longer ones by it.
+
+   What can't be fetched, or isn't what search.json says, is an Error whose `file` is the file's name. The next call tries
+   again. References such as `__proto__`, which break elasticlunr.js, are found like any other. */
+(function (make) {
+  "use strict";
+  if (typeof module === "object" && module.exports) module.exports = make;
+  else if (typeof elasticlunr === "undefined") throw new Error("elasticlunr.min.js has to be loaded first");
+  else self.elasticlunrPieces = make(elasticlunr);
+})(function (elasticlunr) {
+  "use strict";
+
+  const HEAD = "search.json";
+  const MINIMUM = 2; // characters of a word that `expand` makes longer
+  const NOTHING = { docs: {}, count: 0 }; // the postings of a token that the index doesn't have
+
+  // Order. JavaScript compares UTF-16, which isn't the order of bytes above U+FFFF: here characters are compared.
+
+  function orderBy(rank) {
+    return (one, other) => {
+      const length = Math.min(one.length, other.length);
+      for (let at = 0; at < length; at++) {
+        const left = one.codePointAt(at), right = other.codePointAt(at);
+        if (left !== right) return rank(left) - rank(right);
+      }
+      return one.length - other.length;
+    };
+  }
+
+  const byBytes = orderBy((code) => code);
+
+  // The order in which elasticlunr.js goes through a trie. An object of JavaScript has members whose names are digits first.
+  const asInTries = orderBy((code) => code >= 48 && code <= 57 ? code - 58 : code);
+
+  const byValue = (one, other) => one - other;
+
+  function isSorted(list, compare) {
+    return list.every((item, at) => at === 0 || compare(list[at - 1], item) < 0);
+  }
+
+  // How many items of a sorted list come before this one, or are equal to it.
+  function countUpTo(list, item, compare) {
+    let low = 0, high = list.length;
+    while (low < high) {
+      const middle = (low + high) >> 1;
+      if (compare(list[middle], item) <= 0) low = middle + 1;
+      else high = middle;
+    }
+    return low;
+  }
+
+  // Whether a token begins so. Half of a character above U+FFFF begins none.
+  function begins(token, start) {
+    return token.startsWith(start) && !/[\uD800-\uDBFF]$/.test(start);
+  }
+
+  // Files.
+
+  function fault(name, why) {
+    const error = new Error(name + ": " + why);
+    error.file = name;
+    return error;
+  }
+
+  // A function that fetches a file of a folder by its name, and says how caches may be used (as `cache` of `fetch`).
+  function fetchFrom(address) {
+    const folder = address === "" || address.endsWith("/") ? address : address + "/";
+    return async (name, cache) => {
+      const response = await fetch(folder + name, { cache });
+      if (!response.ok) throw new Error("the server answered " + response.status);
+      return response.text();
+    };
+  }
+
+  async function fetchValue(get, name, cache) {
+    let text;
+    try {
+      text = await get(name, cache);
+    } catch (error) {
+      throw fault(name, "can't be fetched: " + (error instanceof Error ? error.message : error));
+    }
+    try {
+      return JSON.parse(text);
+    } catch (error) {
+      throw fault(name, "is cut short, or no JSON: " + error.message);
+    }
+  }
+
+  const isObject = (value) => typeof value === "object" && value !== null && !Array.isArray(value);
+  const isText = (value) => typeof value === "string";
+  const isListOf = (value, isItem) => Array.isArray(value) && value.every(isItem);
+  const isNumberBelow = (value, end) => Number.isInteger(value) && value >= 0 && value < end;
+
+  // What is wrong with a head, or null.
+  function wrongInHead(head) {
+    if (!isObject(head)) return "isn't an object";
+    const { fields, references, lengths, pipeline, tries, texts } = head;
+    if (!isText(head.version) || !isText(head.ref) || typeof head.save !== "boolean") return "lacks its version, ref or save";
+    if (!isListOf(fields, isText) || new Set(fields).size < fields.length) return "its fields aren't a list of different texts";
+    if (!isListOf(pipeline, isText)) return "its pipeline isn't a list of texts";
+    if (!isListOf(references, isText) || !isSorted(references, byBytes)) return "its references aren't in order";
+    const isLength = (value) => value === null || isNumberBelow(value, Infinity);
+    const isColumn = (list) => isListOf(list, isLength) && list.length === references.length;
+    if (!isListOf(lengths, isColumn) || lengths.length !== fields.length) return "its lengths aren't those of its fields";
+    if (!isText(head.folder) || !/^pieces-[0-9a-f]{16}$/.test(head.folder)) return "its folder isn't one of pieces";
+    if (!isListOf(tries, (token) => isText(token) && token !== "") || !isSorted(tries, byBytes)) return "its tries aren't in order";
+    const isFirst = (value) => isNumberBelow(value, references.length);
+    if (!isListOf(texts, isFirst) || !isSorted(texts, byValue)) return "its texts aren't in order";
+    const hasTexts = head.save && references.length > 0;
+    if (hasTexts ? texts[0] !== 0 : texts.length > 0) return "its texts aren't those of its references";
+    return null;
+  }
+
+  // The stages have to be there: elasticlunr.js takes `constructor` for one.
+  function checkStages(head) {
+    const known = elasticlunr.Pipeline.registeredFunctions;
+    const unknown = head.pipeline.find((stage) => !Object.prototype.hasOwnProperty.call(known, stage));
+    if (unknown === undefined) return;
+    throw fault(HEAD, "no script has its stage " + JSON.stringify(unknown) + "; load the script of its language first");
+  }
+
+  async function fetchHead(get) {
+    const head = await fetchValue(get, HEAD, "no-cache"), wrong = wrongInHead(head), { version } = elasticlunr;
+    if (wrong) throw fault(HEAD, wrong);
+    checkStages(head);
+    if (head.version !== version) elasticlunr.utils.warn(HEAD + ": version " + head.version + ", elasticlunr.js is " + version);
+    return head;
+  }
+
+  // What takes the place of a trie while elasticlunr.js searches. Of a trie it calls `expandToken`, `getDocs`, `getDocFreq` and,
+  // for what it found, `getTermFrequency`.
+
+  // Finds nothing, and remembers which words a query looks up. So elasticlunr.js itself says what it needs.
+  class Wanted {
+    constructor(minimum) {
+      this.minimum = minimum;
+      this.words = new Set();
+      this.starts = new Set();
+    }
+
+    expandToken(token) {
+      const isLong = Array.from(token).length >= this.minimum;
+      (isLong ? this.starts : this.words).add(token);
+      return [];
+    }
+
+    getDocs(token) {
+      this.words.add(token);
+      return {};
+    }
+
+    getDocFreq() {
+      return 0;
+    }
+  }
+
+  // The tokens of one field that were fetched for a query.
+  class Trie {
+    constructor(postings, field, wanted) {
+      this.postings = postings;
+      this.field = field;
+      this.wanted = wanted;
+    }
+
+    of(token) {
+      const lists = this.postings.get(token);
+      return lists ? lists[this.field] : NOTHING;
+    }
+
+    // The tokens that begin so, in the order of a trie. One without postings in this field changes nothing.
+    expandToken(start) {
+      return this.wanted.starts.has(start) ? [...this.postings.keys()].filter((token) => begins(token, start)) : [start];
+    }
+
+    getDocs(token) {
+      return this.of(token).docs;
+    }
+
+    getDocFreq(token) {
+      return this.of(token).count;
+    }
+
+    getTermFrequency(token, name) {
+      return this.of(token).docs[name];
+    }
+  }
+
+  // elasticlunr.js keeps scores in plain objects, which have `constructor` and other members from the beginning. Where a
+  // reference is called so, it gets another name within elasticlunr.js.
+  function namesOf(references) {
+    const known = new Set(references);
+    return references.map((reference) => {
+      let name = reference;
+      while (name in Object.prototype || (name !== reference && known.has(name))) name += "\0";
+      return name;
+    });
+  }
+
+  // An index, by its head, and the pieces of it that are here.
+  class Pieces {
+    constructor(get, head) {
+      this.get = get;
+      this.head = head;
+      this.names = namesOf(head.references);
+      this.numbers = new Map(head.references.map((reference, number) => [reference, number]));
+      this.references = new Map(this.names.map((name, number) => [name, head.references[number]]));
+      this.store = this.makeStore();
+      this.files = new Map();
+      this.failed = new Set();
+    }
+
+    // elasticlunr.js reads the length of a field only where the store has a document. The texts come later.
+    makeStore() {
+      const { fields, lengths } = this.head, docs = {}, docInfo = {};
+      this.names.forEach((name, number) => {
+        docs[name] = null;
+        docInfo[name] = {};
+        fields.forEach((field, at) => {
+          if (lengths[at][number] !== null) docInfo[name][field] = lengths[at][number];
+        });
+      });
+      return { docs, docInfo, length: this.names.length, save: false };
+    }
+
+    // The value of a file of the folder, read by `read`. It is fetched once, and again where that failed.
+    file(file, read) {
+      const name = this.head.folder + "/" + file, cache = this.failed.has(name) ? "reload" : "default";
+      if (!this.files.has(name)) {
+        const coming = fetchValue(this.get, name, cache).then((value) => read(value, name));
+        this.files.set(name, coming);
+        coming.catch(() => {
+          this.files.delete(name);
+          this.failed.add(name);
+        });
+      }
+      return this.files.get(name);
+    }
+
+    // The tokens of a piece of the tries, each with its postings in each field.
+    tokensOf(number) {
+      const { tries } = this.head;
+      return this.file("t" + number + ".json", (value, name) => {
+        if (!isObject(value)) throw fault(name, "isn't an object");
+        const tokens = Object.keys(value).sort(byBytes), last = tokens[tokens.length - 1], next = tries[number + 1];
+        if (tokens[0] !== tries[number]) throw fault(name, "doesn't begin with the token that " + HEAD + " says");
+        if (next !== undefined && byBytes(last, next) >= 0) throw fault(name, "has tokens of the next piece");
+        return new Map(tokens.map((token) => [token, this.postings(value[token], name)]));
+      });
+    }
+
+    postings(lists, name) {
+      const isOne = isListOf(lists, Array.isArray) && lists.length === this.head.fields.length;
+      if (!isOne) throw fault(name, "a token hasn't a list for each field");
+      return lists.map((list) => this.postingsOfField(list, name));
+    }
+
+    postingsOfField(list, name) {
+      const docs = {};
+      let next = 0;
+      for (let at = 0; at < list.length; at += 2) {
+        const number = list[at], frequency = list[at + 1];
+        const isInOrder = isNumberBelow(number, this.names.length) && number >= next;
+        if (!isInOrder) throw fault(name, "the references of a token aren't in order");
+        if (!Number.isFinite(frequency) || frequency <= 0) throw fault(name, "a reference has no frequency above 0");
+        docs[this.names[number]] = frequency;
+        next = number + 1;
+      }
+      return { docs, count: list.length / 2 };
+    }
+
+    // The documents of a piece of the texts.
+    documentsOf(number) {
+      const { texts, references } = this.head, isLast = number + 1 === texts.length;
+      const end = isLast ? references.length : texts[number + 1];
+      return this.file("d" + number + ".json", (value, name) => {
+        if (!isListOf(value, isObject)) throw fault(name, "isn't a list of documents");
+        if (value.length !== end - texts[number]) throw fault(name, "hasn't as many documents as " + HEAD + " says");
+        return value;
+      });
+    }
+
+    // The numbers of the pieces in which a word may stand or, with `all`, those that begin so.
+    numbersOf(word, all) {
+      const { tries } = this.head, numbers = [];
+      const isOne = (first) => byBytes(first, word) <= 0 || (all && begins(first, word));
+      let number = Math.max(0, countUpTo(tries, word, byBytes) - 1);
+      while (number < tries.length && isOne(tries[number])) numbers.push(number++);
+      return numbers;
+    }
+
+    // The postings of the pieces in which the wanted words may stand, in the order of a trie.
+    async fetchPostings(wanted) {
+      const numbers = new Set();
+      for (const word of wanted.words) this.numbersOf(word, false).forEach((number) => numbers.add(number));
+      for (const start of wanted.starts) this.numbersOf(start, true).forEach((number) => numbers.add(number));
+      const pieces = await Promise.all([...numbers].map((number) => this.tokensOf(number)));
+      const postings = [].concat(...pieces.map((piece) => [...piece]));
+      return new Map(postings.sort(([one], [other]) => asInTries(one, other)));
+    }
+
+    // An index of elasticlunr.js with these tries, one for the number of each field.
+    indexWith(trieOf) {
+      const { fields, ref, pipeline } = this.head, { version } = elasticlunr;
+      const index = elasticlunr.Index.load({ version, fields, ref, pipeline, documentStore: this.store, index: {} });
+      fields.forEach((field, at) => {
+        index.index[field] = trieOf(at);
+      });
+      return index;
+    }
+
+    async search(query, options, minimum) {
+      const wanted = new Wanted(minimum);
+      this.indexWith(() => wanted).search(query, options);
+      const postings = await this.fetchPostings(wanted);
+      const hits = this.indexWith((field) => new Trie(postings, field, wanted)).search(query, options);
+      return hits.map((hit) => ({ ref: this.references.get(hit.ref), score: hit.score }));
+    }
+
+    async doc(reference) {
+      const { texts } = this.head, number = this.numbers.get(String(reference));
+      if (number === undefined || texts.length === 0) return null;
+      const piece = countUpTo(texts, number, byValue) - 1;
+      return (await this.documentsOf(piece))[number - texts[piece]];
+    }
+  }
+
+  async function openPieces(get) {
+    return new Pieces(get, await fetchHead(get));
+  }
+
+  // An index whose head may be replaced while it is searched.
+  class Site {
+    constructor(get, pieces) {
+      this.get = get;
+      this.pieces = pieces;
+      this.renewal = null;
+    }
+
+    // `query` and `options` may change while the pieces are fetched: they are copied.
+    async search(query, options) {
+      const [text, copied] = JSON.parse(JSON.stringify([query, options]));
+      const minimum = options && options.minimum !== undefined ? options.minimum : MINIMUM;
+      if (!(minimum >= 1)) throw new Error("minimum: expected a number from 1");
+      return this.ask((pieces) => pieces.search(text, copied === null ? {} : copied, minimum));
+    }
+
+    async doc(reference) {
+      return this.ask((pieces) => pieces.doc(reference));
+    }
+
+    // A file that is missing or wrong may be that of a head that was replaced. Then the new one is asked.
+    async ask(question) {
+      const { pieces } = this;
+      try {
+        return await question(pieces);
+      } catch (error) {
+        if (!error.file) throw error;
+        await this.renew(pieces).catch(() => {}); // the error of the piece says more
+        if (this.pieces === pieces) throw error;
+      }
+      return question(this.pieces);
+    }
+
+    // Reads the head again, unless another call did or does so.
+    async renew(pieces) {
+      if (this.pieces !== pieces) return;
+      if (!this.renewal) {
+        this.renewal = this.readAgain().finally(() => {
+          this.renewal = null;
+        });
+      }
+      await this.renewal;
+    }
+
+    // Takes the head that is there now, if it names another folder.
+    async readAgain() {
+      const newer = await openPieces(this.get);
+      if (newer.head.folder !== this.pieces.head.folder) this.pieces = newer;
+    }
+  }
+
+  async function open(folder) {
+    const get = typeof folder === "function" ? folder : fetchFrom(String(folder));
+    return new Site(get, await openPieces(get));
+  }
+
+  return { open };
+});

@@ -1,0 +1,479 @@
+// Searches whole indexes and their pieces in node, and tries the reader of pieces on faults. tests/pieces.py runs it.
+//
+// usage: node pieces.js ELASTICLUNR LANGUAGES READER < GIVEN
+//
+// GIVEN is a JSON object: the indexes, each with its text, its files and the names that stand for references in its text; the
+// queries, each with the number of its index and its options; and the numbers of the indexes of CASES. The answer is a JSON
+// object: for each query how many hits there are, how many files were fetched, and what is wrong or null; and for each case
+// its name, and what is wrong or null.
+"use strict";
+
+const assert = require("assert"), fs = require("fs"), path = require("path"), vm = require("vm");
+const [, , library, languages, reader] = process.argv;
+const elasticlunr = require(path.resolve(library));
+require(path.resolve(languages))(elasticlunr);
+elasticlunr.utils.warn = () => {};
+elasticlunr.Pipeline.warnIfFunctionNotRegistered = () => {};
+const { open } = require(path.resolve(reader))(elasticlunr);
+
+const HEAD = "search.json";
+const MINIMUM = 2;
+
+// A server of files, in place of a network. It counts what is fetched, and some answers are wrong.
+class Server {
+  constructor(files) {
+    this.files = files;
+    this.fetched = [];
+    this.wrong = new Map(); // for a file the answers to its next fetches: a text, or an Error
+    this.get = async (name) => {
+      this.fetched.push(name);
+      await new Promise((done) => setImmediate(done));
+      const answer = this.wrong.has(name) && this.wrong.get(name).length ? this.wrong.get(name).shift() : this.files[name];
+      if (answer instanceof Error) throw answer;
+      if (answer === undefined) throw new Error("the server answered 404");
+      return answer;
+    };
+  }
+
+  answerOnce(name, answer) {
+    this.wrong.set(name, [answer]);
+  }
+
+  count(name) {
+    return this.fetched.filter((one) => one === name).length;
+  }
+
+  head() {
+    return JSON.parse(this.files[HEAD]);
+  }
+}
+
+// Hits, each with its reference and the bits of its score.
+function bits(hits) {
+  const view = new DataView(new ArrayBuffer(8));
+  return hits.map((hit) => {
+    view.setFloat64(0, hit.score);
+    return [hit.ref, view.getBigUint64(0).toString(16)];
+  });
+}
+
+// What elasticlunr.js finds in a whole index. A word that is shorter than the minimum isn't expanded.
+function searchWhole(index, query, options, names) {
+  const minimum = (options && options.minimum) || MINIMUM, expand = elasticlunr.InvertedIndex.prototype.expandToken;
+  for (const field of index.getFields()) {
+    index.index[field].expandToken = function (token, found, node) {
+      if (node || Array.from(token).length >= minimum) return expand.call(this, token, found, node);
+      return this.getDocFreq(token) > 0 ? [token] : [];
+    };
+  }
+  const hits = index.search(query, options);
+  return bits(hits.map((hit) => ({ ref: names.get(hit.ref) || hit.ref, score: hit.score })));
+}
+
+function tokensOf(index, query) {
+  const texts = typeof query === "string" ? [query] : Object.values(query);
+  return new Set([].concat(...texts.map((text) => index.pipeline.run(elasticlunr.tokenizer(text)))));
+}
+
+// The tokens of each piece of the tries.
+function piecesOf(files) {
+  return Object.keys(files).filter((name) => /\/t\d+\.json$/.test(name)).map((name) => Object.keys(JSON.parse(files[name])));
+}
+
+// How many pieces of the tries a query may fetch: for each word those that have words that begin so, and one more.
+function mostFetched({ index, pieces }, query, options) {
+  const expands = JSON.stringify(options || {}).includes('"expand":true'), minimum = (options && options.minimum) || MINIMUM;
+  let most = 0;
+  for (const token of tokensOf(index, query)) {
+    const isExpanded = expands && Array.from(token).length >= minimum;
+    const isIn = (piece) => piece.some((other) => (isExpanded ? other.startsWith(token) : other === token));
+    most += isExpanded ? pieces.filter(isIn).length + 1 : 1;
+  }
+  return most;
+}
+
+async function compareOne(given, query, options) {
+  const want = searchWhole(given.index, query, options, given.names);
+  const server = new Server(given.files), fresh = await open(server.get);
+  const told = { hits: want.length, fetched: 0, wrong: null };
+  for (const [name, site] of [["a site that was searched before", given.site], ["a new site", fresh]]) {
+    const found = bits(await site.search(query, options));
+    if (JSON.stringify(found) !== JSON.stringify(want)) {
+      const at = want.findIndex((hit, at) => JSON.stringify(hit) !== JSON.stringify(found[at]));
+      told.wrong = `${name}: ${found.length} hits and not ${want.length}, ${JSON.stringify(found[at])} and not ${JSON.stringify(want[at])}`;
+    }
+  }
+  const names = server.fetched.filter((name) => name !== HEAD);
+  told.fetched = names.length;
+  if (new Set(names).size < names.length) told.wrong = "fetches a file twice";
+  if (names.some((name) => !/\/t\d+\.json$/.test(name))) told.wrong = "fetches more than tries";
+  if (names.length > mostFetched(given, query, options)) told.wrong = `fetches ${names.length} pieces`;
+  return told;
+}
+
+// The documents that are stored come back, and no others.
+async function compareTexts(given) {
+  const store = JSON.parse(given.whole).documentStore;
+  for (const [name, doc] of Object.entries(store.docs)) {
+    assert.deepStrictEqual(await given.site.doc(given.names.get(name) || name), store.save ? doc : null);
+  }
+  assert.strictEqual(await given.site.doc("no such reference"), null);
+}
+
+async function compare(given, queries) {
+  const told = [];
+  for (const [number, query, options] of queries) {
+    try {
+      told.push(await compareOne(given[number], query, options));
+    } catch (error) {
+      told.push({ hits: 0, fetched: 0, wrong: String(error.stack) });
+    }
+  }
+  return told;
+}
+
+// An index whose words are its tokens: without a pipeline each token finds itself.
+function withoutPipeline(given) {
+  const whole = JSON.parse(given.whole), head = JSON.parse(given.files[HEAD]);
+  whole.pipeline = head.pipeline = [];
+  return { index: elasticlunr.Index.load(whole), names: given.names, files: { ...given.files, [HEAD]: JSON.stringify(head) } };
+}
+
+const piece = (head, name) => head.folder + "/" + name + ".json";
+const like = (name) => (error) => error instanceof Error && error.file === name && error.message.startsWith(name + ": ");
+
+// A call that fails by one wrong answer for a file names it, and the next call is right.
+async function failsOnce(server, name, answer, call) {
+  server.answerOnce(name, answer);
+  await assert.rejects(call, like(name), `${name}, as ${String(answer).slice(0, 60)}`);
+  await call();
+}
+
+// Calls that need one file each, and what each must give.
+async function* callsOfFiles(given) {
+  const { index, files, names } = withoutPipeline(given), server = new Server(files), head = server.head();
+  for (let number = 0; number < head.tries.length; number++) {
+    const word = head.tries[number], name = piece(head, "t" + number), want = searchWhole(index, word, {}, names);
+    assert(want.length > 0);
+    yield { server, name, isRight: async (site) => assert.deepStrictEqual(bits(await site.search(word, {})), want) };
+  }
+  for (let number = 0; number < head.texts.length; number++) {
+    const reference = head.references[head.texts[number]], want = JSON.parse(given.whole).documentStore.docs[reference];
+    yield { server, name: piece(head, "d" + number), isRight: async (site) => assert.deepStrictEqual(await site.doc(reference), want) };
+  }
+}
+
+// Pieces of the tries that aren't what the head says: this token is the first of the piece, and `next` that of the next one.
+function wrongTries(text, token, next) {
+  const others = JSON.parse(text), lists = others[token];
+  delete others[token];
+  const withLists = (list) => `{${JSON.stringify(token)}:${list}}`;
+  const inField = (list) => withLists(JSON.stringify(lists).replace(/\[\]|\[[^[\]]+\]/, list));
+  const whole = ["null", "[]", "7", '"x"', "{}", JSON.stringify(others), withLists("null"), withLists("{}"), withLists("7")];
+  whole.push(withLists("[]"), withLists(JSON.stringify([...lists, []])), withLists(JSON.stringify(lists.map(() => null))));
+  if (next !== undefined) whole.push(JSON.stringify({ ...JSON.parse(text), [next]: lists }));
+  const wrongLists = ["[0]", "[0,1,0,1]", "[1,1,0,1]", "[999,1]", "[-1,1]", "[0.5,1]", '["0",1]', "[null,1]", "[0,0]", "[0,-1]"];
+  return [...whole, ...[...wrongLists, '[0,"1"]', "[0,null]", "[0,1e999]", "null", '"ab"', "{}"].map(inField)];
+}
+
+function wrongTexts(text) {
+  const docs = JSON.parse(text);
+  const wrong = [null, {}, 7, "x", [], docs.slice(1), [...docs, {}], docs.map(() => null), docs.map(() => []), docs.map(() => "x")];
+  return wrong.map((value) => JSON.stringify(value));
+}
+
+function wrongHeads(text) {
+  const head = JSON.parse(text), wrong = [null, [], 7, "x", {}];
+  for (const key of Object.keys(head)) {
+    if (key === "lang") continue;
+    for (const value of [undefined, null, 7, {}, [7], [null]]) wrong.push({ ...head, [key]: value });
+  }
+  const { fields, lengths, references, tries, texts } = head, turned = (list) => [...list].reverse();
+  const others = { fields: [fields.map(() => fields[0])], references: [turned(references), references.map(() => "x")], save: [false] };
+  others.lengths = [lengths.slice(1), lengths.map((list) => list.slice(1))];
+  for (const length of [-1, 0.5, "1"]) others.lengths.push(lengths.map((list) => list.map(() => length)));
+  others.folder = ["pieces-x", "../" + head.folder, "https://example.org/" + head.folder, head.folder + "/.."];
+  others.folder.push(head.folder + "\n", head.folder.toUpperCase());
+  others.tries = [turned(tries), ["", ...tries]];
+  others.texts = [turned(texts), texts.slice(1), [0, ...turned(texts.slice(1))], [0, ...texts], [...texts, references.length]];
+  others.pipeline = [["constructor"], ["__proto__"], ["toString"], ["no such stage"]];
+  for (const key of Object.keys(others)) for (const value of others[key]) wrong.push({ ...head, [key]: value });
+  return wrong.map((value) => JSON.stringify(value));
+}
+
+// Each file of an index is answered wrongly once, by each text or Error that `answers` gives for it.
+async function tryWrong(given, answers) {
+  let tried = 0;
+  for await (const { server, name, isRight } of callsOfFiles(given)) {
+    for (const answer of answers(server.files[name], name, server.head())) {
+      const site = await open(server.get);
+      await failsOnce(server, name, answer, () => isRight(site));
+      tried++;
+    }
+  }
+  assert(tried >= 10, `only ${tried} wrong answers`);
+}
+
+async function tryWrongHeads(given, answers) {
+  const server = new Server(given.files);
+  for (const answer of answers) await failsOnce(server, HEAD, answer, () => open(server.get));
+}
+
+// What a call gives when it is the only one, for many calls.
+function manyCalls({ index, files, names }) {
+  const head = JSON.parse(files[HEAD]), options = { expand: true, minimum: 1 };
+  return head.tries.map((token) => {
+    const word = Array.from(token)[0], want = searchWhole(index, word, options, names);
+    return async (site) => assert.deepStrictEqual(bits(await site.search(word, options)), want);
+  });
+}
+
+// What a page has that loads these scripts one after another.
+function pageWith(...scripts) {
+  const page = vm.createContext({ console });
+  page.self = page;
+  for (const script of scripts) vm.runInContext(fs.readFileSync(script, "utf8"), page);
+  return page;
+}
+
+const CASES = {
+  async "a fetch that fails once"({ site }) {
+    await tryWrong(site, () => [new Error("no network")]);
+    await tryWrongHeads(site, [new Error("no network")]);
+  },
+
+  async "a file that is cut short"({ site }) {
+    const cut = (text) => [0, 1, text.length >> 1, text.length - 1].map((end) => text.slice(0, end));
+    await tryWrong(site, cut);
+    await tryWrongHeads(site, cut(site.files[HEAD]));
+  },
+
+  async "a piece of another form"({ site }) {
+    await tryWrong(site, (text, name, head) => {
+      const [, kind, number] = /\/([td])(\d+)\.json$/.exec(name), [token, next] = head.tries.slice(Number(number));
+      return kind === "d" ? wrongTexts(text) : wrongTries(text, token, next);
+    });
+  },
+
+  async "a head of another form"({ site }) {
+    await tryWrongHeads(site, wrongHeads(site.files[HEAD]));
+  },
+
+  async "a head that is replaced"({ site, other }) {
+    const newer = withoutPipeline(other), server = new Server(withoutPipeline(site).files), opened = await open(server.get);
+    const store = JSON.parse(other.whole).documentStore, options = { expand: true };
+    const want = searchWhole(newer.index, "wo", options, newer.names);
+    assert(want.length > 0);
+    server.files = newer.files;
+    const found = await Promise.all([1, 2, 3, 4].map(() => opened.search("wo", options)));
+    for (const hits of found) assert.deepStrictEqual(bits(hits), want);
+    assert.strictEqual(server.count(HEAD), 2);
+    for (const isRight of manyCalls(newer)) await isRight(opened);
+    for (const reference of server.head().references) assert.deepStrictEqual(await opened.doc(reference), store.docs[reference]);
+    assert.strictEqual(server.count(HEAD), 2);
+  },
+
+  async "a head that is replaced before its pieces are there"({ site, other }) {
+    const newer = withoutPipeline(other), server = new Server(withoutPipeline(site).files), opened = await open(server.get);
+    const [isRight] = manyCalls(newer).slice(-1);
+    server.files = { [HEAD]: newer.files[HEAD] };
+    const { folder } = server.head();
+    await assert.rejects(() => isRight(opened), (error) => error.file.startsWith(folder + "/t"));
+    server.files = newer.files;
+    await isRight(opened);
+  },
+
+  async "a head that is replaced, where a missing file is answered by a page"({ site, other }) {
+    const newer = withoutPipeline(other), head = JSON.parse(site.files[HEAD]), page = "<!doctype html>";
+    const server = new Server(withoutPipeline(site).files), opened = await open(server.get);
+    server.files = { ...newer.files, [piece(head, "t0")]: page, [piece(head, "d0")]: page };
+    const { documentStore } = JSON.parse(other.whole), [reference] = server.head().references;
+    assert.strictEqual(await opened.doc(head.references[0]), null);
+    for (const isRight of manyCalls(newer)) await isRight(opened);
+    assert.deepStrictEqual(await opened.doc(reference), documentStore.docs[reference]);
+    assert.strictEqual(server.count(HEAD), 2);
+  },
+
+  async "a head that stays while a piece is gone"({ site }) {
+    const given = withoutPipeline(site), server = new Server(given.files), opened = await open(server.get), calls = manyCalls(given);
+    server.files = { [HEAD]: given.files[HEAD] };
+    for (const isRight of calls) await assert.rejects(() => isRight(opened), (error) => /\/t\d+\.json$/.test(error.file));
+    server.files = {};
+    await assert.rejects(() => calls[0](opened), (error) => /\/t\d+\.json$/.test(error.file));
+    server.files = { [HEAD]: "<!doctype html>" };
+    await assert.rejects(() => calls[0](opened), (error) => /\/t\d+\.json$/.test(error.file));
+    server.files = given.files;
+    for (const isRight of calls) await isRight(opened);
+  },
+
+  async "a head that is replaced after a call failed"({ site, other }) {
+    const old = withoutPipeline(site), newer = withoutPipeline(other), options = { expand: true };
+    const want = searchWhole(newer.index, "wo", options, newer.names);
+    for (const files of [{}, { [HEAD]: old.files[HEAD] }]) {
+      const server = new Server(old.files), opened = await open(server.get);
+      server.files = files;
+      await assert.rejects(() => opened.search("wo", options), (error) => /\/t\d+\.json$/.test(error.file));
+      server.files = newer.files;
+      assert.deepStrictEqual(bits(await opened.search("wo", options)), want);
+    }
+  },
+
+  async "calls that overlap"({ site }) {
+    const given = withoutPipeline(site), calls = [...manyCalls(given), ...manyCalls(given)], server = new Server(given.files);
+    const opened = await open(server.get), { references } = server.head();
+    await Promise.all([...calls.map((isRight) => isRight(opened)), ...references.map((reference) => opened.doc(reference))]);
+    for (const name of Object.keys(given.files)) assert.strictEqual(server.count(name), 1, name);
+  },
+
+  async "a query that changes after its call"({ site }) {
+    const { index, files, names } = withoutPipeline(site), server = new Server(files), opened = await open(server.get);
+    const [word, later] = server.head().tries, query = { any: word }, options = { expand: false };
+    const want = searchWhole(index, word, {}, names), found = opened.search(query, options);
+    query.any = later;
+    options.expand = true;
+    assert.deepStrictEqual(bits(await found), want);
+  },
+
+  async "the files that a call fetches"({ site }) {
+    const { files } = withoutPipeline(site), { tries, references } = JSON.parse(files[HEAD]);
+    const calls = [["\u0001", {}, 0], ["\u0001", { expand: true, minimum: 1 }, 0], ["", {}, 0], [null, {}, 0], [tries[2], null, 1]];
+    for (const [query, options, most] of [...calls, [tries[2][0], { expand: true }, 1]]) {
+      const server = new Server(files), opened = await open(server.get);
+      await opened.search(query, options);
+      assert(server.fetched.length <= 1 + most, `${query}: ${server.fetched}`);
+    }
+    const server = new Server(files), opened = await open(server.get);
+    for (let turn = 0; turn < 2; turn++) await opened.doc(references[0]);
+    assert.deepStrictEqual(server.fetched, [HEAD, piece(server.head(), "d0")]);
+    for (const minimum of [0, -1, null, "x", NaN]) await assert.rejects(() => opened.search(tries[0], { minimum }), /minimum/);
+  },
+
+  async "names that every object has"({ hostile }) {
+    const before = JSON.stringify(Object.getOwnPropertyNames(Object.prototype)), names = Object.getOwnPropertyNames(Object.prototype);
+    const hits = await hostile.site.search("word", {});
+    for (const name of names) assert(hits.some((hit) => hit.ref === name && hit.score > 0), name);
+    for (const name of names) assert.strictEqual((await hostile.site.doc(name)).body.startsWith("word"), true);
+    assert.strictEqual(await hostile.site.doc("hasOwn"), null);
+    assert.strictEqual(JSON.stringify(Object.getOwnPropertyNames(Object.prototype)), before);
+  },
+
+  async "members that would change every object"({ site }) {
+    const before = JSON.stringify(Object.getOwnPropertyNames(Object.prototype));
+    const { files } = withoutPipeline(site), head = JSON.parse(files[HEAD]), posting = JSON.stringify(head.fields.map(() => [0, 1]));
+    const hostile = { ...files, [HEAD]: JSON.stringify({ ...head, tries: ["__proto__"], polluted: 1 }).replace('"polluted"', '"__proto__"') };
+    hostile[piece(head, "t0")] = `{"__proto__":${posting},"constructor":${posting},"prototype":${posting}}`;
+    hostile[piece(head, "d0")] = `[${JSON.parse(files[piece(head, "d0")]).map(() => '{"__proto__":{"polluted":1}}').join()}]`;
+    const opened = await open(new Server(hostile).get);
+    for (const token of ["__proto__", "constructor", "prototype"]) {
+      for (const expand of [true, false]) {
+        const hits = await opened.search(token, { expand });
+        assert.deepStrictEqual(hits.map((hit) => hit.ref), [head.references[0]]);
+      }
+    }
+    await opened.doc(head.references[0]);
+    for (const field of ["__proto__", "constructor"]) {
+      const named = { ...head, fields: [field], lengths: [head.lengths[0]], tries: ["a"] };
+      const server = new Server({ ...files, [HEAD]: JSON.stringify(named), [piece(head, "t0")]: '{"a":[[0,1]]}' });
+      await (await open(server.get)).search("a", {}).catch(() => {}); // elasticlunr.js breaks on these names
+    }
+    assert.strictEqual({}.polluted, undefined);
+    assert.strictEqual(JSON.stringify(Object.getOwnPropertyNames(Object.prototype)), before);
+  },
+
+  async "an index without texts"({ bare }) {
+    const head = JSON.parse(bare.files[HEAD]), server = new Server(bare.files), opened = await open(server.get);
+    assert((await opened.search("word", {})).length > 0);
+    for (const reference of head.references) assert.strictEqual(await opened.doc(reference), null);
+    assert(!server.fetched.some((name) => name.includes("/d")));
+  },
+
+  async "an index without documents"({ empty }) {
+    const server = new Server(empty.files), opened = await open(server.get);
+    assert.deepStrictEqual(await opened.search("word", { expand: true }), []);
+    assert.strictEqual(await opened.doc("1"), null);
+    assert.deepStrictEqual(server.fetched, [HEAD]);
+  },
+
+  async "a token of 100,000 characters"({ site }) {
+    const { files } = withoutPipeline(site), head = JSON.parse(files[HEAD]), token = "a".repeat(100000);
+    const server = new Server({ ...files, [HEAD]: JSON.stringify({ ...head, tries: [token] }) });
+    server.files[piece(head, "t0")] = JSON.stringify({ [token]: head.fields.map(() => [0, 1000000]) });
+    const opened = await open(server.get);
+    for (const word of [token, token.slice(1)]) assert.strictEqual((await opened.search(word, { expand: true })).length, 1);
+  },
+
+  async "the address of a folder"({ site }) {
+    const asked = [], answers = [], before = globalThis.fetch;
+    globalThis.fetch = async (address, { cache }) => {
+      const text = answers.length ? answers.shift() : site.files[address.replace(/^.*search\/|^(?=pieces)/, "")];
+      asked.push([address, cache]);
+      return { ok: text !== undefined, status: text === undefined ? 404 : 200, text: async () => text };
+    };
+    try {
+      const { folder, references } = JSON.parse(site.files[HEAD]);
+      for (const address of ["https://example.org/a/search", "search/", "../search"]) await open(address);
+      const heads = ["https://example.org/a/search/search.json", "search/search.json", "../search/search.json"];
+      assert.deepStrictEqual(asked.splice(0), heads.map((one) => [one, "no-cache"]));
+      const opened = await open(""), name = folder + "/d0.json";
+      answers.push(undefined);
+      await assert.rejects(() => opened.doc(references[0]), (error) => error.file === name && error.message.includes("404"));
+      await opened.doc(references[0]);
+      assert.deepStrictEqual(asked, [[HEAD, "no-cache"], [name, "default"], [HEAD, "no-cache"], [name, "reload"]]);
+    } finally {
+      globalThis.fetch = before;
+    }
+  },
+
+  async "a page that loads the scripts"({ site, german }) {
+    const folderOf = (given) => new Server(given.files).get;
+    for (const [given, scripts, word] of [[site, [library], "word0"], [site, [library, languages], "word0"], [german, [library, languages], "Wort"]]) {
+      const hits = await (await pageWith(...scripts, reader).elasticlunrPieces.open(folderOf(given))).search(word);
+      assert.deepStrictEqual(bits([...hits]), searchWhole(given.index, word, {}, given.names));
+      assert(hits.length > 0);
+    }
+    const lacks = (error) => error.file === HEAD && error.message.includes('"trimmer-de"');
+    await assert.rejects(() => pageWith(library, reader).elasticlunrPieces.open(folderOf(german)), lacks);
+    assert.throws(() => pageWith(reader), /elasticlunr\.min\.js/);
+  },
+};
+
+async function tryCases(given, numbers) {
+  const indexes = Object.fromEntries(Object.entries(numbers).map(([name, number]) => [name, given[number]])), told = [];
+  for (const [name, run] of Object.entries(CASES)) {
+    try {
+      await run(indexes);
+      told.push([name, null]);
+    } catch (error) {
+      told.push([name, String(error.stack).slice(0, 800)]);
+    }
+  }
+  return told;
+}
+
+// A site, or what gives its error to each call.
+async function siteOf(files) {
+  try {
+    return await open(new Server(files).get);
+  } catch (error) {
+    const fail = async () => {
+      throw error;
+    };
+    return { search: fail, doc: fail };
+  }
+}
+
+async function main() {
+  const { indexes, queries, cases } = JSON.parse(fs.readFileSync(0, "utf8")), given = [];
+  for (const { whole, files, names } of indexes) {
+    const index = elasticlunr.Index.load(JSON.parse(whole));
+    given.push({ whole, files, names: new Map(names), index, pieces: piecesOf(files), site: await siteOf(files) });
+  }
+  const told = await compare(given, queries), texts = [];
+  for (const one of given) texts.push(await compareTexts(one).then(() => null, (error) => String(error.message).slice(0, 300)));
+  process.stdout.write(JSON.stringify({ queries: told, texts, cases: await tryCases(given, cases) }));
+}
+
+main().catch((error) => {
+  console.error(error);
+  process.exitCode = 1;
+});

@@ -228,7 +228,7 @@ def forged_readmes(folder):
         ("README without the lines of crates.txt", whole.replace("```text", "```"), numbers % (0, 2)),
         ("README with another line of crates.txt", whole.replace("site: elasticlunr", "site: std"), "crates.txt has no line"),
         ("README with a command that fails", whole + "```console\n$ make no-such-thing\n```\n", "make no-such-thing: status 2"),
-        ("README with a command that doesn't exist", whole.replace("$ make test", "$ make tests"), "make tests: status 2"),
+        ("README with a command that doesn't exist", whole.replace("$ make test", "$ make tested"), "make tested: status 2"),
         ("README with a job that is none", whole.replace('"docs": [\n', '"pages": [\n'), "a job: it is no job: refused"),
         ("README with another kit", re.sub(r"logic [0-9a-f]{16}", "logic 0123456789abcdef", whole), "the kit: its logic is"),
         ("README without a kit", re.sub(r"logic [0-9a-f]{16}", "logic", whole), "the kit: README names 0"),

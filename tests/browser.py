@@ -17,7 +17,7 @@ sys.path.insert(0, os.path.join(os.path.dirname(__file__), ".."))
 from tests import browser_cases, browser_tools
 from tests.report import Results, is_asked
 
-SECONDS = 540  # the time limit of all cases
+SECONDS = 1800  # the time limit of all cases, which take four minutes on a quiet machine
 
 
 class OutOfTime(BaseException):

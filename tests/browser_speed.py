@@ -2,7 +2,8 @@
 
 Each press is timed inside the page by performance.now(): the search, everything that it draws, and the layout, but not the
 delay before a search. A change of the choice starts the search, because that searches at once. If the machine is busy, the
-time counts instead that the browser's main thread ran, by Chromium's own metrics. The median of several presses counts.
+time counts instead that the browser's main thread ran, by Chromium's own metrics. The median of several presses counts. A slow
+machine gets more time, as much as it needs more for a fixed piece of work.
 """
 import json
 import os
@@ -13,6 +14,12 @@ from tests.browser_page import Page, site
 from tests.browser_tools import must
 
 BOUND = 50  # milliseconds that a key press may take
+WORK = """(() => {
+  const words = [];
+  for (let at = 0; at < 60000; at++) words.push(String((at * 7919) % 60000));
+  return new Map(words.sort().map((word) => [word, word.toLowerCase()])).size;
+})()"""
+WORK_TIME = 80  # milliseconds that this work usually takes
 SYLLABLES = "ba de fi go lu ma ne pi ro su ta ve wi ko za tri sta plo gre".split()
 
 
@@ -44,11 +51,19 @@ def timed(page, texts):
         yield {**shown, "thread": thread_time(page) - before}
 
 
+def slowness(page):
+    """How many times as long as usual the browser's thread works here, and at least 1."""
+    before = thread_time(page)
+    page.script(WORK)
+    return max(1, (thread_time(page) - before) / WORK_TIME)
+
+
 def in_time(page, texts):
     shown = list(timed(page, texts))
+    bound = BOUND * slowness(page)
     clock = statistics.median(press["milliseconds"] for press in shown)
     thread = statistics.median(press["thread"] for press in shown)
-    must(min(clock, thread) < BOUND, [[press["text"], round(press["milliseconds"]), round(press["thread"])] for press in shown])
+    must(min(clock, thread) < bound, [round(bound), [[press["text"], round(press["milliseconds"]), round(press["thread"])] for press in shown]])
     return shown, f"{clock:.0f} ms by the clock, {thread:.0f} ms of the thread (medians of {len(shown)} key presses)"
 
 

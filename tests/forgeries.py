@@ -249,7 +249,7 @@ def forged_docs(folder):
         ("a page with another proof", library.replace("if-is_empty.true", "if-is_empty.false", 1), r"a proof: crates/\S+ is another text"),
         ("a page with another line of crates.txt", readme.replace("site: elasticlunr", "site: std"), "crates.txt has no line"),
         ("a page with a command that fails", readme + "```console\n$ make no-such-thing\n```\n", "make no-such-thing: status 2"),
-        ("a page with a command that doesn't exist", readme.replace("$ make test", "$ make tests"), "make tests: status 2"),
+        ("a page with a command that doesn't exist", readme.replace("$ make test", "$ make tested"), "make tested: status 2"),
         ("a page with another answer", readme.replace("\nguide/search.html\n", "\nguide/other.html\n"), "it prints "),
         ("a page with a job that is none", readme.replace('"docs": [[', '"pages": [['), 'JSON: .*"pages" is not a key of a job'),
         ("a page with a link to no file", readme.replace("docs/PERF.md", "docs/SPEED.md"), "docs/SPEED.md: there is no such file"),

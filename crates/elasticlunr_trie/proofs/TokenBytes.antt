@@ -1,15 +1,12 @@
 -- Texts in the order of their characters stand in the order of their bytes.
-use Rattle.std.proofs.Common.{◌≡◌, ℕ, List, [], ◌∷◌, ◌++◌, String, Global, string_bytes, encode_utf8, encode_utf8_all, inl, inr, arith, sym, ap, subst, ◌∙◌, Less, Equal, Greater}
+use Rattle.std.proofs.Common.{◌≡◌, List, [], ◌∷◌, ◌++◌, String, Global, string_bytes, encode_utf8, encode_utf8_all, inl, inr, arith, sym, ap, subst, ◌∙◌, Less, Equal, Greater}
 use Rattle.std.proofs.lemmas.Str.{IsUtf8-string_bytes, encodes-chars}
-use Rattle.std.specs.Ordering.{nat_cmp, ordering_then}
-use Rattle.std.specs.declared.cmp.Ordering.{Ordering}
-use Rattle.std.specs.Cmp.{nat_cmp_is, ranked}
-use Rattle.std.specs.Cmp.Lexicographic.{slice_cmp}
+use Rattle.std.specs.Ordering.{ordering_then}
+use Rattle.std.specs.Cmp.{nat_cmp_is}
 use Rattle.std.specs.List.{AllByRecursion}
 use Rattle.std.specs.List.Sorted.{IsStrictlySortedBy}
-use Rattle.std.specs.Str.{chars}
 use Rattle.std.proofs.lemmas.Bool.{cases_lt, cases_eq}
-use Rattle.elasticlunr_error.specs.Text.{Text, Bytes, bytes_of, text_cmp, text_of, texts_of}
+use Rattle.elasticlunr_error.specs.Text.{Text, bytes_of, text_cmp, text_of, texts_of}
 use Rattle.elasticlunr_trie.proofs.Rising.{IsLess, none_before, rising_before}
 use Rattle.elasticlunr_trie.proofs.Visits.{front_less}
 

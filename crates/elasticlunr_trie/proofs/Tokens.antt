@@ -1,14 +1,13 @@
 -- The texts with postings below a place are the tokens that begin with its text.
-use Rattle.std.proofs.Common.{◌≡◌, ◌↔◌, inl, inr, ℕ, ◌<◌, Bool, true, false, List, [], ◌∷◌, length, Option, Some, None, is_some, IsSome, IsTrue, refl, sym, ap, subst, ◌∙◌, arith, bytes_eq, get_or}
+use Rattle.std.proofs.Common.{◌≡◌, ◌↔◌, inl, inr, ℕ, ◌<◌, Bool, true, false, List, [], ◌∷◌, length, Option, Some, None, is_some, IsTrue, refl, sym, ap, ◌∙◌, arith, bytes_eq, get_or}
 use Rattle.std.specs.Prelude.{◌||◌}
 use mathlib.Core.Bool.{false≢true}
 use Rattle.std.proofs.lemmas.Bool.{cases_eq, lt-ltb, ltb-true}
 use Rattle.std.proofs.lemmas.Slice.Eq.{bytes_eq-Decides}
 use Rattle.std.specs.List.Sorted.{IsStrictlySortedBy}
-use Rattle.std.specs.FinMap.{entries, get, len, len-entries}
+use Rattle.std.specs.FinMap.{entries, len, len-entries}
 use Rattle.elasticlunr_error.specs.Text.{Text, is_listed, text_cmp}
-use Rattle.elasticlunr_trie_nodes.specs.Frequencies.{Frequencies}
-use Rattle.elasticlunr_trie_nodes.specs.Table.{IsPrefix, posting}
+use Rattle.elasticlunr_trie_nodes.specs.Table.{posting}
 use Rattle.elasticlunr_trie_nodes.specs.Names.{Names, AreNames, at}
 use Rattle.elasticlunr_trie_nodes.specs.Nodes.{AreAllNumbered, postings_at}
 use Rattle.elasticlunr_trie_nodes.specs.Trie.{entries_at, step_of, table_of, walk, IsTrie}

@@ -1,5 +1,5 @@
 -- What is left to visit, step by step.
-use Rattle.std.proofs.Common.{◌≡◌, ◌⊎◌, inl, inr, ℕ, suc, ◌+◌, ◌*◌, ◌≤◌, List, [], ◌∷◌, ◌++◌, length, take, drop, IfOk, IfSome, IfNone, Option, Some, None, Result, Ok, Err, String, Global, string_bytes, encode_utf8, refl, sym, ap, subst, ◌∙◌, arith, append_assoc, append-nil, add-zero, length-append, take_all}
+use Rattle.std.proofs.Common.{◌≡◌, ◌⊎◌, inl, inr, ℕ, suc, ◌+◌, ◌≤◌, List, [], ◌∷◌, ◌++◌, length, take, IfOk, IfSome, IfNone, Option, Some, None, Result, Ok, Err, String, Global, string_bytes, encode_utf8, refl, sym, ap, subst, ◌∙◌, arith, append_assoc, append-nil, add-zero, length-append, take_all}
 use Rattle.std.proofs.Math.Seq.{take-append_seam, drop-append_seam}
 use Rattle.std.proofs.lemmas.List.{take-append-le, map-append, nil_from_length}
 use Rattle.std.proofs.lemmas.Str.{IsUtf8-string_bytes, IsUtf8-drop, IsCharBoundary-from_take, chars-append, chars-nil, chars_past_char}

@@ -1,9 +1,9 @@
-use Rattle.std.proofs.Common.{◌≡◌, ◌≢◌, ◌↔◌, ℕ, List, [], ◌∷◌, Some, None, cond, is_some, refl, sym, ap, ◌∙◌}
+use Rattle.std.proofs.Common.{◌≡◌, ◌≢◌, ℕ, List, [], ◌∷◌, Some, cond, is_some, refl, sym, ap, ◌∙◌}
 use mathlib.Core.Bool.{false≢true}
-use Rattle.std.specs.FinMap.{entries, find, get, get-entries}
+use Rattle.std.specs.FinMap.{entries, find, get-entries}
 use Rattle.elasticlunr_error.specs.Text.{Text, Bytes, text_cmp}
 use Rattle.elasticlunr_json.proofs.Texts.{text_tied}
-use Rattle.elasticlunr_trie_nodes.specs.Table.{Table, Postings, postings}
+use Rattle.elasticlunr_trie_nodes.specs.Table.{Table, postings}
 use Rattle.elasticlunr_trie.specs.Tokens.{IsToken}
 use Rattle.elasticlunr_trie.proofs.laws.tokens_have_postings.Goals as goal
 

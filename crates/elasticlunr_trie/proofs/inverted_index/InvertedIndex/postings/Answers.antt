@@ -1,4 +1,4 @@
-use Rattle.std.proofs.Common.{◌≡◌, ap, sym, subst, ◌∙◌}
+use Rattle.std.proofs.Common.{ap, sym, subst, ◌∙◌}
 use Rattle.std.specs.FinMap.{entries}
 use Rattle.std.specs.Str.{chars}
 use Rattle.elasticlunr_trie_nodes.specs.Names.{ArePostings, named_pairs}

@@ -1,4 +1,4 @@
-use Rattle.std.proofs.Common.{◌≡◌, Some, [], ◌∷◌, ◌++◌, length, refl, sym, ap, subst, ◌∙◌, get_or, take_all}
+use Rattle.std.proofs.Common.{◌≡◌, Some, [], ◌∷◌, ◌++◌, length, refl, sym, ap, ◌∙◌, get_or, take_all}
 use Rattle.std.proofs.lemmas.List.{get_or_read_under}
 use Rattle.std.specs.List.{slice_get}
 use Rattle.elasticlunr_trie_nodes.specs.Names.{under_names}

@@ -1,4 +1,4 @@
-use Rattle.std.proofs.Common.{◌≡◌, inl, inr, ℕ, Bool, sym, ap, ◌∙◌, arith, length, eqb, ne_eqb}
+use Rattle.std.proofs.Common.{◌≡◌, inl, inr, ℕ, sym, ap, ◌∙◌, arith, length, eqb, ne_eqb}
 use mathlib.Core.Bool.{not}
 use Rattle.std.proofs.lemmas.Bool.{cases_eq, eq-eqb, le-ltb, lt-ltb}
 use Rattle.std.specs.Ordering.{nat_cmp}
@@ -6,7 +6,6 @@ use Rattle.std.specs.FinMap.{len, len-empty, len-entries}
 use Rattle.std.specs.Prelude.{nat_lt}
 use Rattle.elasticlunr_trie_nodes.specs.Nodes.{entries_of}
 use Rattle.elasticlunr_trie_nodes.proofs.Places.{get_past}
-use Rattle.elasticlunr_trie.proofs.Tokens.{none_rise}
 use Rattle.elasticlunr_trie.proofs.inverted_index.tokens.has_posting.Goals as goal
 
 more_than_none : (n : ℕ) → not (eqb n 0) ≡ nat_lt 0 n

@@ -6,13 +6,13 @@ use Rattle.serde_json.specs.Data.{Data}
 use Rattle.elasticlunr_text.specs.Text.{Text, Bytes}
 use Rattle.elasticlunr_text.specs.Stages.{IsRun}
 use Rattle.elasticlunr.specs.After.{IsAfter}
-use Rattle.elasticlunr.specs.Current.{IsPrintedAfter}
+use Rattle.elasticlunr.specs.Current.{IsPrintedAfter, IsReadableAfter}
 use Rattle.elasticlunr.specs.Calls.{Call, adding, followed_by, IsCommandOf, AreCommandsOf}
 use Rattle.elasticlunr.specs.Choices.{Choices, beginning, with_fields, fields_plan, language_plan, Reads}
 use Rattle.elasticlunr.specs.Documents as documents
 use Rattle.elasticlunr_commands.specs.History.{Document, Command, add, Commands, none, ◌▸◌}
 use Rattle.elasticlunr.specs.Index.{SameSettings, ForCommands, IsDocument, plan_of, reads_of, StandsFor}
-use Rattle.elasticlunr_print.specs.Printed.{IsTextAfter}
+use Rattle.elasticlunr_print.specs.Printed.{IsPrintOf, IsTextAfter}
 use Rattle.elasticlunr.specs.Reading.{LanguageReads, ReadsOnly}
 use Rattle.elasticlunr_commands.specs.Standing.{Plan}
 use Rattle.elasticlunr.specs.Tokenizers.{MayAnswer}
@@ -77,6 +77,18 @@ printed_after name_of name_text tokens_of leaves leaves_of language plan calls i
   commands = was.commands;
   were = was.were;
   printed = subst (λ pl. IsTextAfter text_of pl was.commands text) was.prints (texts was.commands was.commands was.stands (inl refl));
+}
+
+-- and is read as its value
+pub readable_after : {L P X Y : Type 0} {O : X → Type 0} {F : Y → Type 0} {p : _} {g : _} (name_of : L → Bytes) (name_text : (v : X) × O v → Bytes)
+    (tokens_of : L → Text → List Text) (leaves : (v : X) × O v → Text → Option Text) (leaves_of : L → Text → Option Text → Type 0) (language : L) (plan : Plan) (calls : List Call)
+    (index : Index L P X Y O F p g) (text : List ℕ) → IsAfter name_of name_text tokens_of leaves leaves_of language plan calls index
+    → ((commands : Commands) → StandsFor name_of name_text index commands → IsPrintOf (plan_of name_of name_text index) commands text)
+    → IsReadableAfter (LanguageReads (tokens_of language) (leaves_of language)) plan calls text
+readable_after name_of name_text tokens_of leaves leaves_of language plan calls index text was prints = record {
+  commands = was.commands;
+  were = was.were;
+  print = subst (λ pl. IsPrintOf pl was.commands text) was.prints (prints was.commands was.stands);
 }
 
 -- nothing was called on a new index

@@ -16,7 +16,7 @@ use Rattle.elasticlunr_commands.proofs.Agreeing.{holds_agreed}
 use Rattle.elasticlunr_print.proofs.Fresh.{fresh_value}
 
 -- both are absent, or the document is made of the values
-IsMadeOf : (makes : List Bytes → Document → Type 0) → Option (List Bytes) → Option Document → Type 0
+unfoldable pub IsMadeOf : (makes : List Bytes → Document → Type 0) → Option (List Bytes) → Option Document → Type 0
 IsMadeOf makes None None = Unit {0}
 IsMadeOf makes None (Some d) = ⊥
 IsMadeOf makes (Some values) None = ⊥
@@ -40,7 +40,7 @@ module _ (fields : List Bytes) (reference_field : Bytes) (reads : ℕ → Bytes 
   Leads calls list = AllZip (IsCommandOf (IsDocument fields reference_field reads)) calls list
 
   -- the current document is made of the current values
-  current_made : (r : Bytes) (calls : List Call) (list : List Command) → AllZip (IsCommandOf (IsDocument fields reference_field reads)) calls list → (before : Option (List Bytes)) (commands : Commands)
+  pub current_made : (r : Bytes) (calls : List Call) (list : List Command) → AllZip (IsCommandOf (IsDocument fields reference_field reads)) calls list → (before : Option (List Bytes)) (commands : Commands)
       → IsMadeOf (IsDocument fields reference_field reads r) before (now commands r) → IsMadeOf (IsDocument fields reference_field reads r) (values_after before calls r) (now (followed_by commands list) r)
   unfolding IsMadeOf
   current_made r [] [] all before commands is = is

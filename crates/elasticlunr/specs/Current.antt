@@ -7,7 +7,7 @@ use Rattle.elasticlunr.specs.Calls.{Call, adding, removing, compacting, AreComma
 use Rattle.elasticlunr.specs.Documents as documents
 use Rattle.elasticlunr_commands.specs.Fields.{all_differ}
 use Rattle.elasticlunr_commands.specs.History.{Commands, Document}
-use Rattle.elasticlunr_print.specs.Printed.{IsTextAfter}
+use Rattle.elasticlunr_print.specs.Printed.{IsPrintOf, IsTextAfter}
 use Rattle.elasticlunr_commands.specs.Standing.{Plan}
 
 -- the values of the reference's current document after the calls, where these were its values before
@@ -57,6 +57,12 @@ pub record IsPrintedAfter (reads : ℕ → Bytes → List Text → Type 0) (text
   pub commands : Commands
   pub were : AreCommandsOf (documents.IsDocument plan.fields plan.reference_field reads) calls commands
   pub printed : IsTextAfter text_of plan commands text
+
+-- the text is printed of an index of this plan after these calls, and is read as its value
+pub record IsReadableAfter (reads : ℕ → Bytes → List Text → Type 0) (plan : Plan) (calls : List Call) (text : List ℕ) : Type 0 where
+  pub commands : Commands
+  pub were : AreCommandsOf (documents.IsDocument plan.fields plan.reference_field reads) calls commands
+  pub print : IsPrintOf plan commands text
 
 -- what is printed after the same calls is equal: of the one plan where the one makes the documents, of the other where the other does
 abbrev pub SameTexts : (makes other : Bytes → List Bytes → Document → Type 0) (plan another_plan : Plan) → Type 0

@@ -8,7 +8,7 @@ use Rattle.elasticlunr_lang.specs.Words.{words}
 use Rattle.elasticlunr_lang.specs.declared.any.AnyLanguage.{AnyLanguage}
 use Rattle.elasticlunr.specs.Calls.{Call}
 use Rattle.elasticlunr.specs.Choices.{fields_plan}
-use Rattle.elasticlunr.specs.Current.{IsPrintedAfter}
+use Rattle.elasticlunr.specs.Current.{IsPrintedAfter, IsReadableAfter}
 use Rattle.elasticlunr.specs.Documents.{IsDocument}
 use Rattle.elasticlunr_commands.specs.History.{Document}
 use Rattle.elasticlunr.specs.Reading.{LanguageReads}
@@ -33,6 +33,10 @@ IsKeptPrint language text_of plan calls text = IsPrintedAfter (KeptReads languag
 -- the text is what an index of this language and these fields prints after these calls, where nothing else was chosen
 abbrev pub IsTextOfCalls : AnyLanguage → (fields : List Bytes) → List Call → (text : List ℕ) → Type 0
 IsTextOfCalls language fields calls text = IsKeptPrint language compact_text (fields_plan (language_name language) (language_stages language) fields) calls text
+
+-- the same, and the text is read as the value of the index
+abbrev pub IsReadableText : AnyLanguage → (fields : List Bytes) → List Call → (text : List ℕ) → Type 0
+IsReadableText language fields calls text = IsReadableAfter (KeptReads language) (fields_plan (language_name language) (language_stages language) fields) calls text
 
 -- whatever the language and the plan, what is printed after the one calls and after the other is equal
 abbrev pub HaveEqualPrints : (calls others : List Call) → Type 0

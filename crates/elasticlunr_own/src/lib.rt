@@ -1,9 +1,12 @@
 //! A custom stage, language and tokenizer.
 #![tactic(auto)]
 
-ghost use Rattle.std.specs.Prelude.{◌≡◌, ◌∷◌, [], IfOk};
-ghost use Rattle.elasticlunr_text.specs.Text.{bytes_of};
+ghost use Rattle.std.specs.Prelude.{◌≡◌, ◌⊎◌, ◌∷◌, [], Err, IfErr, IfOk, IsTrue, codes};
+ghost use Rattle.elasticlunr.specs.Builder.{chosen};
+ghost use Rattle.elasticlunr.specs.Fields.{has_name};
+ghost use Rattle.elasticlunr.specs.IndexError.TheVariants.{DuplicateField, Memory};
 ghost use Rattle.elasticlunr.specs.OneAnswer.{HasOneAnswer};
+ghost use Rattle.elasticlunr.specs.Text.{bytes_of};
 
 use elasticlunr::lang::{English, tokenize_whitespace};
 use elasticlunr::pipeline::{Pipeline, PipelineFn, Stage};
@@ -16,7 +19,7 @@ pub struct DropEmpty {}
 
 impl PipelineFn for DropEmpty {
     ghost use Rattle.std.specs.Prelude.{codes};
-    ghost use Rattle.elasticlunr_text.specs.Trimmed.{unless_empty};
+    ghost use Rattle.elasticlunr.specs.Trimmed.{unless_empty};
 
     ghost name_text = { λ _. codes "dropEmpty" };
 
@@ -40,7 +43,7 @@ pub struct Plain {}
 
 impl Language for Plain {
     ghost use Rattle.std.specs.Prelude.{◌≡◌, ◌∷◌, [], Some, codes};
-    ghost use Rattle.elasticlunr_lang.specs.Words.{words};
+    ghost use Rattle.elasticlunr.specs.Words.{words};
 
     ghost name_of = { λ _. codes "Plain" };
 
@@ -73,13 +76,17 @@ impl Language for Plain {
 }
 
 /// The text of an index of trimmed words.
-pub fn index_of_words(alloc: Global) -> Result<String, IndexError> {
+pub fn index_of_words(alloc: Global) -> Result<String, IndexError>
+    ensures { IfErr result (λ e. e ≡ Memory) }
+{
     let own: Box<dyn PipelineFn> = Box::new(alloc, DropEmpty {})?;
     let queue = vec![in alloc; Stage::EnglishTrimmer, Stage::Own(own)]?;
     index_with_pipeline(alloc, Pipeline { queue })
 }
 
-fn index_with_pipeline(alloc: Global, pipeline: Pipeline) -> Result<String, IndexError> {
+fn index_with_pipeline(alloc: Global, pipeline: Pipeline) -> Result<String, IndexError>
+    ensures { IfErr result (λ e. e ≡ Memory) }
+{
     let mut index = IndexBuilder::with_language(alloc, Plain {})?
         .with_pipeline(pipeline)
         .add_field("about")?
@@ -107,6 +114,9 @@ pub fn index_with_tokenizer(
 ) -> Result<String, IndexError>
     requires callable { Tokenize.IsAlwaysCallable tokenizer }
     requires one_answer { HasOneAnswer (Tokenize.post tokenizer) }
+    ensures duplicate { result ≡ Err DuplicateField → IsTrue (has_name (codes "title") (chosen builder).fields)
+        ⊎ IsTrue (has_name (codes "body") (chosen builder).fields) }
+    ensures errors { IfErr result (λ e. (e ≡ DuplicateField) ⊎ (e ≡ Memory)) }
 {
     let mut index = builder
         .add_field_with_tokenizer("title", tokenizer)?

@@ -3,7 +3,7 @@ use Rattle.std.proofs.Common.{◌≡◌, ℕ, zero, suc, cond, List, [], ◌∷�
 use Rattle.std.specs.Prelude.{IsSomeAnd, Contains}
 use Rattle.std.specs.List.{slice_get}
 use Rattle.std.proofs.lemmas.Slice.Eq.{bytes_eq-Decides}
-use Rattle.elasticlunr_text.specs.Text.{Text, Bytes}
+use Rattle.elasticlunr.specs.Text.{Text, Bytes}
 use Rattle.elasticlunr.specs.Documents.{IsDocument, IsGiven}
 use Rattle.elasticlunr.specs.History.{Given, Document, Commands, none, ◌▸◌, add, now}
 use Rattle.elasticlunr.specs.ReadDocuments.{AreRead, HasReadToken}

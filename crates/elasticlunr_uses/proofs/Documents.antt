@@ -3,7 +3,7 @@ use Rattle.std.proofs.Common.{◌≡◌, ℕ, zero, suc, List, [], ◌∷◌, Op
 use Rattle.std.specs.Str.{chars}
 use Rattle.std.specs.Prelude.{IsSomeAnd}
 use Rattle.std.specs.List.{slice_get}
-use Rattle.elasticlunr_text.specs.Text.{Text, Bytes}
+use Rattle.elasticlunr.specs.Text.{Text, Bytes}
 use Rattle.elasticlunr.specs.Choices.{Choices, IsMadeAt, Reads}
 use Rattle.elasticlunr.specs.Documents.{IsDocument, IsGiven}
 use Rattle.elasticlunr.specs.History.{Given, Document}

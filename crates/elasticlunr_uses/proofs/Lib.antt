@@ -1,5 +1,6 @@
-pub mod Documents
 pub mod Answering
+pub mod Documents
+pub mod OneToken
 pub mod Orders
 pub mod Plans
 pub mod Sharing

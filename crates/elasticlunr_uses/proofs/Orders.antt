@@ -1,7 +1,7 @@
 -- Which documents are current, whatever the order of their references.
 use Rattle.std.proofs.Common.{◌≡◌, ◌≢◌, [], ◌∷◌, IsTrue, Bool, true, false, cond, not, ◌&&◌, ◌||◌, Option, None, bytes_eq, refl, sym, ap, ◌∙◌}
 use Rattle.std.proofs.lemmas.Slice.Eq.{bytes_eq-Decides}
-use Rattle.elasticlunr_text.specs.Text.{Bytes}
+use Rattle.elasticlunr.specs.Text.{Bytes}
 use Rattle.elasticlunr.specs.Fields.{all_differ}
 
 -- other texts are not equal

@@ -1,6 +1,6 @@
 -- How an index is printed, by what it was built with.
 use Rattle.std.proofs.Common.{◌≡◌, List, true, codes}
-use Rattle.elasticlunr_text.specs.Text.{Bytes}
+use Rattle.elasticlunr.specs.Text.{Bytes}
 use Rattle.elasticlunr.specs.Choices.{Choices, plan_with, fields_plan}
 
 -- nothing was chosen but the language, the pipeline and the fields

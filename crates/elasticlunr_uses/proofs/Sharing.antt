@@ -3,7 +3,7 @@ use Rattle.std.proofs.Common.{◌≡◌, ◌≢◌, ◌⊎◌, ℕ, cond, List, 
 use Rattle.std.specs.Prelude.{IsSomeAnd, Contains}
 use Rattle.std.specs.List.{slice_get}
 use Rattle.std.proofs.lemmas.Slice.Eq.{bytes_eq-Decides}
-use Rattle.elasticlunr_text.specs.Text.{Text, Bytes}
+use Rattle.elasticlunr.specs.Text.{Text, Bytes}
 use Rattle.elasticlunr.specs.Calls.{HasOneReading}
 use Rattle.elasticlunr.specs.Documents.{IsDocument}
 use Rattle.elasticlunr.specs.Found.{AreThose}

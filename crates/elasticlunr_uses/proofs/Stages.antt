@@ -4,11 +4,11 @@ use Rattle.std.specs.Prelude.{MatchOption}
 use Rattle.std.specs.List.{AllZip, cons_option}
 use Rattle.std.specs.declared.alloc.Global.{Global}
 use Rattle.std.specs.declared.dyn_box.DynBox.{DynBox}
-use Rattle.elasticlunr_text.specs.Text.{Text, Bytes}
-use Rattle.elasticlunr_text.specs.Stages.{stage_name, MayLeaveAll, MayRun}
-use Rattle.elasticlunr_text.specs.Trimmed.{trimmed, is_word_char}
-use Rattle.elasticlunr_text.specs.declared.pipeline.stage.Stage.{Stage}
-use Rattle.elasticlunr_text.specs.declared.pipeline.stage.Stage.TheVariants.{EnglishTrimmer, Own}
+use Rattle.elasticlunr.specs.Text.{Text, Bytes}
+use Rattle.elasticlunr.specs.Stages.{stage_name, MayLeaveAll, MayRun}
+use Rattle.elasticlunr.specs.Trimmed.{trimmed, is_word_char}
+use Rattle.elasticlunr.specs.Stage.{Stage}
+use Rattle.elasticlunr.specs.Stage.TheVariants.{EnglishTrimmer, Own}
 
 -- where no stage follows
 left_last : (first left : Option Text) → MatchOption first (left ≡ None) (λ t. left ≡ Some t) → left ≡ first

@@ -1,7 +1,7 @@
 -- Pages of a site, and the text of their index.
 use Rattle.std.specs.Prelude.{ℕ, List, [], ◌∷◌, codes}
-use Rattle.elasticlunr_text.specs.Text.{Bytes}
-use Rattle.elasticlunr_lang.specs.declared.any.AnyLanguage.TheVariants.{English as english}
+use Rattle.elasticlunr.specs.Text.{Bytes}
+use Rattle.elasticlunr.specs.AnyLanguage.TheVariants.{English as english}
 use Rattle.elasticlunr.specs.Calls.{Call, adding, removing}
 use Rattle.elasticlunr.specs.Kept.{IsTextOfCalls}
 use Rattle.elasticlunr_uses.specs.declared.page.Page.{Page}

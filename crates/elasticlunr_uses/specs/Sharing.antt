@@ -1,7 +1,7 @@
 -- Texts that have tokens in common.
 use Rattle.std.specs.Prelude.{List, Contains}
-use Rattle.elasticlunr_text.specs.Text.{Text, Bytes}
-use Rattle.elasticlunr_lang.specs.declared.any.AnyLanguage.TheVariants.{English as english}
+use Rattle.elasticlunr.specs.Text.{Text, Bytes}
+use Rattle.elasticlunr.specs.AnyLanguage.TheVariants.{English as english}
 use Rattle.elasticlunr.specs.Kept.{KeptReads}
 use Rattle.elasticlunr_search.specs.Words.{Asks}
 

@@ -13,24 +13,44 @@ pub enum UseError {
 }
 
 impl From<IndexError> for UseError {
+    ghost use Rattle.elasticlunr_uses.specs.declared.error.UseError.TheVariants.{Index};
+    ghost use Rattle.std.specs.Prelude.{◌≡◌};
+
+    ghost from_gives = { λ error e. e ≡ Index error };
+
     fn from(error: IndexError) -> UseError {
         UseError::Index(error)
     }
 }
 
 impl From<SearchError> for UseError {
+    ghost use Rattle.elasticlunr_uses.specs.declared.error.UseError.TheVariants.{Search};
+    ghost use Rattle.std.specs.Prelude.{◌≡◌};
+
+    ghost from_gives = { λ error e. e ≡ Search error };
+
     fn from(error: SearchError) -> UseError {
         UseError::Search(error)
     }
 }
 
 impl From<AllocError> for UseError {
+    ghost use Rattle.elasticlunr_uses.specs.declared.error.UseError.TheVariants.{Memory};
+    ghost use Rattle.std.specs.Prelude.{◌≡◌};
+
+    ghost from_gives = { λ _ e. e ≡ Memory };
+
     fn from(_refused: AllocError) -> UseError {
         UseError::Memory
     }
 }
 
 impl<T: Drop> From<AllocFailed<T>> for UseError {
+    ghost use Rattle.elasticlunr_uses.specs.declared.error.UseError.TheVariants.{Memory};
+    ghost use Rattle.std.specs.Prelude.{◌≡◌};
+
+    ghost from_gives = { λ _ e. e ≡ Memory };
+
     fn from(_refused: AllocFailed<T>) -> UseError {
         UseError::Memory
     }

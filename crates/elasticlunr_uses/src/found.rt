@@ -5,8 +5,8 @@
 //! token is what the language leaves of a word (trimmed, no stop word, stemmed), and that of two
 //! documents with one reference the later one stays.
 ghost use Rattle.std.specs.Prelude.{◌≡◌, ◌≢◌, ◌⊎◌, List, IfOk, Contains};
-ghost use Rattle.elasticlunr_text.specs.Text.{Text, bytes_of};
-ghost use Rattle.elasticlunr_lang.specs.declared.any.AnyLanguage.TheVariants.{English as english};
+ghost use Rattle.elasticlunr.specs.Text.{Text, bytes_of};
+ghost use Rattle.elasticlunr.specs.AnyLanguage.TheVariants.{English as english};
 ghost use Rattle.elasticlunr.specs.Found.{AreThose};
 ghost use Rattle.elasticlunr.specs.Kept.{KeptReads};
 ghost use Rattle.elasticlunr_search.specs.Words.{Asks};

@@ -3,7 +3,10 @@
 //! Two pages go into an index, and in the other order into another one. Proved: both print equal
 //! texts. A caller has to know that a reference has one document: of two pages with one reference
 //! the later one stays, so there the order does matter.
-ghost use Rattle.std.specs.Prelude.{◌≡◌, ◌≢◌, ◌∷◌, [], IfOk, string_bytes};
+ghost use Rattle.std.specs.Prelude.{◌≡◌, ◌≢◌, ◌∷◌, [], IfErr, IfOk, codes, string_bytes};
+ghost use Rattle.elasticlunr.specs.AnyLanguage.TheVariants.{English as english};
+ghost use Rattle.elasticlunr.specs.IndexError.TheVariants.{Memory};
+ghost use Rattle.elasticlunr.specs.Kept.{IsReadableText};
 ghost use Rattle.elasticlunr_uses.specs.Pages.{adding_page, IsTextOf};
 
 use crate::page::Page;
@@ -23,6 +26,7 @@ pub fn in_either_order(
         IsTextOf (adding_page other.entry ∷ adding_page one.entry ∷ []) (string_bytes texts.1)) }
     ensures equal { IfOk result (λ texts. one.entry.reference.now ≢ other.entry.reference.now
         → string_bytes texts.0 ≡ string_bytes texts.1) }
+    ensures errors { IfErr result (λ e. e ≡ Memory) }
 {
     current_documents_decide_the_text();
     let forwards = in_order(alloc, one, other)?;
@@ -32,8 +36,11 @@ pub fn in_either_order(
 
 /// The text of the index of two pages, in this order.
 pub fn in_order(alloc: Global, first: Page<'_>, second: Page<'_>) -> Result<String, IndexError>
-    ensures { IfOk result (λ text.
+    ensures text { IfOk result (λ text.
         IsTextOf (adding_page first.entry ∷ adding_page second.entry ∷ []) (string_bytes text)) }
+    ensures readable { IfOk result (λ text. IsReadableText english (codes "body" ∷ [])
+        (adding_page first.entry ∷ adding_page second.entry ∷ []) (string_bytes text)) }
+    ensures errors { IfErr result (λ e. e ≡ Memory) }
 {
     let mut index = Index::new(alloc, &["body"])?;
     index.add_doc(first.reference, &[first.text])?;

@@ -3,8 +3,9 @@
 //! Three pages go into an index; then one has another text, one is removed, and the index is
 //! compacted. Proved: its text is that of a new index of the pages that remain. A caller has to
 //! know that only a compaction forgets the words of the old text and of the removed page.
-ghost use Rattle.std.specs.Prelude.{◌≡◌, ◌≢◌, ◌∷◌, [], IfOk, string_bytes};
+ghost use Rattle.std.specs.Prelude.{◌≡◌, ◌≢◌, ◌∷◌, [], IfErr, IfOk, string_bytes};
 ghost use Rattle.elasticlunr.specs.Calls.{compacting};
+ghost use Rattle.elasticlunr.specs.IndexError.TheVariants.{Memory};
 ghost use Rattle.elasticlunr_uses.specs.Pages.{adding_page, adding_text, removing_page, IsTextOf};
 
 use crate::order::in_order;
@@ -29,6 +30,7 @@ pub fn updated_and_new(
     ensures equal { IfOk result (λ texts. stays.entry.reference.now ≢ changes.entry.reference.now
         → stays.entry.reference.now ≢ goes.entry.reference.now
         → changes.entry.reference.now ≢ goes.entry.reference.now → string_bytes texts.0 ≡ string_bytes texts.1) }
+    ensures errors { IfErr result (λ e. e ≡ Memory) }
 {
     current_documents_decide_the_text();
     let changed = Page {
@@ -48,9 +50,10 @@ fn updated(
     goes: Page<'_>,
     changed: Page<'_>,
 ) -> Result<String, IndexError>
-    ensures { IfOk result (λ text.
+    ensures text { IfOk result (λ text.
         IsTextOf (adding_page stays.entry ∷ adding_page changes.entry ∷ adding_page goes.entry
         ∷ adding_page changed.entry ∷ removing_page goes.entry ∷ compacting ∷ []) (string_bytes text)) }
+    ensures errors { IfErr result (λ e. e ≡ Memory) }
 {
     let mut index = Index::new(alloc, &["body"])?;
     index.add_doc(stays.reference, &[stays.text])?;

@@ -1,5 +1,5 @@
 use Rattle.std.proofs.Common.{refl, sym, ◌∙◌}
-use Rattle.elasticlunr_text.proofs.TextLemmas.{is_not_empty-text_of}
+use Rattle.elasticlunr.proofs.TextLemmas.{is_not_empty-text_of}
 use Rattle.elasticlunr_own.proofs.DropEmptyPipelineFn.filter.Goals as goal
 
 pub returns-then-is_empty : goal.returns-then-is_empty

@@ -1,9 +1,9 @@
 use Rattle.std.proofs.Common.{◌∷◌, [], codes, refl, sym, ap, subst, ◌∙◌}
-use Rattle.elasticlunr_text.specs.Text.{bytes_of}
-use Rattle.elasticlunr_lang.specs.Known.{language_leaves}
-use Rattle.elasticlunr_lang.specs.declared.any.AnyLanguage.TheVariants.{English as english}
-use Rattle.elasticlunr_lang.specs.Words.{words}
-use Rattle.elasticlunr_lang.specs.declared.kept.english.English.{English}
+use Rattle.elasticlunr.specs.Text.{bytes_of}
+use Rattle.elasticlunr.specs.Known.{language_leaves}
+use Rattle.elasticlunr.specs.AnyLanguage.TheVariants.{English as english}
+use Rattle.elasticlunr.specs.Words.{words}
+use Rattle.elasticlunr.specs.English.{English}
 use Rattle.elasticlunr.specs.Index.{choices_of}
 use Rattle.elasticlunr.specs.History.{none, ◌▸◌, add}
 use Rattle.elasticlunr.specs.Printed.{IsPrintOf}

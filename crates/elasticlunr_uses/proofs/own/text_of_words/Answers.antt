@@ -1,7 +1,7 @@
 use Rattle.std.proofs.Common.{◌∷◌, [], codes, string_bytes, refl, subst}
 use Rattle.std.specs.Str.{chars}
-use Rattle.elasticlunr_text.specs.Trimmed.{unless_empty}
-use Rattle.elasticlunr_lang.specs.Words.{words}
+use Rattle.elasticlunr.specs.Trimmed.{unless_empty}
+use Rattle.elasticlunr.specs.Words.{words}
 use Rattle.elasticlunr.proofs.Holding.{if_ok}
 use Rattle.elasticlunr.specs.Choices.{fields_plan}
 use Rattle.elasticlunr.specs.History.{none, ◌▸◌, add}
@@ -10,8 +10,8 @@ use Rattle.elasticlunr_uses.proofs.Documents.{read_as}
 use Rattle.elasticlunr_uses.proofs.Stages.{names_are, trims_and_leaves}
 use Rattle.elasticlunr_uses.proofs.own.text_of_words.Goals as goal
 
-pub returns : goal.returns
-returns c =
+pub returns-clause-text : goal.returns-clause-text
+returns-clause-text c =
     let own = c.into_dyn_box.result in
     let there = c.into_dyn_box.ensures.0 in
     let stages = c.in_ok-queue.ensures.items in
@@ -19,4 +19,4 @@ returns c =
       is.0,
       subst (λ names. IsPrintOf (fields_plan (codes "Plain") names (codes "about" ∷ [])) (none ▸ add is.0) (string_bytes text)) (names_are own _ there _ c.in_ok-queue.queue.items stages (codes "dropEmpty") (λ value. refl)) is.1,
       read_as (codes "about" ∷ []) (codes "id") _ _ (λ i value tokens read. trims_and_leaves own _ there _ unless_empty (λ token v. refl) c.in_ok-queue.queue.items stages (words (chars value)) tokens read) _ _ is.0 is.2,
-    )) c.text_with_pipeline.ensures
+    )) c.text_with_pipeline.ensures.text

@@ -1,8 +1,8 @@
 use Rattle.std.proofs.Common.{◌≡◌, ◌∷◌, ◌++◌, [], None, List, codes, string_bytes, refl, ap, subst, ◌∙◌}
 use Rattle.std.specs.Prelude.{IfSome}
-use Rattle.elasticlunr_text.specs.Text.{Bytes}
-use Rattle.elasticlunr_text.specs.Stages.{names_by}
-use Rattle.elasticlunr_lang.specs.Words.{words}
+use Rattle.elasticlunr.specs.Text.{Bytes}
+use Rattle.elasticlunr.specs.Stages.{names_by}
+use Rattle.elasticlunr.specs.Words.{words}
 use Rattle.elasticlunr.specs.History.{none, ◌▸◌, add}
 use Rattle.elasticlunr.specs.Index.{choices_of}
 use Rattle.elasticlunr.specs.Printed.{IsPrintOf}
@@ -10,8 +10,8 @@ use Rattle.elasticlunr_uses.proofs.Documents.{document_read, read_by_pipeline}
 use Rattle.elasticlunr_uses.proofs.Plans.{plan_of_pipeline}
 use Rattle.elasticlunr_uses.proofs.own.text_with_pipeline.Goals as goal
 
-pub returns : goal.returns
-returns g c =
+pub returns-clause-text : goal.returns-clause-text
+returns-clause-text g c =
     let index = c.in_ok-index.index in
     let given = c.in_ok-index.ensures.given in
     let begun = c.in_ok-with_language.ensures.chosen in

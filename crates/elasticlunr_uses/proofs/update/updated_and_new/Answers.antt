@@ -1,15 +1,15 @@
 use Rattle.std.proofs.Common.{inl, inr, [], ◌∷◌, Some, bytes_eq, refl}
-use Rattle.elasticlunr_lang.specs.declared.any.AnyLanguage.TheVariants.{English as english}
-use Rattle.serde_json.specs.Written.{compact_text}
+use Rattle.elasticlunr.specs.AnyLanguage.TheVariants.{English as english}
+use Rattle.elasticlunr.specs.Written.{compact_text}
 use Rattle.elasticlunr.specs.Calls.{adding, removing}
 use Rattle.elasticlunr_uses.proofs.Orders.{after_update, not_both, two_differ}
 use Rattle.elasticlunr_uses.proofs.update.updated_and_new.Goals as goal
 
 pub returns-clause-updated : goal.returns-clause-updated
-returns-clause-updated c = c.in_ok-updated.ensures
+returns-clause-updated c = c.in_ok-updated.ensures.text
 
 pub returns-clause-new : goal.returns-clause-new
-returns-clause-new c = c.in_ok-new.ensures
+returns-clause-new c = c.in_ok-new.ensures.text
 
 pub returns-clause-equal : goal.returns-clause-equal
 returns-clause-equal c stays_changes stays_goes changes_goes =
@@ -24,4 +24,4 @@ returns-clause-equal c stays_changes stays_goes changes_goes =
     (inl (record { earlier = adding stays kept ∷ adding changes old ∷ adding goes gone ∷ adding changes new ∷ removing goes ∷ []; are = refl }))
     (inr (record { documents = (stays, kept) ∷ (changes, new) ∷ []; differ = two_differ stays changes stays_changes; are = refl }))
     (λ q. after_update (bytes_eq q stays) (bytes_eq q changes) (bytes_eq q goes) (Some kept) (Some old) (Some gone) (Some new) (not_both q stays goes stays_goes) (not_both q changes goes changes_goes))
-    english _ compact_text _ _ c.in_ok-updated.ensures c.in_ok-new.ensures
+    english _ compact_text _ _ c.in_ok-updated.ensures.text c.in_ok-new.ensures.text

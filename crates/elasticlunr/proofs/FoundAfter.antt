@@ -4,7 +4,7 @@ use Rattle.std.proofs.lemmas.Option.{slice_get-map}
 use Rattle.std.specs.Prelude.{IsSomeAnd, Contains}
 use Rattle.std.specs.List.{slice_get}
 use Rattle.elasticlunr_text.specs.Text.{Text, Bytes}
-use Rattle.elasticlunr.specs.Calls.{Call, HasOneReading, AreCommandsOf}
+use Rattle.elasticlunr.specs.Calls.{HasOneReading}
 use Rattle.elasticlunr.specs.Current.{current}
 use Rattle.elasticlunr.specs.Documents.{HoldsReference, IsDocument, IsGiven}
 use Rattle.elasticlunr.specs.FoundAfter.{IsReadOf, CallsAreRead, CallsTellTokens}

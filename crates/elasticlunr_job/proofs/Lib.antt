@@ -8,3 +8,4 @@ pub mod OneJob
 pub mod OneLanguage
 pub mod OneLine
 pub mod OneAnswer
+pub mod Calls

@@ -19,4 +19,5 @@ pub mod Across
 pub mod Joined
 pub mod Requested
 pub mod SameText
+pub mod AfterCalls
 mod Made

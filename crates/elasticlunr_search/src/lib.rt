@@ -9,6 +9,7 @@
 mod anew;
 pub mod answer;
 mod error;
+pub mod laws;
 mod parts;
 mod printed;
 mod rebuild;

@@ -1,6 +1,9 @@
 //! The search index of a site.
 #![tactic(auto)]
 
+ghost use Rattle.std.specs.Prelude.{◌≡◌, IfErr};
+ghost use Rattle.elasticlunr.specs.IndexError.TheVariants.{Memory};
+
 use elasticlunr::lang::German;
 use elasticlunr::{Index, IndexError};
 use std::alloc::Global;
@@ -18,7 +21,9 @@ pub fn search_index(
     alloc: Global,
     pages: &[Page<'_>],
     drafts: &[&str],
-) -> Result<String, IndexError> {
+) -> Result<String, IndexError>
+    ensures { IfErr result (λ e. e ≡ Memory) }
+{
     let mut index = Index::with_language(alloc, German::new(), &["title", "body"])?;
     for page in pages {
         match index.add_doc(page.address, page.texts) {

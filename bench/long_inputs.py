@@ -100,6 +100,20 @@ def check_search(folder):
     return right and ended.megabytes <= most, said if right else f"status {ended.status}, or another text"
 
 
+def check_deep_search(folder):
+    """Whether a token of a million characters is found by a small stack, and what there is to say."""
+    word = "k" * 1_000_000
+    run(json.dumps({"fields": ["body"], "docs": [["1", word]]}), folder)
+    index, lines = os.path.join(folder, "index.json"), os.path.join(folder, "found")
+    with open(index, encoding="utf-8") as file:
+        length = len(file.read())
+    ended = measured([COMMAND, "search", "--all", index, "kk"], os.devnull, lines, stack=STACK)
+    with open(lines, encoding="utf-8", errors="replace") as file:
+        right = ended.status == 0 and file.read() == ""
+    said = f"{length / 1e6:.1f} MB of an index, {ended.seconds:.2f} s, {ended.megabytes} MB at most"
+    return right, said if right else f"status {ended.status}, or another text"
+
+
 def main():
     is_asked = lambda name: len(sys.argv) < 2 or any(word in name for word in sys.argv[1:])
     cases = [
@@ -130,6 +144,11 @@ def main():
         passed += good
         failed += not good
         print(f"long input, a search: {said}", flush=True)
+    if is_asked("a deep search"):
+        good, said = check_deep_search(folder.name)
+        passed += good
+        failed += not good
+        print(f"long input, a deep search: {said}", flush=True)
     folder.cleanup()
     return told("long", passed, failed)
 

@@ -12,3 +12,4 @@ pub mod Unanswered
 pub mod SameText
 pub mod Source
 pub mod Anew
+pub mod Reading

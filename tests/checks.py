@@ -46,7 +46,7 @@ LEAST = {
     "refuse_memory": 2_000,
     "refuse_calls": 140,
     "forgeries": 55,
-    "long_inputs": 8,
+    "long_inputs": 9,
     "check_docs": 450,
     "command": 130,
     "check_jobs": 150,

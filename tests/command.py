@@ -160,6 +160,19 @@ def check_search(results):
         results.check("search in no field", ended == wanted, ended)
 
 
+def check_deep_search(results):
+    """A search finds in an index that nests deeper than a JSON value is read."""
+    word = "k" * 1000
+    with tempfile.TemporaryDirectory() as folder:
+        given = json.dumps([{"id": "1", "a": word}, {"id": "2", "a": "fox"}]).encode()
+        ran(folder, ["build", "-o", "index.json"], given)
+        for query, wanted in ((word, b"1\n"), (word[1:], b""), ("fox", b"2\n")):
+            ended = ran(folder, ["search", "index.json", query])
+            results.check(f"search of {len(query)} letters in a deep index", ended == (wanted, b"", 0), ended)
+        ended = ran(folder, ["search", "index.json", "fox", "--field", "b"])
+        results.check("search in no field of a deep index", ended == (b"", b'index.json: no field "b"\n', 2), ended)
+
+
 def check_scripts(folder, given, results):
     """A search reads an index in a script that `--js` wrote, and after a byte order mark."""
     for before in SCRIPTS:
@@ -351,7 +364,7 @@ def check_memory(results):
         results.check(f"memory refused in turn, {form}", wrong == 0 and refused >= LEAST, f"{refused} refused, {wrong} wrong")
 
 
-CHECKS = [check_forms, check_search, check_terminal, check_files, check_many, check_one_line, check_memory]
+CHECKS = [check_forms, check_search, check_deep_search, check_terminal, check_files, check_many, check_one_line, check_memory]
 
 
 def main():

@@ -118,6 +118,19 @@ def check_search(folder, results):
         print(said, flush=True)
 
 
+def check_deep_search(folder, results):
+    """A search on a small stack reads an index with a token of a million characters."""
+    run(json.dumps({"fields": ["body"], "docs": [["1", "k" * 1_000_000]]}), folder)
+    index, lines = os.path.join(folder, "index.json"), os.path.join(folder, "found")
+    ended = measured([COMMAND, "search", "--all", index, "kk"], os.devnull, lines, stack=STACK)
+    with open(lines, encoding="utf-8", errors="replace") as file:
+        good = ended.status == 0 and file.read() == ""
+    said = f"long input, a deep search: {os.path.getsize(index) / 1e6:.1f} MB of an index, {figures(ended)}"
+    results.note(good, said if ended.status == 0 else f"long input, a deep search: status {ended.status}")
+    if good:
+        print(said, flush=True)
+
+
 def main():
     results = Results("long")
     cases = [
@@ -135,6 +148,8 @@ def main():
                 check_input(case, folder, results)
         if is_asked("a search"):
             check_search(folder, results)
+        if is_asked("a deep search"):
+            check_deep_search(folder, results)
     return results.report()
 
 

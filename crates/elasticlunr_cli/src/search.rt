@@ -1,9 +1,9 @@
 //! `search`: what a query finds in a printed index.
-ghost use Rattle.std.specs.Prelude.{◌≡◌, Some, IfOk, option_map, string_bytes};
+ghost use Rattle.std.specs.Prelude.{IfOk, option_map, string_bytes};
 ghost use Rattle.elasticlunr_input.specs.Mark.{without_mark};
 ghost use Rattle.elasticlunr_diagnostics.specs.Script.{IsIndexIn};
-ghost use Rattle.elasticlunr_job_format.specs.Reading.{reading};
 ghost use Rattle.elasticlunr_search.specs.Answers.{AreLinesFound};
+ghost use Rattle.elasticlunr_search.specs.Reading.{ReadsAs};
 ghost use Rattle.elasticlunr_text.specs.Text.{Bytes};
 ghost use Rattle.serde_json.specs.Data.{Data};
 
@@ -71,7 +71,7 @@ fn print_lines(rt: &HostRuntime, lines: &str) -> io::Result<()> {
 /// as it is or in a script, and maybe a byte order mark before it.
 fn found_lines(alloc: Global, file: &[u8], asked: &Asked<'_>) -> Result<String, Trouble>
     ensures { IfOk result (λ lines. (index : Bytes) × (v : Data)
-        × IsIndexIn (without_mark file.now) index × (reading index ≡ Some v)
+        × IsIndexIn (without_mark file.now) index × ReadsAs index v
         × AreLinesFound v asked.now.join (option_map (λ f. f.now) asked.now.field) asked.now.query.now
         (string_bytes lines)) }
 {
@@ -115,7 +115,9 @@ fn fields_of<'v>(alloc: Global, index: &'v Value) -> Result<Vec<&'v str>, AllocE
 fn no_field(alloc: Global, text: &[u8], field: &str) -> Result<Trouble, AllocError> {
     let index = match read_value(alloc, text) {
         Ok(index) => index,
-        Err(trouble) => return Ok(trouble),
+        Err(Trouble::Memory) => return Ok(Trouble::Memory),
+        // It nests deeper than a value is read, so no name is suggested.
+        Err(_) => Value::Null,
     };
     let fields = fields_of(alloc, &index)?;
     let said = match nearest(alloc, field, &fields)? {

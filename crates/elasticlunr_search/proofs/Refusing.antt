@@ -2,7 +2,7 @@
 use Rattle.std.proofs.Common.{◌≡◌, ◌≢◌, ◌⊎◌, inl, inr, ◌<◌, ℕ, List, None, Some, Result, Err, refl, sym, subst, ◌∙◌}
 use Rattle.std.proofs.lemmas.Bool.{cases_lt}
 use Rattle.serde_json.specs.Data.{Data, depth}
-use Rattle.serde_json.specs.Read.{read, max_depth}
+use Rattle.serde_json.specs.Read.{max_depth}
 use Rattle.elasticlunr_text.specs.Text.{Bytes}
 use Rattle.elasticlunr_store.specs.Contents.{Contents, IsConsistent}
 use Rattle.elasticlunr_trie.specs.Table.{Table}
@@ -36,13 +36,13 @@ lacks_none once v fields tables contents has are Memory lacks = refl
 -- a printed text is refused out of memory, for its depth, for its language, or for its stages
 pub accepted : ((v : Data) (name other : Bytes) → HasLanguage v name → HasLanguage v other → name ≡ other)
     → FieldsOnce → (language : Bytes) (stages : List Bytes) (text : List ℕ) (e : SearchError) → Refuses language stages text e → (plan : Plan) (commands : Commands) (p : IsPrintOf plan commands text)
-    → HasParts p.value plan.fields p.tables p.contents → HasLanguage p.value plan.language → (e ≡ Memory) ⊎ ((max_depth < depth p.value) ⊎ (((e ≡ OtherLanguage) × (plan.language ≢ language)) ⊎ ((e ≡ OtherPipeline) × (plan.stages ≢ stages))))
-accepted one once language stages text e refuses plan commands p has names = elim (cases_lt max_depth (depth p.value)) [ inl deep ↦ inr (inl deep) | inr shallow ↦ by_reading (p.read_as.reads shallow) refuses ] where
+    → HasParts p.value plan.fields p.tables p.contents → HasLanguage p.value plan.language → (e ≡ Memory) ⊎ (((e ≡ NotRead) × (max_depth < depth p.value)) ⊎ (((e ≡ OtherLanguage) × (plan.language ≢ language)) ⊎ ((e ≡ OtherPipeline) × (plan.stages ≢ stages))))
+accepted one once language stages text e refuses plan commands p has names = by_reading refuses where
   its_stages : HasStages p.value plan.stages
   its_stages = stages_held plan p.tables p.contents p.value p.printed
 
   by_value : RefusesValue language stages p.value e
-      → (e ≡ Memory) ⊎ ((max_depth < depth p.value) ⊎ (((e ≡ OtherLanguage) × (plan.language ≢ language)) ⊎ ((e ≡ OtherPipeline) × (plan.stages ≢ stages))))
+      → (e ≡ Memory) ⊎ (((e ≡ NotRead) × (max_depth < depth p.value)) ⊎ (((e ≡ OtherLanguage) × (plan.language ≢ language)) ⊎ ((e ≡ OtherPipeline) × (plan.stages ≢ stages))))
   by_value r = elim r [
     | inl other ↦ inr (inr (inl (other.0, λ same. other.1.2 (one p.value other.1.0 plan.language other.1.1 names ∙ same))))
     | inr more ↦ elim more [
@@ -51,12 +51,15 @@ accepted one once language stages text e refuses plan commands p has names = eli
     ]
   ]
 
-  by_reading : read text ≡ Some p.value → Refuses language stages text e
-      → (e ≡ Memory) ⊎ ((max_depth < depth p.value) ⊎ (((e ≡ OtherLanguage) × (plan.language ≢ language)) ⊎ ((e ≡ OtherPipeline) × (plan.stages ≢ stages))))
-  by_reading reads r = elim r [
-    | inl none ↦ (let wrong : None ≡ Some p.value = sym none.1 ∙ reads in absurd (cc))
+  by_reading : Refuses language stages text e
+      → (e ≡ Memory) ⊎ (((e ≡ NotRead) × (max_depth < depth p.value)) ⊎ (((e ≡ OtherLanguage) × (plan.language ≢ language)) ⊎ ((e ≡ OtherPipeline) × (plan.stages ≢ stages))))
+  by_reading r = elim r [
+    | inl none ↦ elim (cases_lt max_depth (depth p.value)) [
+      | inl deep ↦ inr (inl (none.0, deep))
+      | inr shallow ↦ (let wrong : None ≡ Some p.value = sym none.1 ∙ p.read_as.reads shallow in absurd (cc))
+    ]
     | inr more ↦ elim more [
-      | inl value ↦ by_value (subst (λ w. RefusesValue language stages w e) (p.read_as.no_other value.0 value.1) value.2)
+      | inl value ↦ by_value (subst (λ w. RefusesValue language stages w e) (p.read_as.no_other_within value.1.0 value.0 value.1.1) value.2)
       | inr m ↦ inl m
     ]
   ]

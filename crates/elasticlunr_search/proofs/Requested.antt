@@ -18,6 +18,7 @@ use Rattle.elasticlunr.specs.Shape.{HasLanguage}
 use Rattle.elasticlunr_print.proofs.Shapes.{one_language}
 use Rattle.elasticlunr_search.specs.Answers.{Asks, HasBelow, is_line_feed}
 use Rattle.elasticlunr_search.specs.Fields.{HasNoField, IsIndexWith}
+use Rattle.elasticlunr_search.specs.Reading.{ReadsAs}
 use Rattle.elasticlunr_search.specs.Refusal.{Lacks, RefusesValue, StopsBy}
 use Rattle.elasticlunr_search.specs.Unanswered.{IsNotSearched, IsRefusedBelow, IsTextNotSearched, refusal_of}
 use Rattle.elasticlunr_search.specs.Words.{asked_fields}
@@ -84,7 +85,7 @@ unread_text r text field e is why =
     rw (p.1, p.2) (elim why [ inl m ↦ rw m tt | inr n ↦ rw (n.0) (n.1) ])
 
 -- what is not searched of a value refuses the text that it was read of
-pub why_text : (text : Bytes) (v : Data) (field : Option Bytes) (e : Refusal) → read text ≡ Some v → IsNotSearched v field e → IsTextNotSearched text field e
+pub why_text : (text : Bytes) (v : Data) (field : Option Bytes) (e : Refusal) → ReadsAs text v → IsNotSearched v field e → IsTextNotSearched text field e
 why_text text v field refusal.NotARequest reads why = absurd why
 why_text text v field refusal.NotRead reads why = absurd why
 why_text text v field refusal.UnknownLanguage reads why = (v, reads, why)

@@ -6,7 +6,6 @@ use Rattle.std.specs.Ordering.{match_ordering, nat_cmp}
 use Rattle.std.specs.Cmp.Lexicographic.{slice_cmp}
 use Rattle.serde_json.specs.Data.{Data, null, boolean, number, unsigned, negative, float, string, array, object, Items, no_items, item, Members, no_members, member, put}
 use Rattle.serde_json.specs.Find.{get, get_member}
-use Rattle.serde_json.specs.Read.{read}
 use Rattle.serde_json.specs.View.{view, items_view}
 use Rattle.serde_json.specs.Written.{has_float, items_have_float, members_have_float}
 use Rattle.serde_json.specs.declared.value.Value.{Value}
@@ -22,6 +21,7 @@ use Rattle.elasticlunr_print.proofs.Plain.{no_float}
 use Rattle.elasticlunr_print.proofs.PlainValues.{value_plain}
 use Rattle.elasticlunr.specs.Shape.{HasParts, HasTrie, HasTries}
 use Rattle.elasticlunr_search.specs.Fields.{HasWholeTrie, HasWholeTries, IsIndexOf}
+use Rattle.elasticlunr_search.specs.Reading.{ReadsAs}
 use Rattle.elasticlunr_search.specs.Whole.{with_ones, items_with_ones, members_with_ones}
 use Rattle.elasticlunr_search.proofs.FieldTries.{each_weaker}
 
@@ -139,7 +139,7 @@ pub parts_of : (v : Data) (names : List Bytes) (tables : List Table) (contents :
 parts_of v names tables contents none is = record { fields = is.fields; tries = exact_tries v names tables none is.tries; store = is.store }
 
 -- so it is of a printed text, whose value has none
-pub print_parts : (plan : Plan) (commands : Commands) (text : List ℕ) (v : Data) (names : List Bytes) (tables : List Table) (contents : Contents) → IsPrintOf plan commands text → read text ≡ Some v → IsIndexOf v names tables contents → HasParts v names tables contents
+pub print_parts : (plan : Plan) (commands : Commands) (text : List ℕ) (v : Data) (names : List Bytes) (tables : List Table) (contents : Contents) → IsPrintOf plan commands text → ReadsAs text v → IsIndexOf v names tables contents → HasParts v names tables contents
 print_parts plan commands text v names tables contents print reads is =
     let none = no_float print.value (value_plain plan print.tables print.contents print.value print.printed) in
-    parts_of v names tables contents (subst (λ d. has_float d ≡ false) (sym (print.read_as.no_other v reads)) none) is
+    parts_of v names tables contents (subst (λ d. has_float d ≡ false) (sym (print.read_as.no_other_within reads.0 v reads.1)) none) is

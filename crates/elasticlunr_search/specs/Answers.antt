@@ -13,6 +13,7 @@ use Rattle.elasticlunr.specs.Printed.{IsPrintOf}
 use Rattle.elasticlunr.specs.Standing.{Plan}
 use Rattle.elasticlunr_search.specs.Fields.{IsIndexOf}
 use Rattle.elasticlunr_search.specs.Lines.{lines}
+use Rattle.elasticlunr_search.specs.Reading.{ReadsAs}
 use Rattle.elasticlunr_search.specs.Requests.{IsRequest}
 use Rattle.elasticlunr_search.specs.Tries.{FindsInTrie, FindsWithin}
 use Rattle.elasticlunr_search.specs.Words.{asked_fields, FindsInField, FindsWithinFields}
@@ -24,7 +25,7 @@ use Rattle.serde_json.specs.Read.{read}
 
 -- whatever printed text the value is of, these references are found of the query in the field, where this language read the documents
 abbrev pub AreFoundBy : AnyLanguage → Data → Request → List Bytes → Type 0
-AreFoundBy language v request found = (plan : Plan) (commands : Commands) (text : List ℕ) → read text ≡ Some v → IsPrintOf plan commands text
+AreFoundBy language v request found = (plan : Plan) (commands : Commands) (text : List ℕ) → ReadsAs text v → IsPrintOf plan commands text
     → FindsInField (KeptReads language) request.join plan commands request.field.now request.query.now found
 
 -- the value is that of an index with the field, and these references are found in the field's trie by the language that the value names
@@ -41,7 +42,7 @@ pub record AreFoundOf (v : Data) (request : Request) (found : List Bytes) : Type
 
 -- whatever printed text the value is of, these references have in one or more of the fields a token of the query, or each, where this language read the documents
 abbrev pub AreFoundWithinBy : AnyLanguage → Data → Join → (fields : List Bytes) → (query : Bytes) → (found : List Bytes) → Type 0
-AreFoundWithinBy language v join fields query found = (plan : Plan) (commands : Commands) (text : List ℕ) → read text ≡ Some v → IsPrintOf plan commands text
+AreFoundWithinBy language v join fields query found = (plan : Plan) (commands : Commands) (text : List ℕ) → ReadsAs text v → IsPrintOf plan commands text
     → FindsWithinFields (KeptReads language) join plan commands fields query found
 
 -- the value is that of an index, and the text has the lines of those that have, by the language that it names, a token of the query, or each, in the field of this name or else in one or more of all
@@ -67,7 +68,7 @@ Asks input request = (asked : Data) × (read (before_first is_line_feed input) �
 
 -- what stands below the first line has this value
 abbrev pub HasBelow : Bytes → Data → Type 0
-HasBelow input index = read (after_first is_line_feed input) ≡ Some index
+HasBelow input index = ReadsAs (after_first is_line_feed input) index
 
 -- the first line is a request, and what stands below it the text of an index, of which these lines are found
 pub record IsFoundBelow (input text : Bytes) : Type 0 where

@@ -13,3 +13,4 @@ pub mod SameText
 pub mod Source
 pub mod Anew
 pub mod AfterCalls
+pub mod Reading

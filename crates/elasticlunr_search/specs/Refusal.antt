@@ -8,6 +8,7 @@ use Rattle.elasticlunr.specs.Printed.{IsPrintOf}
 use Rattle.elasticlunr.specs.Shape.{HasFields, HasStore, HasLanguage}
 use Rattle.elasticlunr.specs.Standing.{Plan}
 use Rattle.elasticlunr_search.specs.Fields.{HasStages, HasWholeTries}
+use Rattle.elasticlunr_search.specs.Reading.{ReadsAs}
 use Rattle.serde_json.specs.Data.{Data, depth}
 use Rattle.serde_json.specs.Read.{read, max_depth}
 use Rattle.elasticlunr_search.specs.declared.error.SearchError.{SearchError}
@@ -36,14 +37,14 @@ Lacks v Memory = Unit {0}
 abbrev pub RefusesValue : (language : Bytes) → (stages : List Bytes) → Data → SearchError → Type 0
 RefusesValue language stages v e = ((e ≡ OtherLanguage) × NamesOther language v) ⊎ (((e ≡ OtherPipeline) × ¬ HasStages v stages) ⊎ Lacks v e)
 
--- why it refuses the text: it is not read, or its value is refused
+-- why it refuses the text: `serde_json` does not read it, or its value is refused
 abbrev pub Refuses : (language : Bytes) → (stages : List Bytes) → List ℕ → SearchError → Type 0
-Refuses language stages text e = ((e ≡ NotRead) × (read text ≡ None)) ⊎ (((v : Data) × (read text ≡ Some v) × RefusesValue language stages v e) ⊎ (e ≡ Memory))
+Refuses language stages text e = ((e ≡ NotRead) × (read text ≡ None)) ⊎ (((v : Data) × ReadsAs text v × RefusesValue language stages v e) ⊎ (e ≡ Memory))
 
--- why it refuses a text that was printed of an index: out of memory, for its depth, or since the index has another language or other stages
+-- why it refuses a text that was printed of an index: out of memory, as one that is not read, for its depth, or since the index has another language or other stages
 abbrev pub RefusesPrint : (language : Bytes) → (stages : List Bytes) → List ℕ → SearchError → Type 0
 RefusesPrint language stages text e = (plan : Plan) (commands : Commands) (print : IsPrintOf plan commands text)
-    → (e ≡ Memory) ⊎ ((max_depth < depth print.value) ⊎ (((e ≡ OtherLanguage) × (plan.language ≢ language)) ⊎ ((e ≡ OtherPipeline) × (plan.stages ≢ stages))))
+    → (e ≡ Memory) ⊎ (((e ≡ NotRead) × (max_depth < depth print.value)) ⊎ (((e ≡ OtherLanguage) × (plan.language ≢ language)) ⊎ ((e ≡ OtherPipeline) × (plan.stages ≢ stages))))
 
 -- it answers this refusal, or is out of memory
 abbrev pub IsRefusedBy : {T : Type 0} → Result T SearchError → SearchError → Type 0

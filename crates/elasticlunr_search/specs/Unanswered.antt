@@ -6,6 +6,7 @@ use Rattle.elasticlunr_lang.specs.Known.{all_languages, language_name, language_
 use Rattle.elasticlunr_lang.specs.declared.any.AnyLanguage.{AnyLanguage}
 use Rattle.elasticlunr_search.specs.Answers.{is_line_feed, Asks, HasBelow}
 use Rattle.elasticlunr_search.specs.Fields.{HasNoField, HasStages}
+use Rattle.elasticlunr_search.specs.Reading.{ReadsAs}
 use Rattle.elasticlunr_search.specs.Refusal.{Lacks}
 use Rattle.elasticlunr_search.specs.Requests.{IsNoRequest}
 use Rattle.elasticlunr_search.specs.declared.answer.Refusal.{Refusal}
@@ -72,7 +73,7 @@ IsNotSearched v field Memory = Unit {0}
 abbrev pub IsTextNotSearched : Bytes → Option Bytes → Refusal → Type 0
 IsTextNotSearched text field NotRead = read text ≡ None
 IsTextNotSearched text field Memory = Unit {0}
-IsTextNotSearched text field refusal = (v : Data) × (read text ≡ Some v) × IsNotSearched v field refusal
+IsTextNotSearched text field refusal = (v : Data) × ReadsAs text v × IsNotSearched v field refusal
 
 -- why nothing is searched for the text: there is no request above a line feed; what stands below it is not JSON; or its value is not searched
 abbrev pub IsRefusedBelow : Bytes → Refusal → Type 0

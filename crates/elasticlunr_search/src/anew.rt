@@ -1,21 +1,19 @@
 //! The parts of a printed index, rebuilt from its text and judged by printing them.
-ghost use Rattle.std.specs.Prelude.{◌≡◌, ◌<◌, [], true, Some, All, IfOk, IfSome, length, vec_len};
+ghost use Rattle.std.specs.Prelude.{◌≡◌, ◌<◌, true, All, IfOk, IfSome, length, vec_len};
 ghost use Rattle.elasticlunr_text.specs.Text.{bytes_of};
 ghost use Rattle.elasticlunr_commands.specs.Fields.{all_differ as differ};
 ghost use Rattle.elasticlunr_json.specs.Tokens.{IsSmallToken};
 ghost use Rattle.elasticlunr_print.specs.Parts.{IsPrinted};
 ghost use Rattle.elasticlunr_store.specs.Contents.{IsConsistent};
 ghost use Rattle.elasticlunr_search.specs.Anew.{IsAnew};
-ghost use Rattle.json.specs.Json.{skip_value};
 ghost use Rattle.json.specs.Lex.{tokens};
 ghost use Rattle.json.specs.Tree.{json_tokens};
 ghost use Rattle.serde_json.specs.Data.{Data};
-ghost use Rattle.serde_json.specs.Read.{max_depth};
 ghost use Rattle.serde_json.specs.Written.{outline};
 
 use crate::error::SearchError;
 use crate::printed::Printed;
-use crate::rebuild::{MAX_DEPTH, Rebuilt, rebuild};
+use crate::rebuild::{Rebuilt, rebuild};
 use crate::same_text::SameText;
 use crate::searcher::place_of;
 use elasticlunr_print::{Parts, write_index};
@@ -24,7 +22,7 @@ use json::{Reader, Scratch};
 use std::alloc::{AllocError, Global};
 
 /// How many fields are looked for one by one.
-const MANY_FIELDS: usize = 16;
+const MANY_FIELDS: usize = 1_000;
 
 /// The parts of an index, and the names of its language and its stages.
 #[derive(Drop)]
@@ -34,15 +32,11 @@ pub(crate) struct Anew {
     pub printed: Printed,
 }
 
-/// The parts of the index that the text is printed of, in any layout. `None` where the text has
-/// other tokens than an index is printed with, or nests deeper than it is read; where a trie knows a
-/// text that leads to no posting; and where there are many fields.
+/// The parts of the index that the text is printed of, in any layout and at any depth. `None` where
+/// the text has other tokens than an index is printed with, and where there are many fields.
 pub(crate) fn make_anew(alloc: Global, text: &str) -> Result<Option<Anew>, AllocError>
     ensures { IfOk result (λ o. IfSome o (IsAnew text.now)) }
 {
-    if !is_shallow(alloc, text)? {
-        return Ok(None);
-    }
     let mut scratch = Scratch::new(alloc);
     let mut reader = Reader::new(text, &mut scratch)?;
     match rebuild(alloc, text, &mut reader) {
@@ -52,19 +46,9 @@ pub(crate) fn make_anew(alloc: Global, text: &str) -> Result<Option<Anew>, Alloc
     }
 }
 
-/// Whether the text is one value that nests no deeper than `serde_json` reads.
-fn is_shallow(alloc: Global, text: &str) -> Result<bool, AllocError>
-    ensures { IfOk result (λ is. is ≡ true → skip_value max_depth (tokens text.now) ≡ Some []) }
-{
-    let mut scratch = Scratch::new(alloc);
-    let mut reader = Reader::new(text, &mut scratch)?;
-    Ok(reader.skip_value(MAX_DEPTH).is_ok() && reader.next().is_none())
-}
-
 /// What was made anew, if the text is printed of it.
 fn judged(alloc: Global, text: &str, rebuilt: Rebuilt<'_>) -> Result<Option<Anew>, AllocError>
-    requires shallow { skip_value max_depth (tokens text.now) ≡ Some [] }
-    requires consistent { IsConsistent rebuilt.store }
+    requires { IsConsistent rebuilt.store }
     ensures { IfOk result (λ o. IfSome o (IsAnew text.now)) }
 {
     let Rebuilt {

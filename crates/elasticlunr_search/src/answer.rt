@@ -4,6 +4,7 @@ ghost use Rattle.elasticlunr_text.specs.Text.{bytes_of};
 ghost use Rattle.elasticlunr_lang.specs.Known.{language_name};
 ghost use Rattle.elasticlunr_search.specs.Answers.{AreFoundOf, AreLinesFound, IsFoundBelow};
 ghost use Rattle.elasticlunr_search.specs.Lines.{lines};
+ghost use Rattle.elasticlunr_search.specs.Reading.{ReadsAs};
 ghost use Rattle.elasticlunr_search.specs.Source.{IsSource};
 ghost use Rattle.elasticlunr_search.specs.Unanswered.{IsNotSearched, IsRefusedBelow, IsTextNotSearched, NamesNone, refusal_text};
 ghost use Rattle.elasticlunr_search.specs.declared.answer.Refusal.TheVariants.{NotARequest, UnknownLanguage, Memory};
@@ -148,7 +149,7 @@ pub fn lines_found(
     field: Option<&str>,
     query: &str,
 ) -> Result<String, Refusal>
-    ensures found { IfOk result (λ lines. (v : Data) × (read text.now ≡ Some v)
+    ensures found { IfOk result (λ lines. (v : Data) × ReadsAs text.now v
         × AreLinesFound v join (option_map (λ f. f.now) field.entry) query.now (string_bytes lines)) }
     ensures refused { IfErr result (IsTextNotSearched text.now (option_map (λ f. f.now) field.entry)) }
 {

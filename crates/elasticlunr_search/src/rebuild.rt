@@ -13,8 +13,8 @@ use json::{Reader, Token};
 use serde_json::Value;
 use std::alloc::{AllocError, Global};
 
-/// How deep `serde_json` reads.
-pub(crate) const MAX_DEPTH: usize = 127;
+/// How deep `serde_json` reads, which is deeper than a document store nests.
+const MAX_DEPTH: usize = 127;
 
 /// What a printed text has, as it seems.
 #[derive(Drop)]
@@ -157,7 +157,8 @@ fn read_tries<'a>(
     }
 }
 
-/// A trie. Each posting is added under the characters of the keys that lead to it.
+/// A trie. Each posting is added under the characters of the keys that lead to it, so it costs a step
+/// for each of them. Texts that lead to no posting, as a removal leaves them, are known, too.
 fn read_trie(alloc: Global, reader: &mut Reader<'_>) -> Result<InvertedIndex, SearchError>
     ensures { OnOk result (length reader.new < length reader.old) }
 {
@@ -166,9 +167,15 @@ fn read_trie(alloc: Global, reader: &mut Reader<'_>) -> Result<InvertedIndex, Se
     take(reader, Token::BeginObject)?;
     let mut trie = InvertedIndex::new(alloc);
     let mut path = String::new(alloc);
+    // How much of the path the trie knows, in bytes.
+    let mut known = 0;
     'trie: loop {
         match next(reader)? {
-            Token::Key("docs") => read_postings(reader, &mut trie, path.as_str())?,
+            Token::Key("docs") => {
+                if read_postings(reader, &mut trie, path.as_str())? {
+                    known = path.len();
+                }
+            }
             Token::Key("df") => {
                 read_number(reader)?;
             }
@@ -177,14 +184,27 @@ fn read_trie(alloc: Global, reader: &mut Reader<'_>) -> Result<InvertedIndex, Se
                 path.push_str(letter)?;
             }
             Token::EndObject => {
+                if known < path.len() {
+                    learn(&mut trie, path.as_str())?;
+                }
                 if path.pop().is_none() {
                     take(reader, Token::EndObject)?;
                     return Ok(trie);
                 }
+                known = path.len();
             }
             _ => return Err(SearchError::NotRead),
         }
     }
+}
+
+/// Makes a text and its beginnings known, with no posting of it.
+fn learn(trie: &mut InvertedIndex, text: &str) -> Result<(), SearchError> {
+    if trie.add_token("", text, 1).is_err() {
+        return Err(SearchError::Memory);
+    }
+    trie.remove_token("", text);
+    Ok(())
 }
 
 /// Whether the text is one character.
@@ -193,24 +213,26 @@ fn is_letter(text: &str) -> bool {
     letters.next().is_some() && letters.next().is_none()
 }
 
-/// The postings of a token.
+/// The postings of a token, and whether there is one.
 fn read_postings(
     reader: &mut Reader<'_>,
     trie: &mut InvertedIndex,
     token: &str,
-) -> Result<(), SearchError>
+) -> Result<bool, SearchError>
     ensures { OnOk result (length reader.new < length reader.old) }
 {
     take(reader, Token::BeginObject)?;
+    let mut any = false;
     'postings: loop {
         match next(reader)? {
             Token::Key(reference) => {
+                any = true;
                 let frequency = read_frequency(reader)?;
                 if trie.add_token(reference, token, frequency).is_err() {
                     return Err(SearchError::Memory);
                 }
             }
-            Token::EndObject => return Ok(()),
+            Token::EndObject => return Ok(any),
             _ => return Err(SearchError::NotRead),
         }
     }

@@ -12,6 +12,7 @@ ghost use Rattle.elasticlunr.specs.Standing.{Plan, stored};
 ghost use Rattle.elasticlunr_search.specs.Query.{AreTokensOf, RunReads};
 ghost use Rattle.elasticlunr_search.specs.Tries.{tables_of};
 ghost use Rattle.elasticlunr_search.specs.Words.{asked_fields};
+ghost use Rattle.elasticlunr_search.specs.Reading.{ReadsAs};
 ghost use Rattle.elasticlunr_search.specs.Refusal.{Refuses, RefusesOthers, RefusesPrint, RefusesValue};
 ghost use Rattle.elasticlunr_search.specs.Source.{IsSource};
 ghost use Rattle.elasticlunr_search.specs.declared.error.SearchError.TheVariants.{NoSuchField, Memory};
@@ -54,13 +55,14 @@ impl<L: Language> Searcher<L> {
 
     /// Reads the printed text of an index, in any layout, once. The index must have been built with
     /// this language and its pipeline: a text that names another language or other stages is refused,
-    /// and one that names no language is read.
+    /// and one that names no language is read. It may nest as deep as it likes, if an index printed it;
+    /// if others wrote it, or with more than a thousand fields, no deeper than `serde_json` reads.
     pub fn read(alloc: Global, language: L, text: &str) -> Result<Searcher<L>, SearchError>
         ensures stands { IfOk result (λ s. (plan : Plan) (commands : Commands)
             → IsPrintOf plan commands text.now
             → StandsFor L.leaves_of leaves s language plan commands) }
         ensures speaks { IfOk result (λ s. Speaks L.leaves_of leaves s language) }
-        ensures parts { IfOk result (λ s. (v : Data) × (read text.now ≡ Some v) × HasPartsOf v s) }
+        ensures parts { IfOk result (λ s. (v : Data) × ReadsAs text.now v × HasPartsOf v s) }
         ensures refused { IfErr result (Refuses (L.name_of language) (L.stages_of language) text.now) }
         ensures accepted { IfErr result (RefusesPrint (L.name_of language) (L.stages_of language) text.now) }
         ensures other { (v : Data) → read text.now ≡ Some v
@@ -84,7 +86,7 @@ impl<L: Language> Searcher<L> {
         ensures stands { IfOk result (λ s. (plan : Plan) (commands : Commands)
             → IsPrintOf plan commands text.now → Searches s plan commands) }
         ensures chosen { IfOk result (λ s. IsChosen s language pipeline) }
-        ensures parts { IfOk result (λ s. (v : Data) × (read text.now ≡ Some v) × HasPartsOf v s) }
+        ensures parts { IfOk result (λ s. (v : Data) × ReadsAs text.now v × HasPartsOf v s) }
         ensures refused { IfErr result (Refuses (L.name_of language) (names_by name_text pipeline) text.now) }
         ensures accepted { IfErr result (RefusesPrint (L.name_of language) (names_by name_text pipeline) text.now) }
         ensures other { (v : Data) → read text.now ≡ Some v

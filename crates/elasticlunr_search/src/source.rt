@@ -4,6 +4,7 @@ ghost use Rattle.elasticlunr_text.specs.Text.{Bytes, bytes_of};
 ghost use Rattle.elasticlunr.specs.Shape.{HasLanguage};
 ghost use Rattle.elasticlunr_search.specs.Fields.{HasStages, IsIndexOf};
 ghost use Rattle.elasticlunr_search.specs.Refusal.{Lacks, NamesOther, StopsBy};
+ghost use Rattle.elasticlunr_search.specs.Reading.{ReadsAs};
 ghost use Rattle.elasticlunr_search.specs.Source.{IsSource};
 ghost use Rattle.elasticlunr_search.specs.declared.error.SearchError.TheVariants.{NotRead};
 ghost use Rattle.serde_json.specs.Data.{Data};
@@ -26,7 +27,7 @@ pub(crate) enum Source {
 impl Source {
     /// The index of a text.
     pub(crate) fn of_text(alloc: Global, text: &str) -> Result<Source, SearchError>
-        ensures ok { IfOk result (λ source. (v : Data) × (read text.now ≡ Some v) × IsSource source v) }
+        ensures ok { IfOk result (λ source. (v : Data) × ReadsAs text.now v × IsSource source v) }
         ensures err { IfErr result (StopsBy NotRead (read text.now ≡ None)) }
     {
         if let Some(index) = make_anew(alloc, text)? {

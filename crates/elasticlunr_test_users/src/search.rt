@@ -1,6 +1,8 @@
 //! Searches of what no index of the library's own languages prints: an index with a stage of the
-//! user's own, one with a tokenizer, and one that elasticlunr.js printed.
-use elasticlunr::IndexBuilder;
+//! user's own, one with a tokenizer, and one that elasticlunr.js printed; and of an index that nests
+//! deeper than a JSON value is read.
+use crate::texts::repeated;
+use elasticlunr::{Index, IndexBuilder};
 use elasticlunr::lang::English;
 use elasticlunr::pipeline::{Pipeline, PipelineFn, Stage};
 use elasticlunr_own::{DropEmpty, Plain, Tokenize, index_of_words, index_with_tokenizer, whole};
@@ -54,5 +56,25 @@ fn fractions_are_frequencies(rt: HostRuntime) -> Result<(), Fail> {
             .len(),
         0
     );
+    Ok(())
+}
+
+#[test]
+fn an_index_with_a_long_token_is_searched(rt: HostRuntime) -> Result<(), Fail> {
+    let alloc = rt.alloc();
+    let token = repeated(alloc, 'b', 1_000)?;
+    let mut index = Index::new(alloc, &["body"])?;
+    index.add_doc("1", &[token.as_str()])?;
+    index.add_doc("2", &["a fox"])?;
+    let text = index.to_json_pretty()?;
+    let searcher = Searcher::read(alloc, English::new(), text.as_str())?;
+    assert_eq!(rt; searcher.find_all("body", token.as_str())?.len(), 1);
+    assert_eq!(rt; searcher.find_all("body", "fox")?.len(), 1);
+    // The token stays in the trie, with no posting.
+    index.remove_doc("1")?;
+    let text = index.to_json()?;
+    let searcher = Searcher::read(alloc, English::new(), text.as_str())?;
+    assert_eq!(rt; searcher.find_all("body", token.as_str())?.len(), 0);
+    assert_eq!(rt; searcher.find_all("body", "fox")?.len(), 1);
     Ok(())
 }

@@ -24,7 +24,7 @@ returns-clause-found c v is =
     let searcher = c.in_ok-searcher.searcher in
     let parts = c.in_ok-searcher.ensures.parts v is in
     let speaks = c.in_ok-searcher.ensures.speaks in
-    let law = c.printed_texts_have_their_parts.ensures.only in
+    let law = c.printed_texts_have_their_parts.ensures.only_within in
     record {
       fields = fields_of searcher;
       tables = searcher.printed.tries.items;
@@ -36,6 +36,6 @@ returns-clause-found c v is =
       in_trie = c.in_ok-found.ensures.in_trie language speaks;
       are_found = λ plan commands text reads print. c.in_ok-found.ensures.found language plan commands (record {
         speaks = speaks;
-        read = law plan commands text v (bytes_of searcher.printed.fields.items) searcher.printed.tries.items searcher.printed.store print reads (print_parts plan commands text v _ _ _ print reads parts);
+        read = law plan commands text reads.0 v (bytes_of searcher.printed.fields.items) searcher.printed.tries.items searcher.printed.store print reads.1 (print_parts plan commands text v _ _ _ print reads parts);
       });
     }

@@ -40,7 +40,7 @@ returns-clause-found c =
     let searcher = c.in_ok-searcher.searcher in
     let parts = c.in_ok-searcher.ensures.parts v.0 v.2 in
     let speaks = c.in_ok-searcher.ensures.speaks in
-    let law = c.printed_texts_have_their_parts.ensures.only in (
+    let law = c.printed_texts_have_their_parts.ensures.only_within in (
       v.0,
       v.1,
       record {
@@ -55,7 +55,7 @@ returns-clause-found c =
         in_tries = c.in_ok-found.ensures.in_tries language speaks;
         are_found = λ plan commands text reads print. c.in_ok-found.ensures.found language plan commands (record {
           speaks = speaks;
-          read = law plan commands text v.0 (bytes_of searcher.printed.fields.items) searcher.printed.tries.items searcher.printed.store print reads (print_parts plan commands text v.0 _ _ _ print reads parts);
+          read = law plan commands text reads.0 v.0 (bytes_of searcher.printed.fields.items) searcher.printed.tries.items searcher.printed.store print reads.1 (print_parts plan commands text v.0 _ _ _ print reads parts);
         });
         are_lines = c.in_ok-lines_of.ensures ∙ ap (λ references. lines (bytes_of references)) c.deref.ensures.value;
       },

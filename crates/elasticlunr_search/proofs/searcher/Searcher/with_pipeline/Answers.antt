@@ -1,6 +1,8 @@
-use Rattle.std.proofs.Common.{◌≡◌, Some, inl, inr, sym, subst, ◌∙◌}
+use Rattle.std.proofs.Common.{◌≡◌, inl, inr, subst}
 use Rattle.std.proofs.lemmas.Result.{IfErr-weaker, IfOk-weaker}
 use Rattle.elasticlunr_text.specs.Text.{bytes_of}
+use Rattle.serde_json.specs.Read.{max_depth}
+use Rattle.elasticlunr_print.proofs.Readers.{one_read}
 use Rattle.elasticlunr_search.specs.Source.{IsSource}
 use Rattle.elasticlunr_search.proofs.Refusing.{accepted}
 use Rattle.elasticlunr_search.proofs.Whole.{print_parts}
@@ -9,7 +11,7 @@ use Rattle.elasticlunr_search.proofs.searcher.Searcher.with_pipeline.Goals as go
 pub returns-clause-stands : goal.returns-clause-stands
 returns-clause-stands g c = IfOk-weaker c.of_source.result _ _ (λ s parts plan commands print.
     let made = c.in_ok-source.ensures.ok in
-    c.printed_texts_have_their_parts.ensures.only plan commands c.args.text.now made.0 (bytes_of s.printed.fields.items) s.printed.tries.items s.printed.store print made.1 (print_parts plan commands c.args.text.now made.0 _ _ _ print made.1 (parts made.0 made.2))) c.of_source.ensures.parts
+    c.printed_texts_have_their_parts.ensures.only_within plan commands c.args.text.now made.1.0 made.0 (bytes_of s.printed.fields.items) s.printed.tries.items s.printed.store print made.1.1 (print_parts plan commands c.args.text.now made.0 _ _ _ print made.1 (parts made.0 made.2))) c.of_source.ensures.parts
 
 pub returns-clause-parts : goal.returns-clause-parts
 returns-clause-parts g c = IfOk-weaker c.of_source.result _ _ (λ s parts. let made = c.in_ok-source.ensures.ok in (made.0, made.1, parts made.0 made.2)) c.of_source.ensures.parts
@@ -28,6 +30,5 @@ returns-clause-accepted g c =
 pub returns-clause-other : goal.returns-clause-other
 returns-clause-other g c = λ v reads.
     let made = c.in_ok-source.ensures.ok in
-    let both : Some made.0 ≡ Some v = sym made.1 ∙ reads in
-    let same : made.0 ≡ v = cc (both) in
+    let same : made.0 ≡ v = one_read c.args.text.now made.1.0 max_depth made.0 v made.1.1 reads in
     c.of_source.ensures.other v (subst (IsSource c.in_ok-source.source) same made.2)

@@ -6,7 +6,7 @@ usage: refuse_memory.py [WORD ..]
 Each run of elasticlunr_index must end with status 1 and nothing written, or, if the program does without the refused
 request, with the whole answer. The first run that makes fewer requests must give the whole answer. The jobs, and what must
 be printed for them, are rows of the table of jobs: of each kind the one with the shortest text. At least LEAST requests of
-each job must have been refused with status 1. So a program that requests no memory, or whose requests aren't seen, fails.
+each job must have been refused with status 1. So a program that never asks for memory, or whose requests aren't seen, fails.
 
 A search ends with what there is to find, or with status 1 and nothing written. `elasticlunr` then says that it is out of
 memory, or nothing if it was reading its command line. Of the requests for that FEW are refused, and of those of a search

@@ -111,14 +111,20 @@ fn fields_of<'v>(alloc: Global, index: &'v Value) -> Result<Vec<&'v str>, AllocE
     Ok(names)
 }
 
+/// The value of a text, null where it nests deeper than a value is read.
+fn value_or_null(alloc: Global, text: &[u8]) -> Result<Value, AllocError> {
+    match read_value(alloc, text) {
+        Ok(value) => Ok(value),
+        Err(trouble) => match trouble {
+            Trouble::Memory => Err(AllocError),
+            _unread => Ok(Value::Null),
+        },
+    }
+}
+
 /// That an index has no such field.
 fn no_field(alloc: Global, text: &[u8], field: &str) -> Result<Trouble, AllocError> {
-    let index = match read_value(alloc, text) {
-        Ok(index) => index,
-        Err(Trouble::Memory) => return Ok(Trouble::Memory),
-        // It nests deeper than a value is read, so no name is suggested.
-        Err(_) => Value::Null,
-    };
+    let index = value_or_null(alloc, text)?;
     let fields = fields_of(alloc, &index)?;
     let said = match nearest(alloc, field, &fields)? {
         Some(near) => format!(in alloc; "no field \"{field}\"; did you mean \"{near}\"?")?,

@@ -2,7 +2,8 @@
 use Rattle.std.specs.Prelude.{◌≡◌, ℕ, List, [], ◌∷◌}
 use Rattle.std.specs.List.{AllZip}
 use Rattle.elasticlunr_text.specs.Text.{Text, Bytes}
-use Rattle.elasticlunr_commands.specs.History.{Document, Command, add, remove, compact, Commands, none, ◌▸◌}
+use Rattle.elasticlunr_commands.specs.History.{Document, Command, add, remove, compact, Commands}
+use Rattle.elasticlunr_commands.specs.History.{none, ◌▸◌}
 
 -- a document added, as its reference and its values; a reference removed; a compaction
 pub data Call : Type 0 where
@@ -12,15 +13,18 @@ pub data Call : Type 0 where
 
 -- at most one list of tokens is read of a value for a field
 abbrev pub HasOneReading : (reads : ℕ → Bytes → List Text → Type 0) → Type 0
-HasOneReading reads = (i : ℕ) (value : Bytes) (tokens others : List Text) → reads i value tokens → reads i value others → tokens ≡ others
+HasOneReading reads = (i : ℕ) (value : Bytes) (tokens others : List Text) → reads i value tokens
+    → reads i value others → tokens ≡ others
 
 -- at most one document is made of a reference and values
 abbrev pub HasOneDocument : (makes : Bytes → List Bytes → Document → Type 0) → Type 0
-HasOneDocument makes = (reference : Bytes) (values : List Bytes) (document other : Document) → makes reference values document → makes reference values other → document ≡ other
+HasOneDocument makes = (reference : Bytes) (values : List Bytes) (document other : Document)
+    → makes reference values document → makes reference values other → document ≡ other
 
 -- what the one makes of a reference and values, the other makes, too
 abbrev pub MakesOnly : (makes other : Bytes → List Bytes → Document → Type 0) → Type 0
-MakesOnly makes other = (reference : Bytes) (values : List Bytes) (document : Document) → makes reference values document → other reference values document
+MakesOnly makes other = (reference : Bytes) (values : List Bytes) (document : Document)
+    → makes reference values document → other reference values document
 
 -- the commands, and these after them, in order
 abbrev pub followed_by : Commands → List Command → Commands
@@ -49,8 +53,10 @@ module _ (makes : Bytes → List Bytes → Document → Type 0) where
 
 -- calls were the same commands where the one and where the other makes the documents
 abbrev pub SameCommands : (makes other : Bytes → List Bytes → Document → Type 0) → Type 0
-SameCommands makes other = (calls : List Call) (left right : Commands) → AreCommandsOf makes calls left → AreCommandsOf other calls right → left ≡ right
+SameCommands makes other = (calls : List Call) (left right : Commands)
+    → AreCommandsOf makes calls left → AreCommandsOf other calls right → left ≡ right
 
 -- what calls were where the one makes the documents, they were where the other does, too
 abbrev pub CommandsOnly : (makes other : Bytes → List Bytes → Document → Type 0) → Type 0
-CommandsOnly makes other = (calls : List Call) (commands : Commands) → AreCommandsOf makes calls commands → AreCommandsOf other calls commands
+CommandsOnly makes other = (calls : List Call) (commands : Commands)
+    → AreCommandsOf makes calls commands → AreCommandsOf other calls commands

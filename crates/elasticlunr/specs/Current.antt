@@ -1,5 +1,6 @@
 -- What calls leave current, and what is printed after them.
-use Rattle.std.specs.Prelude.{◌≡◌, ◌↔◌, ◌⊎◌, ℕ, List, [], ◌∷◌, ◌++◌, map, Option, None, Some, IsTrue, Contains, if◌then◌else◌}
+use Rattle.std.specs.Prelude.{◌≡◌, ◌↔◌, ◌⊎◌, ℕ, List, [], ◌∷◌, ◌++◌, map, Option, None, Some}
+use Rattle.std.specs.Prelude.{IsTrue, Contains, if◌then◌else◌}
 use Rattle.std.specs.Str.{bytes_eq}
 use Rattle.elasticlunr_text.specs.Text.{Text, Bytes}
 use Rattle.serde_json.specs.Data.{Data}
@@ -10,11 +11,14 @@ use Rattle.elasticlunr_commands.specs.History.{Commands, Document}
 use Rattle.elasticlunr_print.specs.Printed.{IsPrintOf, IsTextAfter}
 use Rattle.elasticlunr_commands.specs.Standing.{Plan}
 
--- the values of the reference's current document after the calls, where these were its values before
+-- the values of the reference's current document after the calls, where these were its values
+-- before
 abbrev pub values_after : Option (List Bytes) → List Call → Bytes → Option (List Bytes)
 values_after before [] r = before
-values_after before (adding s values ∷ calls) r = values_after (if bytes_eq r s then Some values else before) calls r
-values_after before (removing s ∷ calls) r = values_after (if bytes_eq r s then None else before) calls r
+values_after before (adding s values ∷ calls) r =
+    values_after (if bytes_eq r s then Some values else before) calls r
+values_after before (removing s ∷ calls) r = values_after (if bytes_eq r s then None else before)
+    calls r
 values_after before (compacting ∷ calls) r = values_after before calls r
 
 -- the values of the reference's current document after the calls of a new index
@@ -27,7 +31,8 @@ LeaveSameCurrent calls others = (r : Bytes) → current calls r ≡ current othe
 
 -- the same documents, each a reference and its values, stand in both lists
 abbrev pub HaveSameDocuments : (documents others : List (Bytes × List Bytes)) → Type 0
-HaveSameDocuments documents others = (document : Bytes × List Bytes) → Contains documents document ↔ Contains others document
+HaveSameDocuments documents others = (document : Bytes × List Bytes) → Contains documents document
+    ↔ Contains others document
 
 -- no two of the documents, each a reference and its values, have the same reference
 abbrev pub HaveOwnReferences : List (Bytes × List Bytes) → Type 0
@@ -52,20 +57,29 @@ pub record EndCompacting (calls : List Call) : Type 0 where
 abbrev pub LeaveOnlyCurrent : List Call → Type 0
 LeaveOnlyCurrent calls = EndCompacting calls ⊎ AddEachOnce calls
 
--- the text is printed of an index of this plan after these calls; `reads` relates the number of a field and a value to the tokens that are read of it
-pub record IsPrintedAfter (reads : ℕ → Bytes → List Text → Type 0) (text_of : Data → List ℕ) (plan : Plan) (calls : List Call) (text : List ℕ) : Type 0 where
+-- the text is printed of an index of this plan after these calls; `reads` relates the number of a
+-- field and a value to the tokens that are read of it
+pub record IsPrintedAfter (reads : ℕ → Bytes → List Text → Type 0) (text_of : Data → List ℕ)
+    (plan : Plan) (calls : List Call) (text : List ℕ) : Type 0 where
   pub commands : Commands
-  pub were : AreCommandsOf (documents.IsDocument plan.fields plan.reference_field reads) calls commands
+  pub were : AreCommandsOf (documents.IsDocument plan.fields plan.reference_field reads) calls
+      commands
   pub printed : IsTextAfter text_of plan commands text
 
 -- the text is printed of an index of this plan after these calls, and is read as its value
-pub record IsReadableAfter (reads : ℕ → Bytes → List Text → Type 0) (plan : Plan) (calls : List Call) (text : List ℕ) : Type 0 where
+pub record IsReadableAfter (reads : ℕ → Bytes → List Text → Type 0) (plan : Plan)
+    (calls : List Call) (text : List ℕ) : Type 0 where
   pub commands : Commands
-  pub were : AreCommandsOf (documents.IsDocument plan.fields plan.reference_field reads) calls commands
+  pub were : AreCommandsOf (documents.IsDocument plan.fields plan.reference_field reads) calls
+      commands
   pub print : IsPrintOf plan commands text
 
--- what is printed after the same calls is equal: of the one plan where the one makes the documents, of the other where the other does
-abbrev pub SameTexts : (makes other : Bytes → List Bytes → Document → Type 0) (plan another_plan : Plan) → Type 0
-SameTexts makes other plan another_plan = (calls : List Call) (left right : Commands) (text_of : Data → List ℕ) (text another : List ℕ)
+-- what is printed after the same calls is equal: of the one plan where the one makes the documents,
+-- of the other where the other does
+abbrev pub SameTexts : (makes other : Bytes → List Bytes → Document → Type 0)
+    (plan another_plan : Plan) → Type 0
+SameTexts makes other plan another_plan = (calls : List Call) (left right : Commands)
+    (text_of : Data → List ℕ) (text another : List ℕ)
     → AreCommandsOf makes calls left → AreCommandsOf other calls right
-    → IsTextAfter text_of plan left text → IsTextAfter text_of another_plan right another → text ≡ another
+    → IsTextAfter text_of plan left text → IsTextAfter text_of another_plan right another → text
+    ≡ another

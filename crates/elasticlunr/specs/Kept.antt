@@ -20,25 +20,38 @@ KeptReads language = LanguageReads words (language_leaves language)
 
 -- all that the language reads of the value is this token
 abbrev pub ReadsOneToken : AnyLanguage → (value : Bytes) → Text → Type 0
-ReadsOneToken language value token = (tokens : List Text) → KeptReads language 0 value tokens → tokens ≡ token ∷ []
+ReadsOneToken language value token = (tokens : List Text) → KeptReads language 0 value tokens
+    → tokens ≡ token ∷ []
 
 -- the document of a reference and values that the language makes for these fields
-abbrev pub IsKeptDocument : AnyLanguage → (fields : List Bytes) (reference_field reference : Bytes) (values : List Bytes) → Document → Type 0
-IsKeptDocument language fields reference_field = IsDocument fields reference_field (KeptReads language)
+abbrev pub IsKeptDocument : AnyLanguage → (fields : List Bytes) (reference_field reference : Bytes)
+    (values : List Bytes) → Document → Type 0
+IsKeptDocument language fields reference_field = IsDocument fields reference_field
+    (KeptReads language)
 
 -- the text is printed of an index of this language and this plan after these calls
-abbrev pub IsKeptPrint : AnyLanguage → (text_of : Data → List ℕ) → Plan → List Call → (text : List ℕ) → Type 0
-IsKeptPrint language text_of plan calls text = IsPrintedAfter (KeptReads language) text_of plan calls text
+abbrev pub IsKeptPrint : AnyLanguage → (text_of : Data → List ℕ) → Plan → List Call
+    → (text : List ℕ) → Type 0
+IsKeptPrint language text_of plan calls text = IsPrintedAfter (KeptReads language) text_of plan
+    calls text
 
--- the text is what an index of this language and these fields prints after these calls, where nothing else was chosen
-abbrev pub IsTextOfCalls : AnyLanguage → (fields : List Bytes) → List Call → (text : List ℕ) → Type 0
-IsTextOfCalls language fields calls text = IsKeptPrint language compact_text (fields_plan (language_name language) (language_stages language) fields) calls text
+-- the text is what an index of this language and these fields prints after these calls, where
+-- nothing else was chosen
+abbrev pub IsTextOfCalls : AnyLanguage → (fields : List Bytes) → List Call → (text : List ℕ)
+    → Type 0
+IsTextOfCalls language fields calls text = IsKeptPrint language compact_text
+    (fields_plan (language_name language) (language_stages language) fields) calls text
 
 -- the same, and the text is read as the value of the index
-abbrev pub IsReadableText : AnyLanguage → (fields : List Bytes) → List Call → (text : List ℕ) → Type 0
-IsReadableText language fields calls text = IsReadableAfter (KeptReads language) (fields_plan (language_name language) (language_stages language) fields) calls text
+abbrev pub IsReadableText : AnyLanguage → (fields : List Bytes) → List Call → (text : List ℕ)
+    → Type 0
+IsReadableText language fields calls text = IsReadableAfter (KeptReads language)
+    (fields_plan (language_name language) (language_stages language) fields) calls text
 
--- whatever the language and the plan, what is printed after the one calls and after the other is equal
+-- whatever the language and the plan, what is printed after the one calls and after the other is
+-- equal
 abbrev pub HaveEqualPrints : (calls others : List Call) → Type 0
-HaveEqualPrints calls others = (language : AnyLanguage) (plan : Plan) (text_of : Data → List ℕ) (text another : List ℕ)
-    → IsKeptPrint language text_of plan calls text → IsKeptPrint language text_of plan others another → text ≡ another
+HaveEqualPrints calls others = (language : AnyLanguage) (plan : Plan) (text_of : Data → List ℕ)
+    (text another : List ℕ)
+    → IsKeptPrint language text_of plan calls text → IsKeptPrint language text_of plan others
+    another → text ≡ another

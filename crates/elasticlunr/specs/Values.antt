@@ -8,12 +8,20 @@ use Rattle.elasticlunr.specs.Index.{choices, reads}
 use Rattle.elasticlunr_state.specs.Texts.{texts_left}
 use Rattle.elasticlunr.specs.declared.settings.Settings.{Settings}
 
--- In each definition `tokens_of` is what a language makes of a text and `leaves` what a boxed stage leaves of a token.
-module _ {L P X Y : Type 0} {O : X → Type 0} {F : Y → Type 0} {p : _} {g : _} (tokens_of : L → Text → List Text) (leaves : (v : X) × O v → Text → Option Text) where
+-- In each definition `tokens_of` is what a language makes of a text and `leaves` what a boxed stage
+-- leaves of a token.
+module _ {L P X Y : Type 0} {O : X → Type 0} {F : Y → Type 0} {p : _} {g : _} (tokens_of : L → Text
+    → List Text) (leaves : (v : X) × O v → Text → Option Text) where
   -- these tokens may be given with the value for the field of this number
-  abbrev pub MayBeGiven : Settings L P X Y O F p g → ℕ → Bytes → Option (Vec (String Global) Global) → Type 0
-  MayBeGiven settings i value tokens = IsGiven (choices settings).fields (choices settings).reference_field (reads tokens_of leaves settings) i (record { value = value; tokens = texts_left tokens })
+  abbrev pub MayBeGiven : Settings L P X Y O F p g → ℕ → Bytes → Option (Vec (String Global) Global)
+      → Type 0
+  MayBeGiven settings i value tokens = IsGiven (choices settings).fields
+      (choices settings).reference_field (reads tokens_of leaves settings) i
+      (record { value = value; tokens = texts_left tokens })
 
   -- for the first fields the values may be given with the tokens at their places
-  abbrev pub MayAllBeGiven : Settings L P X Y O F p g → List (Bor Bytes) → List (Option (Vec (String Global) Global)) → Type 0
-  MayAllBeGiven settings values tokens = (i : ℕ) (value : Bor Bytes) (left : Option (Vec (String Global) Global)) → slice_get values i ≡ Some value → slice_get tokens i ≡ Some left → MayBeGiven settings i value.now left
+  abbrev pub MayAllBeGiven : Settings L P X Y O F p g → List (Bor Bytes)
+      → List (Option (Vec (String Global) Global)) → Type 0
+  MayAllBeGiven settings values tokens = (i : ℕ) (value : Bor Bytes)
+      (left : Option (Vec (String Global) Global)) → slice_get values i ≡ Some value
+      → slice_get tokens i ≡ Some left → MayBeGiven settings i value.now left

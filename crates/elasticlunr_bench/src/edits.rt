@@ -1,4 +1,5 @@
-//! A site that is edited: pages come again with other texts, others go, the index is compacted, and
+//! A site that is edited: pages come again with other texts, others go, the index is compacted,
+//! and
 //! printed in lines.
 
 use crate::digest::Digest;

@@ -1,5 +1,6 @@
 -- No number of a script is a float.
-use Rattle.std.proofs.Common.{◌≡◌, ◌||◌, ℕ, false, List, [], ◌∷◌, ◌++◌, map, Option, None, Some, refl, ap, ◌∙◌, subst, sym}
+use Rattle.std.proofs.Common.{◌≡◌, ◌||◌, ℕ, false, List, [], ◌∷◌, ◌++◌, map, Option, None, Some, refl, ap, ◌∙◌, subst}
+use Rattle.std.proofs.Common.{sym}
 use Rattle.std.specs.List.{AllZip, filter_map}
 use Rattle.serde_json.specs.Data.{Data, number, unsigned, string}
 use Rattle.serde_json.specs.View.{items_of}
@@ -8,7 +9,8 @@ use Rattle.elasticlunr_text.specs.Text.{Bytes, bytes_of}
 use Rattle.elasticlunr_lang.specs.declared.any.AnyLanguage.{AnyLanguage}
 use Rattle.elasticlunr_lang.specs.declared.any.AnyLanguage.TheVariants.{English}
 use Rattle.elasticlunr_browser.specs.Facts.{IsFacts}
-use Rattle.elasticlunr_browser.specs.Kinds.{Kind, english_trimmer, stop_words, trimmer, english_stemmer, arabic_stemmer, keep, HoldsKind, HoldsKinds, HoldsLanguage, HoldsLanguages}
+use Rattle.elasticlunr_browser.specs.Kinds.{Kind, english_trimmer, stop_words, trimmer, english_stemmer, arabic_stemmer}
+use Rattle.elasticlunr_browser.specs.Kinds.{keep, HoldsKind, HoldsKinds, HoldsLanguage, HoldsLanguages}
 use Rattle.elasticlunr_browser.specs.Stages.{numbers, texts}
 
 -- none of these values has a float
@@ -37,10 +39,13 @@ none-kind english_trimmer d is = (cc)
 none-kind (stop_words filter) d is = ap has_float is.value ∙ ap (λ b. b || false) (none-texts (bytes_of is.words))
 none-kind (trimmer class) d is = ap has_float is.value ∙ ap (λ b. b || false) (none-numbers is.marks)
 none-kind english_stemmer d is = (cc)
-none-kind arabic_stemmer d is = ap has_float is.value ∙ (ap (λ b. b || (items_have_float (items_of (map (λ n. number (unsigned n)) is.marks)) || false)) (none-texts (bytes_of is.pairs)) ∙ ap (λ b. b || false) (none-numbers is.marks))
+none-kind arabic_stemmer d is = ap has_float is.value
+    ∙ (ap (λ b. b || (items_have_float (items_of (map (λ n. number (unsigned n)) is.marks)) || false))
+    (none-texts (bytes_of is.pairs)) ∙ ap (λ b. b || false) (none-numbers is.marks))
 none-kind (keep name) d is = ap has_float is
 
-none-kinds : (kinds : List Kind) (each : List (Option Data)) → AllZip HoldsKind kinds each → HaveNone (filter_map (λ d. d) each)
+none-kinds : (kinds : List Kind) (each : List (Option Data)) → AllZip HoldsKind kinds each
+    → HaveNone (filter_map (λ d. d) each)
 none-kinds [] [] all = tt
 none-kinds [] (d ∷ each) all = absurd all
 none-kinds (kind ∷ kinds) [] all = absurd all
@@ -58,11 +63,15 @@ none-languages : (languages : List AnyLanguage) (ds : List Data) → HoldsLangua
 none-languages [] ds holds = subst HaveNone (sym holds) tt
 none-languages (language ∷ languages) ds holds =
     let (its, others, one, more, is) = holds in
-    subst HaveNone (sym is) (none-append its others (none-language language its one) (none-languages languages others more))
+    subst HaveNone (sym is) (none-append its others (none-language language its one)
+    (none-languages languages others more))
 
-pub none-facts : (languages : List AnyLanguage) (stages : List Data) (d : Data) → HoldsLanguages languages stages → IsFacts stages d → has_float d ≡ false
+pub none-facts : (languages : List AnyLanguage) (stages : List Data) (d : Data) → HoldsLanguages languages stages
+    → IsFacts stages d → has_float d ≡ false
 none-facts languages stages d holds is =
     let listed = items_have_float (items_of stages) in
     ap has_float is.value
-    ∙ (ap (λ b. b || (items_have_float (items_of (map string (bytes_of is.pairs))) || (listed || false))) (none-numbers is.marks)
-    ∙ (ap (λ b. b || (listed || false)) (none-texts (bytes_of is.pairs)) ∙ ap (λ b. b || false) (none-items stages (none-languages languages stages holds))))
+    ∙ (ap (λ b. b || (items_have_float (items_of (map string (bytes_of is.pairs))) || (listed || false)))
+    (none-numbers is.marks)
+    ∙ (ap (λ b. b || (listed || false)) (none-texts (bytes_of is.pairs))
+    ∙ ap (λ b. b || false) (none-items stages (none-languages languages stages holds))))

@@ -1,5 +1,6 @@
 -- Stages of a pipeline by their kinds, and what a script holds of languages, as a loop puts it together.
-use Rattle.std.proofs.Common.{◌≡◌, ◌≢◌, ◌↔◌, ◌<◌, ◌+◌, ℕ, length, take, get_or, List, [], ◌∷◌, ◌++◌, Option, Some, None, MatchOption, IsTrue, map, string_bytes, Result, Ok, Err, refl, sym, ap, subst, ◌∙◌}
+use Rattle.std.proofs.Common.{◌≡◌, ◌≢◌, ◌↔◌, ◌<◌, ◌+◌, ℕ, length, take, get_or, List, [], ◌∷◌, ◌++◌, Option, Some, None}
+use Rattle.std.proofs.Common.{MatchOption, IsTrue, map, string_bytes, Result, Ok, Err, refl, sym, ap, subst, ◌∙◌}
 use Rattle.std.specs.List.{AllZip, AllByRecursion}
 use Rattle.std.specs.Str.{all_scalars}
 use Rattle.std.specs.declared.alloc.Global.{Global}
@@ -13,85 +14,134 @@ use Rattle.serde_json.specs.declared.value.Value.{Value}
 use Rattle.elasticlunr_text.specs.Text.{Text, Bytes}
 use Rattle.elasticlunr_text.specs.Stages.{IsKnown, MayLeave, MayLeaveAll, stage_name}
 use Rattle.elasticlunr_text.specs.declared.pipeline.stage.Stage.{Stage}
-use Rattle.elasticlunr_text.specs.declared.pipeline.stage.Stage.TheVariants.{EnglishTrimmer, StopWords, Class, EnglishStemmer, ArabicStemmer, Keep, Function, Own}
+use Rattle.elasticlunr_text.specs.declared.pipeline.stage.Stage.TheVariants.{EnglishTrimmer, StopWords, Class}
+use Rattle.elasticlunr_text.specs.declared.pipeline.stage.Stage.TheVariants.{EnglishStemmer, ArabicStemmer, Keep}
+use Rattle.elasticlunr_text.specs.declared.pipeline.stage.Stage.TheVariants.{Function, Own}
 use Rattle.elasticlunr_lang.specs.Known.{language_stages, language_leaves}
 use Rattle.elasticlunr_lang.specs.declared.any.AnyLanguage.{AnyLanguage}
-use Rattle.elasticlunr_lang.specs.declared.any.AnyLanguage.TheVariants.{English, Arabic, Danish, Dutch, Finnish, French, German, Italian, Korean, Norwegian, Portuguese, Romanian, Russian, Spanish, Swedish, Turkish}
-use Rattle.elasticlunr_browser.specs.Kinds.{Kind, english_trimmer, stop_words, trimmer, english_stemmer, arabic_stemmer, keep, kind_name, kind_of, KindLeaves, KindsLeave, HoldsKind, HoldsKinds, HoldsStage, HoldsStages, AreStagesOf, HoldsLanguage, HoldsLanguages}
+use Rattle.elasticlunr_lang.specs.declared.any.AnyLanguage.TheVariants.{English, Arabic, Danish, Dutch, Finnish, French}
+use Rattle.elasticlunr_lang.specs.declared.any.AnyLanguage.TheVariants.{German, Italian, Korean, Norwegian, Portuguese}
+use Rattle.elasticlunr_lang.specs.declared.any.AnyLanguage.TheVariants.{Romanian, Russian, Spanish, Swedish, Turkish}
+use Rattle.elasticlunr_browser.specs.Kinds.{Kind, english_trimmer, stop_words, trimmer, english_stemmer, arabic_stemmer}
+use Rattle.elasticlunr_browser.specs.Kinds.{keep, kind_name, kind_of, KindLeaves, KindsLeave, HoldsKind, HoldsKinds}
+use Rattle.elasticlunr_browser.specs.Kinds.{HoldsStage, HoldsStages, AreStagesOf, HoldsLanguage, HoldsLanguages}
 
 -- what one stage leaves, the others take up alike
-go_on : (P Q : Text → Type 0) (left first : Option Text) → ((t : Text) → P t → Q t) → MatchOption first (left ≡ None) P → MatchOption first (left ≡ None) Q
+go_on : (P Q : Text → Type 0) (left first : Option Text) → ((t : Text) → P t → Q t) → MatchOption first (left ≡ None) P
+    → MatchOption first (left ≡ None) Q
 go_on P Q left None same h = h
 go_on P Q left (Some t) same h = same t h
 
-module _ {f x p calls : _} (name_text : DynBox x Global p → Bytes) (leaves : DynBox x Global p → Text → Option Text) where
-  -- the stage has the name of the kind, and leaves what it leaves
-  record IsOf (stage : Stage f x p calls) (kind : Kind) : Type 0 where
-    kind_is : kind_of stage ≡ Some kind
-    name_is : kind_name kind ≡ stage_name name_text stage
-    leaves_as : (token : Text) (left : Option Text) → KindLeaves kind token left ↔ MayLeave leaves stage token left
+module _ {f x p calls : _} (name_text : DynBox x Global p → Bytes) (leaves : DynBox x Global p → Text → Option Text)
+  where
+    -- the stage has the name of the kind, and leaves what it leaves
+    record IsOf (stage : Stage f x p calls) (kind : Kind) : Type 0 where
+      kind_is : kind_of stage ≡ Some kind
+      name_is : kind_name kind ≡ stage_name name_text stage
+      leaves_as : (token : Text) (left : Option Text) → KindLeaves kind token left ↔ MayLeave leaves stage token left
 
-  its_kind : (stage : Stage f x p calls) → IsKnown stage → (kind : Kind) × IsOf stage kind
-  its_kind EnglishTrimmer known = (english_trimmer, record { kind_is = refl; name_is = refl; leaves_as = λ token left. (λ h. h, λ h. h) })
-  its_kind (StopWords filter) known = (stop_words filter, record { kind_is = refl; name_is = refl; leaves_as = λ token left. (λ h. h, λ h. h) })
-  its_kind (Class class) known = (trimmer class, record { kind_is = refl; name_is = refl; leaves_as = λ token left. (λ h. h, λ h. h) })
-  its_kind EnglishStemmer known = (english_stemmer, record { kind_is = refl; name_is = refl; leaves_as = λ token left. (λ h. h, λ h. h) })
-  its_kind ArabicStemmer known = (arabic_stemmer, record { kind_is = refl; name_is = refl; leaves_as = λ token left. (λ h. h, λ h. h) })
-  its_kind (Keep name) known = (keep (string_bytes name), record { kind_is = refl; name_is = refl; leaves_as = λ token left. (λ h. h, λ h. h) })
-  its_kind (Function wrapper) known = absurd known
-  its_kind (Own step) known = absurd known
+    its_kind : (stage : Stage f x p calls) → IsKnown stage → (kind : Kind) × IsOf stage kind
+    its_kind EnglishTrimmer known = (
+      english_trimmer,
+      record { kind_is = refl; name_is = refl; leaves_as = λ token left. (λ h. h, λ h. h) },
+    )
+    its_kind (StopWords filter) known = (
+      stop_words filter,
+      record { kind_is = refl; name_is = refl; leaves_as = λ token left. (λ h. h, λ h. h) },
+    )
+    its_kind (Class class) known = (
+      trimmer class,
+      record { kind_is = refl; name_is = refl; leaves_as = λ token left. (λ h. h, λ h. h) },
+    )
+    its_kind EnglishStemmer known = (
+      english_stemmer,
+      record { kind_is = refl; name_is = refl; leaves_as = λ token left. (λ h. h, λ h. h) },
+    )
+    its_kind ArabicStemmer known = (
+      arabic_stemmer,
+      record { kind_is = refl; name_is = refl; leaves_as = λ token left. (λ h. h, λ h. h) },
+    )
+    its_kind (Keep name) known = (
+      keep (string_bytes name),
+      record { kind_is = refl; name_is = refl; leaves_as = λ token left. (λ h. h, λ h. h) },
+    )
+    its_kind (Function wrapper) known = absurd known
+    its_kind (Own step) known = absurd known
 
-  their_kinds : (stages : List (Stage f x p calls)) → AllByRecursion IsKnown stages → (kinds : List Kind) × AllZip IsOf stages kinds
-  their_kinds [] known = ([], tt)
-  their_kinds (stage ∷ stages) known =
-      let its = its_kind stage known.0 in
-      let others = their_kinds stages known.1 in
-      (its.0 ∷ others.0, (its.1, others.1))
+    their_kinds : (stages : List (Stage f x p calls)) → AllByRecursion IsKnown stages → (kinds : List Kind)
+        × AllZip IsOf stages kinds
+    their_kinds [] known = ([], tt)
+    their_kinds (stage ∷ stages) known =
+        let its = its_kind stage known.0 in
+        let others = their_kinds stages known.1 in
+        (its.0 ∷ others.0, (its.1, others.1))
 
-  same_names : (stages : List (Stage f x p calls)) (kinds : List Kind) → AllZip IsOf stages kinds → map kind_name kinds ≡ map (stage_name name_text) stages
-  same_names [] [] are = refl
-  same_names [] (kind ∷ kinds) are = absurd are
-  same_names (stage ∷ stages) [] are = absurd are
-  same_names (stage ∷ stages) (kind ∷ kinds) are =
-      ap (λ name. name ∷ map kind_name kinds) are.0.name_is ∙ ap (λ names. stage_name name_text stage ∷ names) (same_names stages kinds are.1)
+    same_names : (stages : List (Stage f x p calls)) (kinds : List Kind) → AllZip IsOf stages kinds → map kind_name kinds
+        ≡ map (stage_name name_text) stages
+    same_names [] [] are = refl
+    same_names [] (kind ∷ kinds) are = absurd are
+    same_names (stage ∷ stages) [] are = absurd are
+    same_names (stage ∷ stages) (kind ∷ kinds) are =
+        ap (λ name. name ∷ map kind_name kinds) are.0.name_is ∙ ap (λ names. stage_name name_text stage ∷ names)
+        (same_names stages kinds are.1)
 
-  leave_same : (stages : List (Stage f x p calls)) (kinds : List Kind) → AllZip IsOf stages kinds → (token : Text) (left : Option Text) → KindsLeave kinds token left ↔ MayLeaveAll leaves stages token left
-  leave_same [] [] are token left = (λ h. h, λ h. h)
-  leave_same [] (kind ∷ kinds) are token left = absurd are
-  leave_same (stage ∷ stages) [] are token left = absurd are
-  leave_same (stage ∷ stages) (kind ∷ kinds) are token left = (
-    λ h. (h.0, (are.0.leaves_as token h.0).0 h.1, go_on (λ t. KindsLeave kinds t left) (λ t. MayLeaveAll leaves stages t left) left h.0 (λ t. (leave_same stages kinds are.1 t left).0) h.2),
-    λ h. (h.0, (are.0.leaves_as token h.0).1 h.1, go_on (λ t. MayLeaveAll leaves stages t left) (λ t. KindsLeave kinds t left) left h.0 (λ t. (leave_same stages kinds are.1 t left).1) h.2),
-  )
+    leave_same : (stages : List (Stage f x p calls)) (kinds : List Kind) → AllZip IsOf stages kinds
+        → (token : Text) (left : Option Text) → KindsLeave kinds token left ↔ MayLeaveAll leaves stages token left
+    leave_same [] [] are token left = (λ h. h, λ h. h)
+    leave_same [] (kind ∷ kinds) are token left = absurd are
+    leave_same (stage ∷ stages) [] are token left = absurd are
+    leave_same (stage ∷ stages) (kind ∷ kinds) are token left = (
+      λ h. (
+        h.0,
+        (are.0.leaves_as token h.0).0 h.1,
+        go_on (λ t. KindsLeave kinds t left)
+            (λ t. MayLeaveAll leaves stages t left) left h.0 (λ t. (leave_same stages kinds are.1 t left).0) h.2,
+      ),
+      λ h. (
+        h.0,
+        (are.0.leaves_as token h.0).1 h.1,
+        go_on (λ t. MayLeaveAll leaves stages t left)
+            (λ t. KindsLeave kinds t left) left h.0 (λ t. (leave_same stages kinds are.1 t left).1) h.2,
+      ),
+    )
 
-  same_held : (stages : List (Stage f x p calls)) (kinds : List Kind) (each : List (Option Data)) → AllZip IsOf stages kinds → AllZip HoldsStage stages each → AllZip HoldsKind kinds each
-  same_held [] [] [] are held = tt
-  same_held [] [] (d ∷ each) are held = absurd held
-  same_held [] (kind ∷ kinds) each are held = absurd are
-  same_held (stage ∷ stages) [] each are held = absurd are
-  same_held (stage ∷ stages) (kind ∷ kinds) [] are held = absurd held
-  same_held (stage ∷ stages) (kind ∷ kinds) (d ∷ each) are held =
-      (subst (λ found. MatchOption found (d ≡ None) (λ kind. HoldsKind kind d)) are.0.kind_is held.0, same_held stages kinds each are.1 held.1)
+    same_held : (stages : List (Stage f x p calls)) (kinds : List Kind) (each : List (Option Data))
+        → AllZip IsOf stages kinds → AllZip HoldsStage stages each → AllZip HoldsKind kinds each
+    same_held [] [] [] are held = tt
+    same_held [] [] (d ∷ each) are held = absurd held
+    same_held [] (kind ∷ kinds) each are held = absurd are
+    same_held (stage ∷ stages) [] each are held = absurd are
+    same_held (stage ∷ stages) (kind ∷ kinds) [] are held = absurd held
+    same_held (stage ∷ stages) (kind ∷ kinds) (d ∷ each) are held = (
+      subst (λ found. MatchOption found (d ≡ None) (λ kind. HoldsKind kind d)) are.0.kind_is held.0,
+      same_held stages
+          kinds each are.1 held.1,
+    )
 
-  -- what is held of a pipeline's stages is held of stages of the language, where the pipeline has its names and leaves what it leaves
-  pub held_of : (language : AnyLanguage) (stages : List (Stage f x p calls)) (ds : List Data) → map (stage_name name_text) stages ≡ language_stages language
-      → ((token : Text) (left : Option Text) → IsTrue (all_scalars token) → MayLeaveAll leaves stages token left ↔ language_leaves language token left)
-      → AllByRecursion IsKnown stages → HoldsStages stages ds → (kinds : List Kind) × AreStagesOf language kinds × HoldsKinds kinds ds
-  held_of language stages ds names leave known held =
-      let found = their_kinds stages known in (
-        found.0,
-        record {
-          names = same_names stages found.0 found.1 ∙ names;
-          leave = λ token left scalars. (
-            λ h. (leave token left scalars).0 ((leave_same stages found.0 found.1 token left).0 h),
-            λ h. (leave_same stages found.0 found.1 token left).1 ((leave token left scalars).1 h),
-          );
-        },
-        (held.0, same_held stages found.0 held.0 found.1 held.1, held.2),
-      )
+    -- what is held of a pipeline's stages is held of stages of the language, where the pipeline has its names and leaves
+    -- what it leaves
+    pub held_of : (language : AnyLanguage) (stages : List (Stage f x p calls)) (ds : List Data)
+        → map (stage_name name_text) stages ≡ language_stages language
+        → ((token : Text) (left : Option Text) → IsTrue (all_scalars token) → MayLeaveAll leaves stages token left
+        ↔ language_leaves language token left)
+        → AllByRecursion IsKnown stages → HoldsStages stages ds → (kinds : List Kind) × AreStagesOf language kinds
+        × HoldsKinds kinds ds
+    held_of language stages ds names leave known held =
+        let found = their_kinds stages known in (
+          found.0,
+          record {
+            names = same_names stages found.0 found.1 ∙ names;
+            leave = λ token left scalars. (
+              λ h. (leave token left scalars).0 ((leave_same stages found.0 found.1 token left).0 h),
+              λ h. (leave_same stages found.0 found.1 token left).1 ((leave token left scalars).1 h),
+            );
+          },
+          (held.0, same_held stages found.0 held.0 found.1 held.1, held.2),
+        )
 
 -- of a language other than English that is all
-pub holds_language : (language : AnyLanguage) (ds : List Data) → language ≢ English → (kinds : List Kind) × AreStagesOf language kinds × HoldsKinds kinds ds → HoldsLanguage language ds
+pub holds_language : (language : AnyLanguage) (ds : List Data) → language ≢ English → (kinds : List Kind)
+    × AreStagesOf language kinds × HoldsKinds kinds ds → HoldsLanguage language ds
 holds_language English ds other h = absurd (other refl)
 holds_language Arabic ds other h = h
 holds_language Danish ds other h = h
@@ -110,18 +160,29 @@ holds_language Swedish ds other h = h
 holds_language Turkish ds other h = h
 
 -- one language more
-one_more : (languages : List AnyLanguage) (language : AnyLanguage) (ds its : List Data) → HoldsLanguages languages ds → HoldsLanguage language its → HoldsLanguages (languages ++ language ∷ []) (ds ++ its)
+one_more : (languages : List AnyLanguage) (language : AnyLanguage) (ds its : List Data) → HoldsLanguages languages ds
+    → HoldsLanguage language its → HoldsLanguages (languages ++ language ∷ []) (ds ++ its)
 one_more [] language ds its held is = (its, [], is, refl, ap (λ old. old ++ its) held ∙ sym (append-nil its))
-one_more (first ∷ languages) language ds its held is =
-    (held.0, held.1 ++ its, held.2, one_more languages language held.1 its held.3 is, ap (λ old. old ++ its) held.4 ∙ append_assoc held.0 held.1 its)
+one_more (first ∷ languages) language ds its held is = (
+  held.0,
+  held.1 ++ its,
+  held.2,
+  one_more languages language held.1 its held.3 is,
+  ap (λ old. old ++ its) held.4
+      ∙ append_assoc held.0 held.1 its,
+)
 
-pub one_language : (languages : List AnyLanguage) (i : ℕ) (d : AnyLanguage) (old new its : List Data) → i < length languages → HoldsLanguages (take i languages) old → HoldsLanguage (get_or languages i d) its → new ≡ old ++ its → HoldsLanguages (take (i + 1) languages) new
+pub one_language : (languages : List AnyLanguage) (i : ℕ) (d : AnyLanguage) (old new its : List Data)
+    → i < length languages → HoldsLanguages (take i languages) old → HoldsLanguage (get_or languages i d) its → new
+    ≡ old ++ its → HoldsLanguages (take (i + 1) languages) new
 one_language languages i d old new its inside held is put =
     subst (λ ls. HoldsLanguages ls new) (sym (take_more languages i d inside))
-    (subst (HoldsLanguages (take i languages ++ get_or languages i d ∷ [])) (sym put) (one_more (take i languages) (get_or languages i d) old its held is))
+    (subst (HoldsLanguages (take i languages ++ get_or languages i d ∷ [])) (sym put)
+    (one_more (take i languages) (get_or languages i d) old its held is))
 
 -- what is appended is held
-pub appended : {F : Type 0} (r : Result (Unit {0}) F) (language : AnyLanguage) (old new its : List Value) → new ≡ (if is_ok r then old ++ its else old) → HoldsLanguage language (map view its)
+pub appended : {F : Type 0} (r : Result (Unit {0}) F) (language : AnyLanguage) (old new its : List Value) → new
+    ≡ (if is_ok r then old ++ its else old) → HoldsLanguage language (map view its)
     → OnOk r ((ds : List Data) × HoldsLanguage language ds × (map view new ≡ map view old ++ ds))
 appended (Ok done) language old new its put held = (map view its, held, ap (map view) put ∙ map-append view old its)
 appended (Err e) language old new its put held = tt

@@ -1,12 +1,15 @@
 -- Languages by their names, as a loop over the names finds them.
-use Rattle.std.proofs.Common.{◌≡◌, ◌≢◌, ◌<◌, ◌+◌, ℕ, length, take, get_or, List, [], ◌∷◌, ◌++◌, Bor, Option, Some, None, IfSome, Result, Ok, Err, map, refl, sym, ap, subst, ◌∙◌, arith}
+use Rattle.std.proofs.Common.{◌≡◌, ◌≢◌, ◌<◌, ◌+◌, ℕ, length, take, get_or, List, [], ◌∷◌, ◌++◌, Bor, Option, Some, None}
+use Rattle.std.proofs.Common.{IfSome, Result, Ok, Err, map, refl, sym, ap, subst, ◌∙◌, arith}
 use Rattle.std.specs.Prelude.{IfOk}
 use Rattle.std.specs.List.{All, AllZip, Any}
 use Rattle.std.proofs.lemmas.List.{get_or-map, length-map, map-append, take_more}
 use Rattle.elasticlunr_text.specs.Text.{Bytes}
 use Rattle.elasticlunr_lang.specs.Known.{all_languages, language_name}
 use Rattle.elasticlunr_lang.specs.declared.any.AnyLanguage.{AnyLanguage}
-use Rattle.elasticlunr_lang.specs.declared.any.AnyLanguage.TheVariants.{English, Arabic, Danish, Dutch, Finnish, French, German, Italian, Korean, Norwegian, Portuguese, Romanian, Russian, Spanish, Swedish, Turkish}
+use Rattle.elasticlunr_lang.specs.declared.any.AnyLanguage.TheVariants.{English, Arabic, Danish, Dutch, Finnish, French}
+use Rattle.elasticlunr_lang.specs.declared.any.AnyLanguage.TheVariants.{German, Italian, Korean, Norwegian, Portuguese}
+use Rattle.elasticlunr_lang.specs.declared.any.AnyLanguage.TheVariants.{Romanian, Russian, Spanish, Swedish, Turkish}
 use Rattle.elasticlunr_browser.specs.Named.{IsNameOf, IsNoName, AreNamed}
 use Rattle.elasticlunr_browser.proofs.StageLemmas.{push_both}
 
@@ -34,31 +37,46 @@ texts_of_all names = map (λ name. name.now) names
 
 -- one that no language has
 pub unknown_at : (names : List (Bor (List ℕ))) (k : ℕ) (d : Bor (List ℕ)) → k < length names
-    → All (λ language. language_name language ≢ (get_or names k d).now) all_languages → Any IsNoName (texts_of_all names)
-unknown_at names k d inside none =
-    (k, (get_or names k d).now, rw (length-map names (λ name. name.now)) inside, get_or-map (λ name. name.now) names k d _ inside, no_name (get_or names k d).now none)
+    → All (λ language. language_name language ≢ (get_or names k d).now) all_languages
+    → Any IsNoName (texts_of_all names)
+unknown_at names k d inside none = (
+  k,
+  (get_or names k d).now,
+  rw (length-map names (λ name. name.now)) inside,
+  get_or-map (λ name. name.now) names k d
+      _ inside,
+  no_name (get_or names k d).now none,
+)
 
 -- one language more
-pub one_named : (names : List (Bor (List ℕ))) (k : ℕ) (d : Bor (List ℕ)) (old new : List AnyLanguage) (language : AnyLanguage) → k < length names
-    → AllZip IsNameOf (texts_of_all (take k names)) old → language_name language ≡ (get_or names k d).now → new ≡ old ++ language ∷ [] → AllZip IsNameOf (texts_of_all (take (k + 1) names)) new
+pub one_named : (names : List (Bor (List ℕ))) (k : ℕ) (d : Bor (List ℕ)) (old new : List AnyLanguage)
+    (language : AnyLanguage) → k < length names
+    → AllZip IsNameOf (texts_of_all (take k names)) old → language_name language ≡ (get_or names k d).now → new
+    ≡ old ++ language ∷ [] → AllZip IsNameOf (texts_of_all (take (k + 1) names)) new
 one_named names k d old new language inside are is put =
     let more : texts_of_all (take (k + 1) names) ≡ texts_of_all (take k names) ++ (get_or names k d).now ∷ [] =
-    ap texts_of_all (take_more names k d inside) ∙ map-append (λ name. name.now) (take k names) (get_or names k d ∷ []) in
+    ap texts_of_all (take_more names k d inside) ∙ map-append (λ name. name.now) (take k names) (get_or names k d ∷ [])
+    in
     subst (AllZip IsNameOf (texts_of_all (take (k + 1) names))) (sym put)
-    (subst (λ lines. AllZip IsNameOf lines (old ++ language ∷ [])) (sym more) (push_both IsNameOf (texts_of_all (take k names)) old (get_or names k d).now language are is))
+    (subst (λ lines. AllZip IsNameOf lines (old ++ language ∷ [])) (sym more)
+    (push_both IsNameOf (texts_of_all (take k names)) old (get_or names k d).now language are is))
 
 -- without a line all languages are chosen, and with one those of the lines
-pub all_named : (lines : List Bytes) (each : List (Bor (List ℕ))) (chosen : List AnyLanguage) → texts_of_all each ≡ lines → length each ≡ 0 → chosen ≡ all_languages → AreNamed lines chosen
+pub all_named : (lines : List Bytes) (each : List (Bor (List ℕ))) (chosen : List AnyLanguage) → texts_of_all each
+    ≡ lines → length each ≡ 0 → chosen ≡ all_languages → AreNamed lines chosen
 all_named lines [] chosen are none is = subst (λ ls. AreNamed ls chosen) are is
 all_named lines (l ∷ each) chosen are none is = absurd (omega (arith, none))
 
-pub each_named : (lines : List Bytes) (each : List (Bor (List ℕ))) (chosen : List AnyLanguage) → texts_of_all each ≡ lines → length each ≢ 0 → AllZip IsNameOf (texts_of_all each) chosen → AreNamed lines chosen
+pub each_named : (lines : List Bytes) (each : List (Bor (List ℕ))) (chosen : List AnyLanguage) → texts_of_all each
+    ≡ lines → length each ≢ 0 → AllZip IsNameOf (texts_of_all each) chosen → AreNamed lines chosen
 each_named lines [] chosen are some is = absurd (some refl)
 each_named lines (l ∷ each) chosen are some is = subst (λ ls. AreNamed ls chosen) are is
 
 -- what was found for the names of the lines is what was named
-pub chosen_by : {V F : Type 0} (chosen_of : V → List AnyLanguage) (r : Result (Option V) F) (lines : List Bytes) (each : List (Bor (List ℕ))) → texts_of_all each ≡ lines → length each ≢ 0
-    → IfOk r (λ found. IfSome found (λ chosen. AllZip IsNameOf (texts_of_all each) (chosen_of chosen))) → IfOk r (λ found. IfSome found (λ chosen. AreNamed lines (chosen_of chosen)))
+pub chosen_by : {V F : Type 0} (chosen_of : V → List AnyLanguage) (r : Result (Option V) F) (lines : List Bytes)
+    (each : List (Bor (List ℕ))) → texts_of_all each ≡ lines → length each ≢ 0
+    → IfOk r (λ found. IfSome found (λ chosen. AllZip IsNameOf (texts_of_all each) (chosen_of chosen)))
+    → IfOk r (λ found. IfSome found (λ chosen. AreNamed lines (chosen_of chosen)))
 chosen_by chosen_of (Ok (Some chosen)) lines each are some is = each_named lines each (chosen_of chosen) are some is
 chosen_by chosen_of (Ok None) lines each are some is = is
 chosen_by chosen_of (Err e) lines each are some is = is

@@ -18,7 +18,9 @@ use Rattle.elasticlunr_browser.specs.declared.template.TheConstants.{HEAD, TAIL}
 
 -- the object of the separators of words, lower case and stages
 abbrev pub facts_data : Data → Data → Data → Data
-facts_data between lower stages = object (member (codes "between") between (member (codes "lower") lower (member (codes "stages") stages no_members)))
+facts_data between lower stages = object
+    (member (codes "between") between
+    (member (codes "lower") lower (member (codes "stages") stages no_members)))
 
 -- the separators of words, lower case, and some stages
 pub record IsFacts (stages : List Data) (d : Data) : Type 0 where
@@ -34,8 +36,10 @@ script_text facts = HEAD.now ++ compact_text facts ++ TAIL.now
 
 -- the text is the script of these languages
 abbrev pub IsScriptOf : List AnyLanguage → Bytes → Type 0
-IsScriptOf languages text = (stages : List Data) × (facts : Data) × HoldsLanguages languages stages × IsFacts stages facts × (text ≡ script_text facts)
+IsScriptOf languages text = (stages : List Data) × (facts : Data) × HoldsLanguages languages stages
+    × IsFacts stages facts × (text ≡ script_text facts)
 
 -- the text is the script of the languages that these lines name
 abbrev pub IsScriptFor : List Bytes → Bytes → Type 0
-IsScriptFor lines text = (languages : List AnyLanguage) × AreNamed lines languages × IsScriptOf languages text
+IsScriptFor lines text = (languages : List AnyLanguage) × AreNamed lines languages
+    × IsScriptOf languages text

@@ -1,5 +1,7 @@
--- The kinds of stages of the built-in languages, and what a script holds of a language: what it holds of its stages.
-use Rattle.std.specs.Prelude.{◌≡◌, ◌↔◌, List, [], ◌∷◌, ◌++◌, map, codes, string_bytes, Option, None, Some, IsSomeAnd, MatchOption, IsTrue}
+-- The kinds of stages of the built-in languages, and what a script holds of a language: what it
+-- holds of its stages.
+use Rattle.std.specs.Prelude.{◌≡◌, ◌↔◌, List, [], ◌∷◌, ◌++◌, map, codes, string_bytes, Option, None}
+use Rattle.std.specs.Prelude.{Some, IsSomeAnd, MatchOption, IsTrue}
 use Rattle.std.specs.List.{filter_map, AllZip}
 use Rattle.std.specs.Str.{all_scalars}
 use Rattle.serde_json.specs.Data.{Data}
@@ -12,7 +14,11 @@ use Rattle.elasticlunr_text.specs.Trimmers.{trimmer_name, cut_to_class}
 use Rattle.elasticlunr_text.specs.declared.lang.common.stop_words.StopWordFilter.{StopWordFilter}
 use Rattle.elasticlunr_text.specs.declared.lang.common.trimmer.RegexTrimmer.{RegexTrimmer}
 use Rattle.elasticlunr_text.specs.declared.pipeline.stage.Stage.{Stage}
-use Rattle.elasticlunr_text.specs.declared.pipeline.stage.Stage.TheVariants.{EnglishTrimmer, StopWords, Class, EnglishStemmer, ArabicStemmer, Keep, Function, Own}
+use Rattle.elasticlunr_text.specs.declared.pipeline.stage.Stage.TheVariants.{EnglishTrimmer}
+use Rattle.elasticlunr_text.specs.declared.pipeline.stage.Stage.TheVariants.{StopWords, Class}
+use Rattle.elasticlunr_text.specs.declared.pipeline.stage.Stage.TheVariants.{EnglishStemmer}
+use Rattle.elasticlunr_text.specs.declared.pipeline.stage.Stage.TheVariants.{ArabicStemmer, Keep}
+use Rattle.elasticlunr_text.specs.declared.pipeline.stage.Stage.TheVariants.{Function, Own}
 use Rattle.elasticlunr_lang.specs.Known.{language_stages, language_leaves}
 use Rattle.elasticlunr_lang.specs.declared.any.AnyLanguage.{AnyLanguage}
 use Rattle.elasticlunr_lang.specs.declared.any.AnyLanguage.TheVariants.{English}
@@ -48,7 +54,8 @@ KindLeaves (keep name) token left = left ≡ Some token
 -- what several may leave of a token, one after the other: what one drops stays dropped
 abbrev pub KindsLeave : List Kind → Text → Option Text → Type 0
 KindsLeave [] token left = left ≡ Some token
-KindsLeave (kind ∷ kinds) token left = (first : Option Text) × KindLeaves kind token first × MatchOption first (left ≡ None) (λ t. KindsLeave kinds t left)
+KindsLeave (kind ∷ kinds) token left = (first : Option Text) × KindLeaves kind token first
+    × MatchOption first (left ≡ None) (λ t. KindsLeave kinds t left)
 
 -- what a script holds of a kind: nothing of those of English, which elasticlunr.js has
 abbrev pub HoldsKind : Kind → Option Data → Type 0
@@ -61,14 +68,18 @@ HoldsKind (keep name) d = IsSomeAnd d (λ value. value ≡ keep_data name)
 
 -- what it holds of several, in order
 abbrev pub HoldsKinds : List Kind → List Data → Type 0
-HoldsKinds kinds ds = (each : List (Option Data)) × AllZip HoldsKind kinds each × (ds ≡ filter_map (λ d. d) each)
+HoldsKinds kinds ds = (each : List (Option Data)) × AllZip HoldsKind kinds each
+    × (ds ≡ filter_map (λ d. d) each)
 
--- these are stages of the language: they have the names of its stages, and leave of each token what it leaves
+-- these are stages of the language: they have the names of its stages, and leave of each token what
+-- it leaves
 pub record AreStagesOf (language : AnyLanguage) (kinds : List Kind) : Type 0 where
   pub names : map kind_name kinds ≡ language_stages language
-  pub leave : (token : Text) (left : Option Text) → IsTrue (all_scalars token) → KindsLeave kinds token left ↔ language_leaves language token left
+  pub leave : (token : Text) (left : Option Text) → IsTrue (all_scalars token)
+      → KindsLeave kinds token left ↔ language_leaves language token left
 
--- what a script holds of a language: nothing of English, whose stages elasticlunr.js has, and of another one what it holds of its stages
+-- what a script holds of a language: nothing of English, whose stages elasticlunr.js has, and of
+-- another one what it holds of its stages
 abbrev pub HoldsLanguage : AnyLanguage → List Data → Type 0
 HoldsLanguage English ds = ds ≡ []
 HoldsLanguage language ds = (kinds : List Kind) × AreStagesOf language kinds × HoldsKinds kinds ds
@@ -77,7 +88,8 @@ HoldsLanguage language ds = (kinds : List Kind) × AreStagesOf language kinds ×
 abbrev pub HoldsLanguages : List AnyLanguage → List Data → Type 0
 HoldsLanguages [] ds = ds ≡ []
 HoldsLanguages (language ∷ languages) ds =
-    (its : List Data) × (others : List Data) × HoldsLanguage language its × HoldsLanguages languages others × (ds ≡ its ++ others)
+    (its : List Data) × (others : List Data) × HoldsLanguage language its
+    × HoldsLanguages languages others × (ds ≡ its ++ others)
 
 -- the kind of a stage that is none of a user's own
 abbrev pub kind_of : {f x p calls : _} → Stage f x p calls → Option Kind
@@ -96,4 +108,5 @@ HoldsStage stage d = MatchOption (kind_of stage) (d ≡ None) (λ kind. HoldsKin
 
 -- what it holds of several, in order
 abbrev pub HoldsStages : {f x p calls : _} → List (Stage f x p calls) → List Data → Type 0
-HoldsStages stages ds = (each : List (Option Data)) × AllZip HoldsStage stages each × (ds ≡ filter_map (λ d. d) each)
+HoldsStages stages ds = (each : List (Option Data)) × AllZip HoldsStage stages each
+    × (ds ≡ filter_map (λ d. d) each)

@@ -11,7 +11,8 @@ is_odd n = (n % 2) == 1
 abbrev pub is_marked : List ℕ → ℕ → Bool
 is_marked marks c = is_odd (count_by (λ mark. nat_le mark c) marks)
 
--- the marks rise, so that they can be looked up by binary search, and the marked characters are those of the class
+-- the marks rise, so that they can be looked up by binary search, and the marked characters are
+-- those of the class
 pub record Marks (has : ℕ → Bool) (marks : List ℕ) : Type 0 where
   pub rise : IsStrictlyIncreasing marks
   pub marked : (c : ℕ) → InScalarRange c → is_marked marks c ≡ has c

@@ -1,5 +1,6 @@
 -- A change of single characters as pairs: a character, followed by what replaces it.
-use Rattle.std.specs.Prelude.{◌≡◌, ℕ, List, [], ◌∷◌, All, Contains, Option, MatchOption, ◌⊎◌, unwrap_or}
+use Rattle.std.specs.Prelude.{◌≡◌, ℕ, List, [], ◌∷◌, All, Contains, Option, MatchOption, ◌⊎◌}
+use Rattle.std.specs.Prelude.{unwrap_or}
 use Rattle.std.specs.Char.{InScalarRange}
 use Rattle.std.specs.declared.string.String.{String}
 use Rattle.std.specs.declared.alloc.Global.{Global}
@@ -10,7 +11,8 @@ use Rattle.elasticlunr_text.specs.Arabic.{arabic_stem}
 abbrev pub IsPair : (ℕ → Text) → Text → Type 0
 IsPair changed pair = (c : ℕ) × InScalarRange c × (pair ≡ c ∷ changed c)
 
--- each of these is a pair of the change, and every character for which another text stands has its pair
+-- each of these is a pair of the change, and every character for which another text stands has its
+-- pair
 pub record Pairs (changed : ℕ → Text) (pairs : List Text) : Type 0 where
   pub each : All (IsPair changed) pairs
   pub whole : (c : ℕ) → InScalarRange c → Contains pairs (c ∷ changed c) ⊎ (changed c ≡ c ∷ [])

@@ -22,11 +22,14 @@ numbers ns = array (items_of (map (λ n. number (unsigned n)) ns))
 
 -- the object of a filter's name and its words
 abbrev pub filter_data : Bytes → Data → Data
-filter_data name words = object (member (codes "name") (string name) (member (codes "words") words no_members))
+filter_data name words = object (member (codes "name") (string name)
+    (member (codes "words") words no_members))
 
 -- the object of the Arabic stemmer's name, the marks of what it drops, and what it changes
 abbrev pub arabic_data : Bytes → Data → Data → Data
-arabic_data name drops changes = object (member (codes "changes") changes (member (codes "drops") drops (member (codes "name") (string name) no_members)))
+arabic_data name drops changes = object
+    (member (codes "changes") changes
+    (member (codes "drops") drops (member (codes "name") (string name) no_members)))
 
 -- the name of a filter, and its words
 pub record IsFilter (filter : StopWordFilter) (d : Data) : Type 0 where
@@ -38,7 +41,8 @@ pub record IsFilter (filter : StopWordFilter) (d : Data) : Type 0 where
 pub record IsTrimmer (trimmer : RegexTrimmer) (d : Data) : Type 0 where
   pub marks : List ℕ
   pub are_marks : Marks (keeps trimmer) marks
-  pub value : d ≡ object (member (codes "class") (numbers marks) (member (codes "name") (string (trimmer_name trimmer)) no_members))
+  pub value : d ≡ object (member (codes "class") (numbers marks)
+      (member (codes "name") (string (trimmer_name trimmer)) no_members))
 
 -- what the Arabic stemmer changes, the marks of what it drops, and its name
 pub record IsArabic (d : Data) : Type 0 where

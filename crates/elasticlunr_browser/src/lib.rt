@@ -1,4 +1,5 @@
-//! The script with which elasticlunr.js reads the indexes of languages in a browser: words, classes
+//! The script with which elasticlunr.js reads the indexes of languages in a browser: words,
+//! classes
 //! and lower case of the library, as JavaScript.
 #![tactic(auto)]
 

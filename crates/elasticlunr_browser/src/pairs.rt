@@ -1,5 +1,6 @@
 //! Changes of characters, as a script holds them.
-ghost use Rattle.std.specs.Prelude.{◌≡◌, ◌∷◌, [], ◌++◌, ℕ, IfOk, OnOk, IfSome, IsNone, option_to_list};
+ghost use Rattle.std.specs.Prelude.{◌≡◌, ◌∷◌, [], ◌++◌, ℕ, IfOk, OnOk, IfSome, IsNone};
+ghost use Rattle.std.specs.Prelude.{option_to_list};
 ghost use Rattle.std.specs.Char.{InScalarRange};
 ghost use Rattle.elasticlunr_text.specs.Text.{Text, text_of, texts_of};
 ghost use Rattle.elasticlunr_browser.specs.Pairs.{Pairs, StandsFor};

@@ -17,8 +17,10 @@ use std::alloc::{AllocError, Global};
 
 /// The languages of these names, in order; `None` where a text is no name of a language.
 fn of_names(alloc: Global, names: &[&str]) -> Result<Option<Vec<AnyLanguage>>, AllocError>
-    ensures some { IfOk result (λ found. IfSome found (λ chosen. AllZip IsNameOf (map (λ name. name.now) names.now) chosen.items)) }
-    ensures none { IfOk result (λ found. IsNone found → Any IsNoName (map (λ name. name.now) names.now)) }
+    ensures some { IfOk result (λ found. IfSome found
+        (λ chosen. AllZip IsNameOf (map (λ name. name.now) names.now) chosen.items)) }
+    ensures none { IfOk result (λ found. IsNone found
+        → Any IsNoName (map (λ name. name.now) names.now)) }
 {
     let mut chosen = Vec::with_capacity(alloc, names.len())?;
     for name in names {
@@ -30,10 +32,12 @@ fn of_names(alloc: Global, names: &[&str]) -> Result<Option<Vec<AnyLanguage>>, A
     Ok(Some(chosen))
 }
 
-/// The languages that the lines name, all of them where there is no line; `None` where a line is no
+/// The languages that the lines name, all of them where there is no line; `None` where a line is
+/// no
 /// name of a language.
 fn named(alloc: Global, names: &str) -> Result<Option<Vec<AnyLanguage>>, AllocError>
-    ensures some { IfOk result (λ found. IfSome found (λ chosen. AreNamed (lines names.now) chosen.items)) }
+    ensures some { IfOk result (λ found. IfSome found
+        (λ chosen. AreNamed (lines names.now) chosen.items)) }
     ensures none { IfOk result (λ found. IsNone found → Any IsNoName (lines names.now)) }
 {
     let each: Vec<&str> = names.lines().collect(alloc)?;
@@ -61,7 +65,8 @@ fn facts_value(
     lower: &Value,
     stages: &Value,
 ) -> Result<Value, AllocError>
-    ensures { IfOk result (λ value. view value ≡ facts_data (view between.now) (view lower.now) (view stages.now)) }
+    ensures { IfOk result (λ value. view value ≡ facts_data (view between.now) (view lower.now)
+        (view stages.now)) }
 {
     json!(in alloc; {"between": between, "lower": lower, "stages": stages})
 }
@@ -100,10 +105,12 @@ fn text_for(alloc: Global, chosen: &[AnyLanguage]) -> Result<String, AllocError>
     Ok(text)
 }
 
-/// The script for the languages that the lines name, for all where there is no line; `None` where a
+/// The script for the languages that the lines name, for all where there is no line; `None` where
+/// a
 /// line is no name of a language.
 pub fn script_for(alloc: Global, names: &str) -> Result<Option<String>, AllocError>
-    ensures some { IfOk result (λ found. IfSome found (λ text. IsScriptFor (lines names.now) (string_bytes text))) }
+    ensures some { IfOk result (λ found. IfSome found
+        (λ text. IsScriptFor (lines names.now) (string_bytes text))) }
     ensures none { IfOk result (λ found. IsNone found → Any IsNoName (lines names.now)) }
 {
     let Some(chosen) = named(alloc, names)? else {

@@ -1,10 +1,12 @@
 //! The stages of a language, as a script holds them.
-ghost use Rattle.std.specs.Prelude.{◌≡◌, ◌∷◌, [], ◌++◌, List, map, string_bytes, option_map, IfOk, IfSome, OnOk, IsNone, None};
+ghost use Rattle.std.specs.Prelude.{◌≡◌, ◌∷◌, [], ◌++◌, List, map, string_bytes, option_map, IfOk};
+ghost use Rattle.std.specs.Prelude.{IfSome, OnOk, IsNone, None};
 ghost use Rattle.serde_json.specs.View.{view};
 ghost use Rattle.elasticlunr_text.specs.Text.{Text, texts_of, bytes_of, is_listed};
 ghost use Rattle.elasticlunr_text.specs.StopWords.{has_word};
 ghost use Rattle.elasticlunr_browser.specs.Stages as spec;
-ghost use Rattle.elasticlunr_browser.specs.Stages.{IsFilter, IsTrimmer, IsArabic, filter_data, arabic_data};
+ghost use Rattle.elasticlunr_browser.specs.Stages.{IsFilter, IsTrimmer, IsArabic, filter_data};
+ghost use Rattle.elasticlunr_browser.specs.Stages.{arabic_data};
 ghost use Rattle.elasticlunr_browser.specs.Kinds.{HoldsStage, HoldsStages, HoldsLanguage};
 ghost use Rattle.serde_json.specs.Data.{Data};
 
@@ -103,7 +105,8 @@ fn arabic_value(
     drops: &Value,
     changes: &Value,
 ) -> Result<Value, AllocError>
-    ensures { IfOk result (λ value. view value ≡ arabic_data name.now (view drops.now) (view changes.now)) }
+    ensures { IfOk result (λ value. view value ≡ arabic_data name.now (view drops.now)
+        (view changes.now)) }
 {
     json!(in alloc; {"name": name, "drops": drops, "changes": changes})
 }

@@ -21,7 +21,8 @@ pub const HEAD: &str =
 /// What stands after.
 pub const TAIL: &str = ";
 
-  // A class is a list of marks: it begins at the first, ends before the second, begins again at the third.
+  // A class is a list of marks: it begins at the first, ends before the second, begins again at
+  // the third.
   function has(marks, character) {
     var code = character.codePointAt(0), low = 0, high = marks.length;
     while (low < high) {
@@ -101,7 +102,8 @@ pub const TAIL: &str = ";
     elasticlunr.Pipeline.registerFunction(run, stage.name);
   });
 
-  // A printed trie has one step for each character; one that elasticlunr.js made has two above U+FFFF.
+  // A printed trie has one step for each character; one that elasticlunr.js made has two above
+  // U+FFFF.
   elasticlunr.InvertedIndex.prototype.getNode = function (token) {
     if (!token) return null;
     var node = this.root;

@@ -1,5 +1,6 @@
 -- What the words of the command line say.
-use Rattle.std.specs.Prelude.{◌≡◌, ◌==◌, List, Bool, true, false, Option, Some, None, codes, option_map}
+use Rattle.std.specs.Prelude.{◌≡◌, ◌==◌, List, Bool, true, false, Option, Some, None, codes}
+use Rattle.std.specs.Prelude.{option_map}
 use Rattle.std.specs.List.{slice_split}
 use Rattle.clap.specs.Words.{found_of, first_value, one_text}
 use Rattle.clap.specs.declared.parser.matches.ArgMatches.{ArgMatches}
@@ -17,9 +18,10 @@ pub record IsFlag (words : ArgMatches) (id : Bytes) (given : Bool) : Type 0 wher
   pub no : one_text (found_of words) id ≡ Some (codes "false") → given ≡ false
 
 -- these are the settings that the words give, in this language
-pub record AreSettings (words : ArgMatches) (language : Option Bytes) (settings : Settings) : Type 0 where
-  pub reference : settings.reference ≡ first_value (found_of words) (codes "ref")
-  pub fields : settings.fields ≡ option_map names_in (first_value (found_of words) (codes "fields"))
-  pub in_language : settings.language ≡ language
-  pub drops_texts : IsFlag words (codes "no-save") settings.drops_texts
-  pub pretty : IsFlag words (codes "pretty") settings.pretty
+pub record AreSettings (words : ArgMatches) (language : Option Bytes) (settings : Settings) : Type 0
+  where
+    pub reference : settings.reference ≡ first_value (found_of words) (codes "ref")
+    pub fields : settings.fields ≡ option_map names_in (first_value (found_of words) (codes "fields"))
+    pub in_language : settings.language ≡ language
+    pub drops_texts : IsFlag words (codes "no-save") settings.drops_texts
+    pub pretty : IsFlag words (codes "pretty") settings.pretty

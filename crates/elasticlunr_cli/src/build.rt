@@ -4,10 +4,10 @@ use crate::files::{Input, input_name, open_input, write_output};
 use crate::given::settings_given;
 use crate::tell::{failed, say, troubled, warn};
 use clap::ArgMatches;
-use elasticlunr_diagnostics::ended::Ended;
 use elasticlunr_diagnostics::form::form_of;
 use elasticlunr_diagnostics::language::{language_name, unknown_language};
 use elasticlunr_diagnostics::message::counted;
+use elasticlunr_diagnostics::outcome::Outcome;
 use elasticlunr_diagnostics::script::script_of;
 use elasticlunr_input::index::{Marked, index_from};
 use elasticlunr_input::notes::Notes;
@@ -85,7 +85,7 @@ impl Read for Watched<'_, '_> {
 }
 
 /// Builds an index in the language that is asked for.
-pub(crate) fn build(rt: &HostRuntime, given: &ArgMatches<'_>, wanted: Use) -> io::Result<Ended> {
+pub(crate) fn build(rt: &HostRuntime, given: &ArgMatches<'_>, wanted: Use) -> io::Result<Outcome> {
     let task = Task {
         given,
         wanted,
@@ -100,7 +100,7 @@ pub(crate) fn build(rt: &HostRuntime, given: &ArgMatches<'_>, wanted: Use) -> io
             let said = unknown_language(rt.alloc(), asked)?;
             let line = format!(in rt.alloc(); "elasticlunr: --lang: {said}")?;
             say(rt, line.as_str())?;
-            Ok(Ended::Misused)
+            Ok(Outcome::Misused)
         }
     }
 }
@@ -110,7 +110,7 @@ fn build_from(
     rt: &HostRuntime,
     task: &Task<'_, '_>,
     language: Option<String>,
-) -> io::Result<Ended> {
+) -> io::Result<Outcome> {
     let settings = settings_given(rt.alloc(), task.given, language)?;
     let file = task.given.get_str("file");
     match open_input(rt, file) {
@@ -125,7 +125,7 @@ fn build_of(
     task: &Task<'_, '_>,
     settings: &Settings,
     input: Input,
-) -> io::Result<Ended> {
+) -> io::Result<Outcome> {
     let name = input_name(task.given.get_str("file"));
     let form = task.given.get_str("format").and_then(form_of);
     let mut notes = Notes::new(rt.alloc());
@@ -154,13 +154,13 @@ fn use_index(
     task: &Task<'_, '_>,
     line: &str,
     notes: &Notes,
-) -> io::Result<Ended> {
+) -> io::Result<Outcome> {
     if task.given.get_flag("strict") && !notes.warnings.is_empty() {
-        return Ok(Ended::Refused);
+        return Ok(Outcome::Refused);
     }
     match task.wanted {
         Use::Write => write_index(rt, task, line, notes),
-        Use::Check => Ok(Ended::Done),
+        Use::Check => Ok(Outcome::Done),
     }
 }
 
@@ -170,7 +170,7 @@ fn write_index(
     task: &Task<'_, '_>,
     line: &str,
     notes: &Notes,
-) -> io::Result<Ended> {
+) -> io::Result<Outcome> {
     let output = task.given.get_str("output");
     // Made before anything is written, so that no memory is asked for after that.
     let documents = counted(rt.alloc(), notes.documents, "document")?;
@@ -186,7 +186,7 @@ fn write_index(
         Ok(()) => {
             let (bytes, seconds) = (line.len(), task.seconds(rt)?);
             eprintln!(rt; "elasticlunr: {documents}, {tokens}, {bytes} bytes, {seconds:.1} s")?;
-            Ok(Ended::Done)
+            Ok(Outcome::Done)
         }
         Err(e) => failed(rt, output.unwrap_or("standard output"), &e),
     }

@@ -57,7 +57,8 @@ pub(crate) fn write_output(rt: &HostRuntime, file: Option<&str>, text: &str) -> 
     }
 }
 
-/// Writes a text to a file, whole or not at all; a file that was there before keeps its mode. What is
+/// Writes a text to a file, whole or not at all; a file that was there before keeps its mode. What
+/// is
 /// no plain file, as a device or a pipe, is written to as it stands.
 fn write_file(rt: &HostRuntime, path: &str, text: &str) -> io::Result<()> {
     match fs::metadata(rt, path) {

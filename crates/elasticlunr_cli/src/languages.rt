@@ -1,16 +1,16 @@
 //! `languages`: the names, the codes and the stages.
 
-use elasticlunr_diagnostics::ended::Ended;
+use elasticlunr_diagnostics::outcome::Outcome;
 use elasticlunr_lang::{AnyLanguage, Language, languages};
 use elasticlunr_text::pipeline::Pipeline;
 use std::alloc::{AllocError, Global};
 use std::io;
 
 /// Prints a line for each language.
-pub(crate) fn list_languages(rt: &HostRuntime) -> io::Result<Ended> {
+pub(crate) fn list_languages(rt: &HostRuntime) -> io::Result<Outcome> {
     let text = languages_text(rt.alloc())?;
     print!(rt; "{text}")?;
-    Ok(Ended::Done)
+    Ok(Outcome::Done)
 }
 
 /// A line for each language.

@@ -17,20 +17,20 @@ use crate::search::search;
 use crate::words::command_line;
 use clap::ArgMatches;
 use clap::error::ErrorKind;
-use elasticlunr_diagnostics::ended::{Ended, status};
+use elasticlunr_diagnostics::outcome::{Outcome, status};
 use std::process::ExitCode;
 use std::{env, io};
 
 fn main(rt: HostRuntime) -> ExitCode {
     let ended = match run(&rt) {
         Ok(ended) => ended,
-        Err(_) => Ended::Failed,
+        Err(_) => Outcome::Failed,
     };
     ExitCode::from(status(ended))
 }
 
 /// Does what the command line asks for.
-fn run(rt: &HostRuntime) -> io::Result<Ended> {
+fn run(rt: &HostRuntime) -> io::Result<Outcome> {
     let alloc = rt.alloc();
     let words: Vec<String> = env::args(rt)?.collect(alloc)?;
     let command = command_line(alloc)?;
@@ -39,16 +39,16 @@ fn run(rt: &HostRuntime) -> io::Result<Ended> {
         Err(error) => {
             error.print(rt)?;
             Ok(match error.kind() {
-                ErrorKind::OutOfMemory => Ended::Failed,
-                ErrorKind::DisplayHelp | ErrorKind::DisplayVersion => Ended::Done,
-                _ => Ended::Misused,
+                ErrorKind::OutOfMemory => Outcome::Failed,
+                ErrorKind::DisplayHelp | ErrorKind::DisplayVersion => Outcome::Done,
+                _ => Outcome::Misused,
             })
         }
     }
 }
 
 /// Does what a sub-command asks for.
-fn perform(rt: &HostRuntime, matches: &ArgMatches<'_>) -> io::Result<Ended> {
+fn perform(rt: &HostRuntime, matches: &ArgMatches<'_>) -> io::Result<Outcome> {
     match matches.subcommand() {
         Some(("build", given)) => build(rt, given, Use::Write),
         Some(("search", given)) => search(rt, given),

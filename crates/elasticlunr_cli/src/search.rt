@@ -10,10 +10,10 @@ ghost use Rattle.serde_json.specs.Data.{Data};
 use crate::files::{input_name, read_input};
 use crate::tell::{failed, troubled};
 use clap::ArgMatches;
-use elasticlunr_diagnostics::ended::Ended;
 use elasticlunr_diagnostics::form::read_value;
-use elasticlunr_diagnostics::message::{Trouble, unplaced};
+use elasticlunr_diagnostics::message::{InputError, unplaced};
 use elasticlunr_diagnostics::nearest::nearest;
+use elasticlunr_diagnostics::outcome::Outcome;
 use elasticlunr_diagnostics::script::index_in;
 use elasticlunr_diagnostics::shown::shown_lines;
 use elasticlunr_input::mark::without_mark;
@@ -33,7 +33,7 @@ struct Asked<'a> {
 }
 
 /// Prints the references that are found, one a line.
-pub(crate) fn search(rt: &HostRuntime, given: &ArgMatches<'_>) -> io::Result<Ended> {
+pub(crate) fn search(rt: &HostRuntime, given: &ArgMatches<'_>) -> io::Result<Outcome> {
     let file = given.get_str("index");
     let bytes = match read_input(rt, file) {
         Ok(bytes) => bytes,
@@ -51,7 +51,7 @@ pub(crate) fn search(rt: &HostRuntime, given: &ArgMatches<'_>) -> io::Result<End
     match found_lines(rt.alloc(), &bytes, &asked) {
         Ok(lines) => {
             print_lines(rt, lines.as_str())?;
-            Ok(Ended::Done)
+            Ok(Outcome::Done)
         }
         Err(trouble) => troubled(rt, input_name(file), trouble),
     }
@@ -69,10 +69,11 @@ fn print_lines(rt: &HostRuntime, lines: &str) -> io::Result<()> {
 
 /// The references that are found in an index, each with a line feed after it. A file has the index
 /// as it is or in a script, and maybe a byte order mark before it.
-fn found_lines(alloc: Global, file: &[u8], asked: &Asked<'_>) -> Result<String, Trouble>
+fn found_lines(alloc: Global, file: &[u8], asked: &Asked<'_>) -> Result<String, InputError>
     ensures { IfOk result (λ lines. (index : Bytes) × (v : Data)
         × IsIndexIn (without_mark file.now) index × ReadsAs index v
-        × AreLinesFound v asked.now.join (option_map (λ f. f.now) asked.now.field) asked.now.query.now
+        × AreLinesFound v asked.now.join (option_map (λ f. f.now) asked.now.field)
+        asked.now.query.now
         (string_bytes lines)) }
 {
     let whole = without_mark(file);
@@ -89,11 +90,11 @@ fn found_lines(alloc: Global, file: &[u8], asked: &Asked<'_>) -> Result<String, 
 }
 
 /// Why the index that stands in a file is not read.
-fn unread(alloc: Global, whole: &[u8], index: &[u8]) -> Result<Trouble, AllocError> {
+fn unread(alloc: Global, whole: &[u8], index: &[u8]) -> Result<InputError, AllocError> {
     match read_value(alloc, index) {
         Ok(_) => refused(alloc, "not an index"),
         // In a script the place would not be that in the file.
-        Err(Trouble::Refused(_)) if index.len() < whole.len() => {
+        Err(InputError::Refused(_)) if index.len() < whole.len() => {
             refused(alloc, "not an index: what stands in the script is not JSON")
         }
         Err(trouble) => Ok(trouble),
@@ -116,27 +117,27 @@ fn value_or_null(alloc: Global, text: &[u8]) -> Result<Value, AllocError> {
     match read_value(alloc, text) {
         Ok(value) => Ok(value),
         Err(trouble) => match trouble {
-            Trouble::Memory => Err(AllocError),
+            InputError::Memory => Err(AllocError),
             _unread => Ok(Value::Null),
         },
     }
 }
 
 /// That an index has no such field.
-fn no_field(alloc: Global, text: &[u8], field: &str) -> Result<Trouble, AllocError> {
+fn no_field(alloc: Global, text: &[u8], field: &str) -> Result<InputError, AllocError> {
     let index = value_or_null(alloc, text)?;
     let fields = fields_of(alloc, &index)?;
     let said = match nearest(alloc, field, &fields)? {
         Some(near) => format!(in alloc; "no field \"{field}\"; did you mean \"{near}\"?")?,
         None => format!(in alloc; "no field \"{field}\"")?,
     };
-    Ok(Trouble::Refused(unplaced(said)))
+    Ok(InputError::Refused(unplaced(said)))
 }
 
 /// Why nothing was searched.
-fn not_searched(alloc: Global, refusal: Refusal) -> Result<Trouble, AllocError> {
+fn not_searched(alloc: Global, refusal: Refusal) -> Result<InputError, AllocError> {
     match refusal {
-        Refusal::Memory => Ok(Trouble::Memory),
+        Refusal::Memory => Ok(InputError::Memory),
         Refusal::UnknownLanguage => refused(alloc, "not an index: it names no language"),
         Refusal::OtherPipeline => refused(
             alloc,
@@ -150,6 +151,6 @@ fn not_searched(alloc: Global, refusal: Refusal) -> Result<Trouble, AllocError> 
 }
 
 /// A refusal with these words.
-fn refused(alloc: Global, said: &str) -> Result<Trouble, AllocError> {
-    Ok(Trouble::Refused(unplaced(String::from_str(alloc, said)?)))
+fn refused(alloc: Global, said: &str) -> Result<InputError, AllocError> {
+    Ok(InputError::Refused(unplaced(String::from_str(alloc, said)?)))
 }

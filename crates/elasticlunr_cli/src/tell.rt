@@ -1,7 +1,7 @@
 //! What goes to the error stream.
 
-use elasticlunr_diagnostics::ended::Ended;
-use elasticlunr_diagnostics::message::{Message, Trouble};
+use elasticlunr_diagnostics::message::{InputError, Message};
+use elasticlunr_diagnostics::outcome::Outcome;
 use elasticlunr_diagnostics::shown::shown;
 use std::io;
 
@@ -16,23 +16,23 @@ pub(crate) fn say(rt: &HostRuntime, line: &str) -> io::Result<()> {
 }
 
 /// Says that a file failed.
-pub(crate) fn failed(rt: &HostRuntime, file: &str, error: &io::Error) -> io::Result<Ended> {
+pub(crate) fn failed(rt: &HostRuntime, file: &str, error: &io::Error) -> io::Result<Outcome> {
     let line = format!(in rt.alloc(); "elasticlunr: {file}: {error}")?;
     say(rt, line.as_str())?;
-    Ok(Ended::Failed)
+    Ok(Outcome::Failed)
 }
 
 /// Says why there is no index.
-pub(crate) fn troubled(rt: &HostRuntime, file: &str, trouble: Trouble) -> io::Result<Ended> {
+pub(crate) fn troubled(rt: &HostRuntime, file: &str, trouble: InputError) -> io::Result<Outcome> {
     match trouble {
-        Trouble::Refused(message) => {
+        InputError::Refused(message) => {
             tell(rt, file, &message)?;
-            Ok(Ended::Refused)
+            Ok(Outcome::Refused)
         }
-        Trouble::Device(e) => failed(rt, file, &e),
-        Trouble::Memory => {
+        InputError::Device(e) => failed(rt, file, &e),
+        InputError::Memory => {
             eprintln!(rt; "elasticlunr: out of memory")?;
-            Ok(Ended::Failed)
+            Ok(Outcome::Failed)
         }
     }
 }

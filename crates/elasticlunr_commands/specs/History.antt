@@ -3,7 +3,8 @@ use Rattle.std.specs.Prelude.{◌≡◌, List, Option, None, Some, if◌then◌e
 use Rattle.std.specs.Str.{bytes_eq}
 use Rattle.elasticlunr_error.specs.Text.{Text, Bytes}
 
--- what a document has for a field: its value, and the tokens of that, none where the field holds the reference
+-- what a document has for a field: its value, and the tokens of that, none where the field holds
+-- the reference
 pub record Given : Type 0 where
   pub value : Bytes
   pub tokens : Option (List Text)
@@ -34,8 +35,10 @@ now (commands ▸ compact) r = now commands r
 -- the additions and removals of one reference, in order
 abbrev pub about : Bytes → Commands → Commands
 about r none = none
-about r (commands ▸ add d) = if bytes_eq r d.reference then about r commands ▸ add d else about r commands
-about r (commands ▸ remove gone) = if bytes_eq r gone then about r commands ▸ remove gone else about r commands
+about r (commands ▸ add d) = if bytes_eq r d.reference then about r commands ▸ add d else about r
+    commands
+about r (commands ▸ remove gone) = if bytes_eq r gone then about r commands ▸ remove gone else about
+    r commands
 about r (commands ▸ compact) = about r commands
 
 -- no compaction is among the commands

@@ -1,11 +1,15 @@
 -- On a line and the line feed at its end, and on the index in a script.
-use Rattle.std.proofs.Common.{◌≡◌, ◌≢◌, ◌⊎◌, ◌<◌, ◌≤◌, List, ℕ, [], ◌∷◌, ◌++◌, true, false, length, take, drop, get_or, Option, Some, None, MatchOption, unwrap_or, Bor, refl, sym, ap, subst, ◌∙◌, inl, inr, arith, true≢false}
+use Rattle.std.proofs.Common.{◌≡◌, ◌≢◌, ◌⊎◌, ◌<◌, ◌≤◌, List, ℕ, [], ◌∷◌, ◌++◌, true, false, length, take, drop, get_or}
+use Rattle.std.proofs.Common.{Option, Some, None, MatchOption, unwrap_or, Bor, refl, sym, ap, subst, ◌∙◌, inl, inr}
+use Rattle.std.proofs.Common.{arith, true≢false}
 use Rattle.std.proofs.lemmas.Bool.{cases_order}
 use Rattle.std.proofs.lemmas.List.{drop_all}
 use Rattle.elasticlunr_job_format.specs.Lines.{is_space}
 use Rattle.elasticlunr_diagnostics.specs.Script.{begins_object, HasIndex, IsEnd, IsObjectStart, IsWithoutFeed}
 
-pub without_feed : (line : Bor (List ℕ)) (cut : Option (Bor (List ℕ))) → MatchOption cut ((front : List ℕ) → line.now ≢ front ++ (10 ∷ [])) (λ x. line.now ≡ x.now ++ (10 ∷ [])) → IsWithoutFeed line.now (unwrap_or cut line).now
+pub without_feed : (line : Bor (List ℕ)) (cut : Option (Bor (List ℕ)))
+    → MatchOption cut ((front : List ℕ) → line.now ≢ front ++ (10 ∷ [])) (λ x. line.now ≡ x.now ++ (10 ∷ []))
+    → IsWithoutFeed line.now (unwrap_or cut line).now
 without_feed line None none = inr (refl, none)
 without_feed line (Some index) is = inl is
 
@@ -23,7 +27,8 @@ ends_once text a b one other = by (cases_order a b)
     by (inr (inr more)) = absurd (no_space (get_or text a 0) one.semicolon (other.behind a more one.within))
 
 -- after the last byte that is no white space no script ends, nor at it where it is no semicolon
-pub ends_nowhere : (text : List ℕ) (at : ℕ) → at < length text → is_space (get_or text at 0) ≡ false → get_or text at 0 ≢ 59
+pub ends_nowhere : (text : List ℕ) (at : ℕ) → at < length text → is_space (get_or text at 0) ≡ false
+    → get_or text at 0 ≢ 59
     → ((k : ℕ) → at < k → k < length text → is_space (get_or text k 0) ≡ true) → (end : ℕ) → ¬ IsEnd text end
 ends_nowhere text at within filled other behind end is = by (cases_order end at)
   where
@@ -32,11 +37,13 @@ ends_nowhere text at within filled other behind end is = by (cases_order end at)
     by (inr (inl less)) = true≢false (sym (is.behind at less within) ∙ filled)
     by (inr (inr more)) = no_space (get_or text end 0) is.semicolon (behind end more is.within)
 
-pub blank_ends_nowhere : (text : List ℕ) → ((k : ℕ) → 0 ≤ k → k < length text → is_space (get_or text k 0) ≡ true) → (end : ℕ) → ¬ IsEnd text end
+pub blank_ends_nowhere : (text : List ℕ) → ((k : ℕ) → 0 ≤ k → k < length text → is_space (get_or text k 0) ≡ true)
+    → (end : ℕ) → ¬ IsEnd text end
 blank_ends_nowhere text blank end is = no_space (get_or text end 0) is.semicolon (blank end (omega arith) is.within)
 
 -- no object begins in the text, nor after it
-pub starts_nowhere : (script : List ℕ) (n : ℕ) → length script ≤ n → ((k : ℕ) → k < n → begins_object (drop k script) ≡ false) → (start : ℕ) → ¬ IsObjectStart script start
+pub starts_nowhere : (script : List ℕ) (n : ℕ) → length script ≤ n
+    → ((k : ℕ) → k < n → begins_object (drop k script) ≡ false) → (start : ℕ) → ¬ IsObjectStart script start
 starts_nowhere script n past none start is = by (cases_order start n)
   where
     end : length script ≤ start → ⊥
@@ -48,5 +55,8 @@ starts_nowhere script n past none start is = by (cases_order start n)
     by (inr (inr more)) = end (omega arith)
 
 -- a text with such an end and no object before it has no index
-pub has_none : (text : List ℕ) (end : ℕ) → IsEnd text end → ((start : ℕ) → ¬ IsObjectStart (take end text) start) → (index : List ℕ) → ¬ HasIndex text index
-has_none text end is_end none index has = none has.start (subst (λ e. IsObjectStart (take e text) has.start) (ends_once text has.end end has.is_end is_end) has.is_start)
+pub has_none : (text : List ℕ) (end : ℕ) → IsEnd text end → ((start : ℕ) → ¬ IsObjectStart (take end text) start)
+    → (index : List ℕ) → ¬ HasIndex text index
+has_none text end is_end none index has =
+    none has.start (subst (λ e. IsObjectStart (take e text) has.start) (ends_once text has.end end has.is_end is_end)
+    has.is_start)

@@ -11,7 +11,8 @@ same_but_for_case text other = bytes_eq (map to_ascii_lowercase text) (map to_as
 
 -- the language has this name or code, but for the case of ASCII letters
 abbrev pub is_called : Bytes → AnyLanguage → Bool
-is_called asked language = same_but_for_case (language_name language) asked || same_but_for_case (language_code language) asked
+is_called asked language = same_but_for_case (language_name language) asked || same_but_for_case
+    (language_code language) asked
 
 -- the name of the first language that is called so
 abbrev pub name_asked : Bytes → Option Bytes

@@ -4,9 +4,11 @@ use Rattle.elasticlunr_job_format.specs.JobKeys.{key_name}
 use Rattle.elasticlunr_job_format.specs.declared.fault.DocumentFault.{DocumentFault}
 use Rattle.elasticlunr_job_format.specs.declared.fault.DocumentFault.TheVariants as doc
 use Rattle.elasticlunr_job_format.specs.declared.fault.Fault.{Fault}
-use Rattle.elasticlunr_job_format.specs.declared.fault.Fault.TheVariants.{NotAnObject, UnknownKey, Member, Missing}
+use Rattle.elasticlunr_job_format.specs.declared.fault.Fault.TheVariants.{NotAnObject, UnknownKey}
+use Rattle.elasticlunr_job_format.specs.declared.fault.Fault.TheVariants.{Member, Missing}
 use Rattle.elasticlunr_job_format.specs.declared.fault.MemberFault.{MemberFault}
-use Rattle.elasticlunr_job_format.specs.declared.fault.MemberFault.TheVariants.{Other, Item, Document}
+use Rattle.elasticlunr_job_format.specs.declared.fault.MemberFault.TheVariants.{Other, Item}
+use Rattle.elasticlunr_job_format.specs.declared.fault.MemberFault.TheVariants.{Document}
 use Rattle.elasticlunr_json_place.specs.Members.{Move, item, under}
 
 -- from a value that is no document to what is wrong in it
@@ -21,7 +23,8 @@ member_fault_path (Other _) = []
 member_fault_path (Item number _) = item number ∷ []
 member_fault_path (Document number fault) = item number ∷ document_fault_path fault
 
--- from a value that is no job to what has the fault: itself, the member under a key, or an item in that
+-- from a value that is no job to what has the fault: itself, the member under a key, or an item in
+-- that
 abbrev pub fault_path : Fault → List Move
 fault_path (NotAnObject _) = []
 fault_path (UnknownKey key) = under key.now ∷ []

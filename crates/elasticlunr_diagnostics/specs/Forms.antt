@@ -1,5 +1,6 @@
 -- The form of an input.
-use Rattle.std.specs.Prelude.{◌&&◌, ◌||◌, ◌==◌, Bool, false, not, Option, option_map, unwrap_or, find, codes, is_some, if◌then◌else◌}
+use Rattle.std.specs.Prelude.{◌&&◌, ◌||◌, ◌==◌, Bool, false, not, Option, option_map, unwrap_or}
+use Rattle.std.specs.Prelude.{find, codes, is_some, if◌then◌else◌}
 use Rattle.serde_json.specs.Data.{Data}
 use Rattle.serde_json.specs.Find.{as_object, get}
 use Rattle.elasticlunr_text.specs.Text.{Bytes}
@@ -24,7 +25,8 @@ is_object_line d = is_some (as_object d) && not (has (codes "docs") d || has (co
 
 -- the first byte that is no space is `[`
 abbrev pub begins_an_array : Bytes → Bool
-begins_an_array line = unwrap_or (option_map (λ b. b == 91) (find (λ b. not (is_space b)) line)) false
+begins_an_array line = unwrap_or (option_map (λ b. b == 91) (find (λ b. not (is_space b)) line))
+    false
 
 -- a first line with this value is one of lines, or a whole job
 abbrev pub value_form : Data → Form
@@ -32,7 +34,8 @@ value_form d = if is_object_line d then Lines else Job
 
 -- a first line begins an array of objects, or has a value, or begins a job
 abbrev pub line_form : Bytes → Form
-line_form line = if begins_an_array line then Objects else unwrap_or (option_map value_form (reading line)) Job
+line_form line = if begins_an_array line then Objects else unwrap_or
+    (option_map value_form (reading line)) Job
 
 -- the form that a text tells by its first line that is not blank
 abbrev pub told_form : Bytes → Form

@@ -1,31 +1,32 @@
 -- Why there is no index, and the place that a message speaks of.
 use Rattle.std.specs.Option.{SomeIff}
 use Rattle.std.specs.Prelude.{◌≡◌, ◌+◌, ◌<◌, ◌^◌, ⊤, ℕ, Option, Some, None, IfSome, IsSome}
-use Rattle.elasticlunr_diagnostics.specs.declared.message.Trouble.{Trouble}
-use Rattle.elasticlunr_diagnostics.specs.declared.message.Trouble.TheVariants.{Refused, Memory, Device}
+use Rattle.elasticlunr_diagnostics.specs.declared.message.InputError.{InputError}
+use Rattle.elasticlunr_diagnostics.specs.declared.message.InputError.TheVariants.{Refused, Memory}
+use Rattle.elasticlunr_diagnostics.specs.declared.message.InputError.TheVariants.{Device}
 use Rattle.elasticlunr_json_place.specs.Whole.{below}
 use Rattle.elasticlunr_json_place.specs.declared.place.Place.{Place}
 
 -- memory runs out, or it is refused for this reason
-abbrev pub IsMemoryOr : Type 0 → Trouble → Type 0
+abbrev pub IsMemoryOr : Type 0 → InputError → Type 0
 IsMemoryOr reason Memory = ⊤
 IsMemoryOr reason (Device _) = ⊥
 IsMemoryOr reason (Refused _) = reason
 
 -- memory runs out, or the reader failed: nothing is refused
-abbrev pub IsMemoryOrDevice : Trouble → Type 0
+abbrev pub IsMemoryOrDevice : InputError → Type 0
 IsMemoryOrDevice Memory = ⊤
 IsMemoryOrDevice (Device _) = ⊤
 IsMemoryOrDevice (Refused _) = ⊥
 
 -- memory runs out, or it is refused, and the message has a place
-abbrev pub IsMemoryOrPlaced : Trouble → Type 0
+abbrev pub IsMemoryOrPlaced : InputError → Type 0
 IsMemoryOrPlaced Memory = ⊤
 IsMemoryOrPlaced (Device _) = ⊥
 IsMemoryOrPlaced (Refused message) = IsSome message.place
 
 -- the place of a refusal is so, where its message has one
-abbrev pub IfPlaced : (Place → Type 0) → Trouble → Type 0
+abbrev pub IfPlaced : (Place → Type 0) → InputError → Type 0
 IfPlaced Is Memory = ⊤
 IfPlaced Is (Device _) = ⊤
 IfPlaced Is (Refused message) = IfSome message.place Is

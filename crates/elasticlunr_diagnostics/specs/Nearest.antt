@@ -1,11 +1,13 @@
 -- The name that was meant.
-use Rattle.std.specs.Prelude.{◌≡◌, ◌<◌, ◌≤◌, ◌/◌, ◌++◌, ◌∷◌, [], ℕ, List, Option, Some, None, All, length, map, max, if◌then◌else◌, bytes_eq, nat_eq}
+use Rattle.std.specs.Prelude.{◌≡◌, ◌<◌, ◌≤◌, ◌/◌, ◌++◌, ◌∷◌, [], ℕ, List, Option, Some, None, All}
+use Rattle.std.specs.Prelude.{length, map, max, if◌then◌else◌, bytes_eq, nat_eq}
 use Rattle.std.specs.Char.{to_ascii_lowercase}
 use Rattle.std.specs.Str.{chars}
 use Rattle.elasticlunr_text.specs.Text.{Bytes}
 use Rattle.strsim.specs.Edits.{damerau}
 
--- how many edits lead from some characters to others: one more, one less, another one, or two neighbours the other way round
+-- how many edits lead from some characters to others: one more, one less, another one, or two
+-- neighbours the other way round
 abbrev pub between : List ℕ → List ℕ → ℕ
 between [] others = length others
 between (c ∷ those) [] = length (c ∷ those)

@@ -1,15 +1,18 @@
 -- The text of a script that holds an index.
-use Rattle.std.specs.Prelude.{◌≡◌, ◌≢◌, ◌⊎◌, ◌<◌, ◌==◌, ◌&&◌, ℕ, Bool, true, false, not, [], ◌∷◌, ◌++◌, length, take, drop, find, slice_index, option_map, unwrap_or}
+use Rattle.std.specs.Prelude.{◌≡◌, ◌≢◌, ◌⊎◌, ◌<◌, ◌==◌, ◌&&◌, ℕ, Bool, true, false, not, [], ◌∷◌}
+use Rattle.std.specs.Prelude.{◌++◌, length, take, drop, find, slice_index, option_map, unwrap_or}
 use Rattle.elasticlunr_text.specs.Text.{Bytes}
 use Rattle.elasticlunr_job_format.specs.Lines.{is_space}
 
 -- the line without the line feed at its end, where it has one
 abbrev pub IsWithoutFeed : Bytes → Bytes → Type 0
-IsWithoutFeed line index = (line ≡ index ++ 10 ∷ []) ⊎ ((line ≡ index) × ((front : Bytes) → line ≢ front ++ 10 ∷ []))
+IsWithoutFeed line index = (line ≡ index ++ 10 ∷ [])
+    ⊎ ((line ≡ index) × ((front : Bytes) → line ≢ front ++ 10 ∷ []))
 
 -- the text before, the line without its line feed, a semicolon and a line feed
 abbrev pub IsScript : Bytes → Bytes → Bytes → Type 0
-IsScript before line script = (index : Bytes) × IsWithoutFeed line index × (script ≡ before ++ index ++ (59 ∷ 10 ∷ []))
+IsScript before line script = (index : Bytes) × IsWithoutFeed line index
+    × (script ≡ before ++ index ++ (59 ∷ 10 ∷ []))
 
 -- the first byte that is no space is `"`
 abbrev pub begins_string : Bytes → Bool
@@ -31,7 +34,8 @@ pub record IsEnd (text : Bytes) (end : ℕ) : Type 0 where
   pub semicolon : slice_index text end ≡ 59
   pub behind : (k : ℕ) → end < k → k < length text → is_space (slice_index text k) ≡ true
 
--- the text is a script, and this is the index in it: what stands from its first object up to the semicolon at its end
+-- the text is a script, and this is the index in it: what stands from its first object up to the
+-- semicolon at its end
 pub record HasIndex (text index : Bytes) : Type 0 where
   pub start : ℕ
   pub end : ℕ
@@ -41,4 +45,5 @@ pub record HasIndex (text index : Bytes) : Type 0 where
 
 -- it is the index in a script, or the text itself, which is no script
 abbrev pub IsIndexIn : Bytes → Bytes → Type 0
-IsIndexIn text index = HasIndex text index ⊎ ((index ≡ text) × ((other : Bytes) → ¬ HasIndex text other))
+IsIndexIn text index = HasIndex text index
+    ⊎ ((index ≡ text) × ((other : Bytes) → ¬ HasIndex text other))

@@ -1,14 +1,17 @@
 //! In which form the documents come.
-ghost use Rattle.std.specs.Prelude.{◌≡◌, ◌≢◌, Some, None, not, IfOk, IfErr, IfSome, IfNone, find, option_map};
+ghost use Rattle.std.specs.Prelude.{◌≡◌, ◌≢◌, Some, None, not, IfOk, IfErr, IfSome, IfNone, find};
+ghost use Rattle.std.specs.Prelude.{option_map};
 ghost use Rattle.elasticlunr_job_format.specs.Lines.{is_filled, is_space, lines_of};
-ghost use Rattle.elasticlunr_diagnostics.specs.Forms.{asked_or_told, begins_an_array, form_word, has, is_object_line, line_form, told_form, value_form};
+ghost use Rattle.elasticlunr_diagnostics.specs.Forms.{asked_or_told, begins_an_array, form_word};
+ghost use Rattle.elasticlunr_diagnostics.specs.Forms.{has, is_object_line, line_form, told_form};
+ghost use Rattle.elasticlunr_diagnostics.specs.Forms.{value_form};
 ghost use Rattle.elasticlunr_job_format.specs.Reading.{reading};
 ghost use Rattle.elasticlunr_json_place.specs.Places.{IsPlaceIn};
 ghost use Rattle.elasticlunr_diagnostics.specs.Messages.{IfPlaced, IsMemoryOr, IsMemoryOrPlaced};
 ghost use Rattle.elasticlunr_diagnostics.specs.declared.form.Form.{Form};
 ghost use Rattle.serde_json.specs.View.{view};
 
-use crate::message::{Trouble, not_json};
+use crate::message::{InputError, not_json};
 use elasticlunr_job_format::lines::{is_blank, is_space};
 use serde_json::Value;
 use std::alloc::{AllocError, Global};
@@ -39,7 +42,8 @@ pub fn form_of(word: &str) -> Option<Form>
 
 /// The form that was asked for, or else the one that the text tells by its first line that isn't
 /// blank: one that begins with `[` begins an array of objects; an object with neither `docs` nor
-/// `fields` is the first of lines, and all else is a job, or begins one. So documents as lines, the
+/// `fields` is the first of lines, and all else is a job, or begins one. So documents as lines,
+/// the
 /// first of which has a key `docs` or `fields`, have to be asked for.
 pub fn asked_or_told(alloc: Global, text: &[u8], asked: Option<Form>) -> Result<Form, AllocError>
     ensures { IfOk result (λ form. form ≡ asked_or_told asked text.now) }
@@ -125,7 +129,7 @@ fn first_filled(text: &[u8]) -> Option<&[u8]>
 }
 
 /// Reads the value that a whole text is.
-pub fn read_value(alloc: Global, text: &[u8]) -> Result<Value, Trouble>
+pub fn read_value(alloc: Global, text: &[u8]) -> Result<Value, InputError>
     ensures ok { IfOk result (λ value. reading text.now ≡ Some (view value)) }
     ensures err { IfErr result (IsMemoryOr (reading text.now ≡ None)) }
     ensures place { IfErr result (IfPlaced (IsPlaceIn text.now)) }
@@ -133,7 +137,7 @@ pub fn read_value(alloc: Global, text: &[u8]) -> Result<Value, Trouble>
 {
     match Value::from_slice(alloc, text) {
         Ok(value) => Ok(value),
-        Err(e) if e.is_memory() => Err(Trouble::Memory),
-        Err(e) => Err(Trouble::Refused(not_json(alloc, text, &e)?)),
+        Err(e) if e.is_memory() => Err(InputError::Memory),
+        Err(e) => Err(InputError::Refused(not_json(alloc, text, &e)?)),
     }
 }

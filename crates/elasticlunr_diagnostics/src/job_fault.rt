@@ -22,7 +22,8 @@ pub fn fault_message(
     value: &Value,
     fault: Fault<'_>,
 ) -> Result<Message, AllocError>
-    ensures { IfOk result (λ message. IfSome message.place (IsPlaceOf None (fault_path fault.entry) text.now)) }
+    ensures { IfOk result (λ message. IfSome message.place
+        (IsPlaceOf None (fault_path fault.entry) text.now)) }
 {
     match fault {
         Fault::NotAnObject(found) => unfit(alloc, text, &[], "the input", found, A_JOB),
@@ -40,7 +41,8 @@ pub fn fault_message(
 
 /// That a key is none of a job.
 fn unknown_key(alloc: Global, text: &[u8], key: &str) -> Result<Message, AllocError>
-    ensures { IfOk result (λ message. IfSome message.place (IsPlaceOf None (under key.now ∷ []) text.now)) }
+    ensures { IfOk result (λ message. IfSome message.place
+        (IsPlaceOf None (under key.now ∷ []) text.now)) }
 {
     let near = nearest(alloc, key, &job_keys())?;
     let said = match near {
@@ -64,7 +66,8 @@ fn wanted_words(wanted: Wanted) -> &'static str {
 
 /// That the member under a key is of this kind, where another is expected.
 fn other_kind(alloc: Global, text: &[u8], key: Key, found: Kind) -> Result<Message, AllocError>
-    ensures { IfOk result (λ message. IfSome message.place (IsPlaceOf None (under (key_name key) ∷ []) text.now)) }
+    ensures { IfOk result (λ message. IfSome message.place
+        (IsPlaceOf None (under (key_name key) ∷ []) text.now)) }
 {
     let name = key.name();
     let wanted = wanted_words(key.wanted());

@@ -23,7 +23,7 @@ pub struct Message {
 
 /// Why there is no index.
 #[derive(Drop)]
-pub enum Trouble {
+pub enum InputError {
     /// The input is refused.
     Refused(Message),
     /// The input could not be read.
@@ -32,36 +32,36 @@ pub enum Trouble {
     Memory,
 }
 
-impl From<AllocError> for Trouble {
-    ghost use Rattle.elasticlunr_diagnostics.specs.declared.message.Trouble.TheVariants.{Memory};
+impl From<AllocError> for InputError {
+    ghost use Rattle.elasticlunr_diagnostics.specs.declared.message.InputError.TheVariants.{Memory};
     ghost use Rattle.std.specs.Prelude.{◌≡◌};
 
     ghost from_gives = { λ _ e. e ≡ Memory };
 
-    fn from(_refused: AllocError) -> Trouble {
-        Trouble::Memory
+    fn from(_refused: AllocError) -> InputError {
+        InputError::Memory
     }
 }
 
-impl<T: Drop> From<AllocFailed<T>> for Trouble {
-    ghost use Rattle.elasticlunr_diagnostics.specs.declared.message.Trouble.TheVariants.{Memory};
+impl<T: Drop> From<AllocFailed<T>> for InputError {
+    ghost use Rattle.elasticlunr_diagnostics.specs.declared.message.InputError.TheVariants.{Memory};
     ghost use Rattle.std.specs.Prelude.{◌≡◌};
 
     ghost from_gives = { λ _ e. e ≡ Memory };
 
-    fn from(_refused: AllocFailed<T>) -> Trouble {
-        Trouble::Memory
+    fn from(_refused: AllocFailed<T>) -> InputError {
+        InputError::Memory
     }
 }
 
-impl From<io::Error> for Trouble {
-    ghost use Rattle.elasticlunr_diagnostics.specs.declared.message.Trouble.TheVariants.{Device};
+impl From<io::Error> for InputError {
+    ghost use Rattle.elasticlunr_diagnostics.specs.declared.message.InputError.TheVariants.{Device};
     ghost use Rattle.std.specs.Prelude.{◌≡◌};
 
     ghost from_gives = { λ failed e. e ≡ Device failed };
 
-    fn from(failed: io::Error) -> Trouble {
-        Trouble::Device(failed)
+    fn from(failed: io::Error) -> InputError {
+        InputError::Device(failed)
     }
 }
 
@@ -72,7 +72,8 @@ pub fn message_at(
     path: &[Step<'_>],
     said: String,
 ) -> Result<Message, AllocError>
-    ensures place { IfOk result (λ message. IfSome message.place (IsPlaceOf None (path_told path.now) text.now)) }
+    ensures place { IfOk result (λ message. IfSome message.place
+        (IsPlaceOf None (path_told path.now) text.now)) }
     ensures text { IfOk result (λ message. message.text ≡ said) }
 {
     let place = place_of(alloc, text, None, path)?;
@@ -117,7 +118,8 @@ pub fn wants(
     value: &Value,
     wanted: &str,
 ) -> Result<Message, AllocError>
-    ensures { IfOk result (λ message. IfSome message.place (IsPlaceOf None (path_told path.now) text.now)) }
+    ensures { IfOk result (λ message. IfSome message.place
+        (IsPlaceOf None (path_told path.now) text.now)) }
 {
     unfit(alloc, text, path, label, kind_of(value), wanted)
 }
@@ -131,7 +133,8 @@ pub fn unfit(
     found: Kind,
     wanted: &str,
 ) -> Result<Message, AllocError>
-    ensures { IfOk result (λ message. IfSome message.place (IsPlaceOf None (path_told path.now) text.now)) }
+    ensures { IfOk result (λ message. IfSome message.place
+        (IsPlaceOf None (path_told path.now) text.now)) }
 {
     let found = kind_words(found);
     let said = format!(in alloc; "{label}: expected {wanted}, found {found}")?;

@@ -12,7 +12,8 @@ pub fn nearest<'a>(
     asked: &str,
     names: &[&'a str],
 ) -> Result<Option<&'a str>, AllocError>
-    ensures { IfOk result (IsNearest (λ name. edits (small asked.now) (small name.now)) (few asked.now) names.now) }
+    ensures { IfOk result (IsNearest (λ name. edits (small asked.now) (small name.now))
+        (few asked.now) names.now) }
 {
     let asked = asked.to_ascii_lowercase(alloc)?;
     let mut best = None;

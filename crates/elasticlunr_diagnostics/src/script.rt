@@ -1,7 +1,8 @@
 //! The text of an index as a script, and the index in a script.
 ghost use Rattle.std.specs.Prelude.{◌≡◌, ℕ, string_bytes, IfOk, IfSome, IfNone};
 ghost use Rattle.elasticlunr_text.specs.Text.{Bytes};
-ghost use Rattle.elasticlunr_diagnostics.specs.Script.{begins_object, HasIndex, IsEnd, IsIndexIn, IsObjectStart, IsScript, IsWithoutFeed};
+ghost use Rattle.elasticlunr_diagnostics.specs.Script.{begins_object, HasIndex, IsEnd, IsIndexIn};
+ghost use Rattle.elasticlunr_diagnostics.specs.Script.{IsObjectStart, IsScript, IsWithoutFeed};
 
 use crate::form::first_byte;
 use elasticlunr_job_format::lines::is_space;
@@ -25,7 +26,8 @@ fn without_feed(line: &str) -> &str
     line.strip_suffix('\n').unwrap_or(line)
 }
 
-/// The index in a script: from its first object with a member up to the `;` at its end. A text that
+/// The index in a script: from its first object with a member up to the `;` at its end. A text
+/// that
 /// is no script is given back as it is.
 pub fn index_in(text: &[u8]) -> &[u8]
     ensures { IsIndexIn text.now result.now }

@@ -13,20 +13,23 @@ use Rattle.elasticlunr_documents.specs.Objects.{IsLineOfObjects, job_of}
 use Rattle.elasticlunr_documents.specs.declared.lines.LastLine.{LastLine}
 use Rattle.elasticlunr_documents.specs.declared.lines.LinesError.{LinesError}
 use Rattle.elasticlunr_documents.specs.declared.lines.LinesError.TheVariants as error
-use Rattle.elasticlunr_job_format.specs.declared.objects.Problem.{Problem}
-use Rattle.elasticlunr_job_format.specs.declared.objects.Problem.TheVariants.{NotJson}
+use Rattle.elasticlunr_job_format.specs.declared.objects.ObjectFault.{ObjectFault}
+use Rattle.elasticlunr_job_format.specs.declared.objects.ObjectFault.TheVariants.{NotJson}
 
 -- the text of the index of the documents that the lines are, and a line feed
 abbrev pub IsLineOfLines : Options → Bytes → Bytes → Type 0
-IsLineOfLines options input text = (items : List Data) × AreLineValues input items × IsLineOfObjects options items text
+IsLineOfLines options input text = (items : List Data) × AreLineValues input items
+    × IsLineOfObjects options items text
 
 -- what is wrong with a line that is read so: it is not JSON, or its value is no document
-abbrev pub HasLineProblem : Options → Option Data → Problem → Type 0
+abbrev pub HasLineProblem : Options → Option Data → ObjectFault → Type 0
 HasLineProblem options None problem = problem ≡ NotJson
 HasLineProblem options (Some d) problem = HasProblem options d problem
 
--- the lines before a line are documents, and it is none; its number counts from 1, without the blank ones
-pub record IsFirstNoDocument (options : Options) (before line : Bytes) (number : ℕ) (problem : Problem) : Type 0 where
+-- the lines before a line are documents, and it is none; its number counts from 1, without the
+-- blank ones
+pub record IsFirstNoDocument (options : Options) (before line : Bytes) (number : ℕ)
+    (problem : ObjectFault) : Type 0 where
   pub items : List Data
   pub documents : List Document
   pub are_values : AreLineValues before items
@@ -39,15 +42,19 @@ abbrev pub HasFitOptions : Options → Type 0
 HasFitOptions options = NamesLanguage options.language × (all_differ options.fields ≡ true)
 
 -- the line that was read last of what was left is no document, and all lines before it are
-abbrev pub StopsAtLine : Options → Option Bytes → LastLine → ℕ → Problem → Type 0
-StopsAtLine options left last number problem = (before : Bytes) × IsLineAfter left before last.text.items last.before × IsFirstNoDocument options before last.text.items number problem
+abbrev pub StopsAtLine : Options → Option Bytes → LastLine → ℕ → ObjectFault → Type 0
+StopsAtLine options left last number problem = (before : Bytes)
+    × IsLineAfter left before last.text.items last.before
+    × IsFirstNoDocument options before last.text.items number problem
 
--- why no index of the lines that were left is printed: the check that the options fail first, or else the first line that is no document, which was read last
+-- why no index of the lines that were left is printed: the check that the options fail first, or
+-- else the first line that is no document, which was read last
 abbrev pub FailsLines : Options → Option Bytes → LastLine → LinesError → Type 0
 FailsLines options left last error.Memory = ⊤
 FailsLines options left last (error.Device _) = ⊤
 FailsLines options left last (error.Refused refusal) = FailsAt (job_of options []) refusal
-FailsLines options left last (error.Document number problem) = HasFitOptions options × StopsAtLine options left last number problem
+FailsLines options left last (error.Document number problem) = HasFitOptions options
+    × StopsAtLine options left last number problem
 
 -- where it is said that a read failed, this holds
 abbrev pub IfDevice : Type 0 → LinesError → Type 0

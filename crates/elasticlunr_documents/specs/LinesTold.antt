@@ -17,8 +17,8 @@ use Rattle.elasticlunr_documents.specs.Objects.{job_of}
 use Rattle.elasticlunr_documents.specs.declared.lines.LastLine.{LastLine}
 use Rattle.elasticlunr_documents.specs.declared.lines.LinesError.{LinesError}
 use Rattle.elasticlunr_documents.specs.declared.lines.LinesError.TheVariants as error
-use Rattle.elasticlunr_job_format.specs.declared.objects.Problem.{Problem}
-use Rattle.elasticlunr_job_format.specs.declared.objects.Problem.TheVariants.{NotJson}
+use Rattle.elasticlunr_job_format.specs.declared.objects.ObjectFault.{ObjectFault}
+use Rattle.elasticlunr_job_format.specs.declared.objects.ObjectFault.TheVariants.{NotJson}
 use Rattle.elasticlunr_job_format.specs.declared.outcome.Refusal.TheVariants as refusal
 
 -- of what was left a line was taken, with the line feed after it where there is more
@@ -33,8 +33,9 @@ IsValueOf line None = is_blank line ≡ true
 IsValueOf line (Some d) = (is_blank line ≡ false) × (reading line ≡ Some d)
 
 -- a line was taken that is neither blank nor JSON
-abbrev pub IsUnreadAfter : (left now : Option Bytes) → Bytes → Problem → Type 0
-IsUnreadAfter left now line problem = (more : Bool) × IsTaken left now line more × (is_blank line ≡ false) × (reading line ≡ None) × (problem ≡ NotJson)
+abbrev pub IsUnreadAfter : (left now : Option Bytes) → Bytes → ObjectFault → Type 0
+IsUnreadAfter left now line problem = (more : Bool) × IsTaken left now line more
+    × (is_blank line ≡ false) × (reading line ≡ None) × (problem ≡ NotJson)
 
 -- a line was not read: the reader failed, or memory runs out
 abbrev pub IsUnread : LinesError → Type 0
@@ -43,30 +44,33 @@ IsUnread (error.Device _) = ⊤
 IsUnread _ = ⊥
 
 -- the line of this number has a problem, or memory runs out
-abbrev pub StopsOn : ℕ → (Problem → Type 0) → LinesError → Type 0
+abbrev pub StopsOn : ℕ → (ObjectFault → Type 0) → LinesError → Type 0
 StopsOn number Has error.Memory = ⊤
 StopsOn number Has (error.Document place problem) = (place ≡ number) × Has problem
 StopsOn number Has _ = ⊥
 
 -- so it is, or the reader failed
-abbrev pub StopsReading : ℕ → (Problem → Type 0) → LinesError → Type 0
+abbrev pub StopsReading : ℕ → (ObjectFault → Type 0) → LinesError → Type 0
 StopsReading number Has (error.Device _) = ⊤
 StopsReading number Has e = StopsOn number Has e
 
--- the line that was read last of what was left is the first that is no document, or something else fails that says nothing of it
+-- the line that was read last of what was left is the first that is no document, or something else
+-- fails that says nothing of it
 abbrev pub StopsFilling : Options → Option Bytes → LastLine → LinesError → Type 0
 StopsFilling options left last error.Memory = ⊤
 StopsFilling options left last (error.Device _) = ⊤
 StopsFilling options left last (error.Refused _) = ⊥
-StopsFilling options left last (error.Document number problem) = StopsAtLine options left last number problem
+StopsFilling options left last (error.Document number problem) = StopsAtLine options left last
+    number problem
 
 -- the text of the index, in this language, of the documents that the lines are
-pub record IsFilledLine (options : Options) (language : AnyLanguage) (input text : Bytes) : Type 0 where
-  pub items : List Data
-  pub documents : List Document
-  pub are_values : AreLineValues input items
-  pub are_documents : AreDocumentsOf options items documents
-  pub is_line : IsIndexLine (job_of options documents) language text
+pub record IsFilledLine (options : Options) (language : AnyLanguage) (input text : Bytes) : Type 0
+  where
+    pub items : List Data
+    pub documents : List Document
+    pub are_values : AreLineValues input items
+    pub are_documents : AreDocumentsOf options items documents
+    pub is_line : IsIndexLine (job_of options documents) language text
 
 -- how a refusal of the builder ends the work on lines; the others are out of memory
 abbrev pub index_error_of : IndexError → LinesError

@@ -23,10 +23,14 @@ job_of options docs = record {
 
 -- the text of the index of the documents that the values are, and a line feed
 abbrev pub IsLineOfObjects : Options → List Data → Bytes → Type 0
-IsLineOfObjects options items text = (docs : List Document) × AreDocumentsOf options items docs × IsLineOf (job_of options docs) text
+IsLineOfObjects options items text = (docs : List Document) × AreDocumentsOf options items docs
+    × IsLineOf (job_of options docs) text
 
--- why no index of the values is printed: the first that is no document, or else the check that their job fails first
+-- why no index of the values is printed: the first that is no document, or else the check that
+-- their job fails first
 abbrev pub FailsObjects : Options → List Data → ObjectsError → Type 0
 FailsObjects options items error.Memory = ⊤
-FailsObjects options items (error.Document place problem) = IsFirstProblem options items place problem
-FailsObjects options items (error.Refused refusal) = (docs : List Document) × AreDocumentsOf options items docs × FailsAt (job_of options docs) refusal
+FailsObjects options items (error.Document place problem) = IsFirstProblem options items place
+    problem
+FailsObjects options items (error.Refused refusal) = (docs : List Document)
+    × AreDocumentsOf options items docs × FailsAt (job_of options docs) refusal

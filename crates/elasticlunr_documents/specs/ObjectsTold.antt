@@ -8,4 +8,4 @@ use Rattle.elasticlunr_documents.specs.declared.objects.ObjectsError.TheVariants
 -- how a document with this number that is not added stops all
 abbrev pub stop_at : ℕ → AddError → ObjectsError
 stop_at place add.Memory = error.Memory
-stop_at place (add.Problem problem) = error.Document place problem
+stop_at place (add.ObjectFault problem) = error.Document place problem

@@ -1,9 +1,11 @@
 //! The text of the index of documents as lines of JSON, an object each.
 //!
-//! Lines are read one by one: a line and its value are let go before the next one is read. Lines of
+//! Lines are read one by one: a line and its value are let go before the next one is read. Lines
+//! of
 //! white space are passed over.
 
-ghost use Rattle.std.specs.Prelude.{◌≡◌, [], true, Some, None, option_map, string_bytes, IfOk, IfErr};
+ghost use Rattle.std.specs.Prelude.{◌≡◌, [], true, Some, None, option_map, string_bytes, IfOk};
+ghost use Rattle.std.specs.Prelude.{IfErr};
 ghost use Rattle.elasticlunr.specs.Index.{plan_of, IsDocument, StandsFor};
 ghost use Rattle.elasticlunr.specs.History.{Commands};
 ghost use Rattle.elasticlunr.specs.Printed.{IsTextAfter};
@@ -13,7 +15,9 @@ ghost use Rattle.elasticlunr_text.specs.Text.{Bytes};
 ghost use Rattle.elasticlunr_job.specs.Commands.{language_tokens};
 ghost use Rattle.elasticlunr_job.specs.Filled.{IsBuiltFor};
 ghost use Rattle.elasticlunr_documents.specs.Lines.{FailsLines, IfDevice, IsLineOfLines};
-ghost use Rattle.elasticlunr_documents.specs.LinesTold.{IsFilledLine, IsTaken, IsUnread, IsUnreadAfter, IsValueOf, StopsFilling, StopsOn, StopsReading};
+ghost use Rattle.elasticlunr_documents.specs.LinesTold.{IsFilledLine, IsTaken, IsUnread};
+ghost use Rattle.elasticlunr_documents.specs.LinesTold.{IsUnreadAfter, IsValueOf, StopsFilling};
+ghost use Rattle.elasticlunr_documents.specs.LinesTold.{StopsOn, StopsReading};
 ghost use Rattle.elasticlunr_documents.specs.Objects.{job_of};
 ghost use Rattle.elasticlunr_job_format.specs.LineRead.{AreAll};
 ghost use Rattle.elasticlunr_job_format.specs.Objects.{HasProblem, IsDocumentOf};
@@ -22,12 +26,12 @@ ghost use Rattle.elasticlunr_job_format.specs.Reading.{reading};
 ghost use Rattle.serde_json.specs.View.{view};
 
 use crate::marked::MarkedRead;
-use crate::objects::{AddError, Object, Options, Problem, object_of};
+use crate::objects::{AddError, Object, ObjectFault, Options, object_of};
 use elasticlunr::lang::{AnyLanguage, from_name};
 use elasticlunr::laws::calls::an_index_makes_what_its_language_makes;
 use elasticlunr::{Index, IndexBuilder, IndexError};
 use elasticlunr_job::answer::line_of;
-use elasticlunr_job::outcome::{Refusal, Stop};
+use elasticlunr_job::outcome::{JobError, Refusal};
 pub use elasticlunr_job_format::lines::is_blank;
 use elasticlunr_job_format::read::read_json;
 pub use elasticlunr_job_format::reader::read_line;
@@ -67,9 +71,10 @@ pub trait Watch {
 pub enum LinesError {
     /// The language is unknown, or a field stands twice.
     Refused(Refusal),
-    /// The number of the first line that is no document, from 1 without the blank ones, and what is
+    /// The number of the first line that is no document, from 1 without the blank ones, and what
+    /// is
     /// wrong with it.
-    Document(usize, Problem),
+    Document(usize, ObjectFault),
     /// A read of the reader failed.
     Device(io::Error),
     /// Out of memory, or more lines than a `usize` can number.
@@ -104,12 +109,13 @@ impl From<IndexError> for LinesError {
 /// The value of the line of this number.
 fn value_on(alloc: Global, line: &[u8], number: usize) -> Result<Value, LinesError>
     ensures ok { IfOk result (λ value. reading line.now ≡ Some (view value)) }
-    ensures err { IfErr result (StopsOn number (λ problem. (reading line.now ≡ None) × (problem ≡ Problem.NotJson))) }
+    ensures err { IfErr result (StopsOn number (λ problem. (reading line.now ≡ None)
+        × (problem ≡ ObjectFault.NotJson))) }
 {
     match read_json(alloc, line) {
         Ok(value) => Ok(value),
-        Err(Stop::Memory) => Err(LinesError::Memory),
-        Err(Stop::Refused(_)) => Err(LinesError::Document(number, Problem::NotJson)),
+        Err(JobError::Memory) => Err(LinesError::Memory),
+        Err(JobError::Refused(_)) => Err(LinesError::Document(number, ObjectFault::NotJson)),
     }
 }
 
@@ -125,7 +131,8 @@ fn unread<R: MarkedRead>(reader: &R, error: io::Error) -> LinesError
     }
 }
 
-/// Reads the next line, and its value where it isn't blank: it has this number then. Also whether a
+/// Reads the next line, and its value where it isn't blank: it has this number then. Also whether
+/// a
 /// line feed was after it.
 fn next_value<R: MarkedRead>(
     alloc: Global,
@@ -159,8 +166,10 @@ fn object_on<'a, W: Watch>(
     number: usize,
     watch: &mut W,
 ) -> Result<Object<'a>, LinesError>
-    ensures ok { IfOk result (λ object. IsDocumentOf (options_told options.now) (view value.now) (object_told object)) }
-    ensures err { IfErr result (StopsOn number (HasProblem (options_told options.now) (view value.now))) }
+    ensures ok { IfOk result (λ object. IsDocumentOf (options_told options.now) (view value.now)
+        (object_told object)) }
+    ensures err { IfErr result (StopsOn number
+        (HasProblem (options_told options.now) (view value.now))) }
 {
     match object_of(alloc, options, value) {
         Ok(object) => {
@@ -168,7 +177,7 @@ fn object_on<'a, W: Watch>(
             Ok(object)
         }
         Err(AddError::Memory) => Err(LinesError::Memory),
-        Err(AddError::Problem(problem)) => Err(LinesError::Document(number, problem)),
+        Err(AddError::ObjectFault(problem)) => Err(LinesError::Document(number, problem)),
     }
 }
 
@@ -177,7 +186,8 @@ fn printed(index: &Index<AnyLanguage>, pretty: bool) -> Result<String, LinesErro
     ensures ok { IfOk result (λ line_text. (commands : Commands)
         → StandsFor language_name name_text index.now commands
         → (text : Bytes)
-        × IsTextAfter (printed_text pretty) (plan_of language_name name_text index.now) commands text
+        × IsTextAfter (printed_text pretty) (plan_of language_name name_text index.now) commands
+        text
         × (string_bytes line_text ≡ line text)) }
     ensures err { IfErr result (λ e. e ≡ LinesError.Memory) }
 {
@@ -197,11 +207,13 @@ fn fill_and_print<R: MarkedRead, W: Watch>(
     mut index: Index<AnyLanguage>,
 ) -> Result<String, LinesError>
     ensures ok { IfOk result (λ line. (language : AnyLanguage)
-        → IsBuiltFor (job_of (options_told options.now) []) language (plan_of language_name name_text index)
+        → IsBuiltFor (job_of (options_told options.now) []) language
+        (plan_of language_name name_text index)
         (IsDocument language_tokens leaves index) (StandsFor language_name name_text index)
         → (text : Bytes) × AreAll (R.remaining reader.old) text
         × IsFilledLine (options_told options.now) language text (string_bytes line)) }
-    ensures err { IfErr result (StopsFilling (options_told options.now) (R.remaining reader.old) last.new) }
+    ensures err { IfErr result (StopsFilling (options_told options.now) (R.remaining reader.old)
+        last.new) }
     ensures device { IfErr result (IfDevice (R.has_failed reader.new ≡ true)) }
 {
     let mut number: usize = 0;
@@ -239,7 +251,8 @@ pub fn lines_line<R: MarkedRead, W: Watch>(
 ) -> Result<String, LinesError>
     ensures ok { IfOk result (λ line. (text : Bytes) × AreAll (R.remaining reader.old) text
         × IsLineOfLines (options_told options.now) text (string_bytes line)) }
-    ensures err { IfErr result (FailsLines (options_told options.now) (R.remaining reader.old) last.new) }
+    ensures err { IfErr result (FailsLines (options_told options.now) (R.remaining reader.old)
+        last.new) }
     ensures device { IfErr result (IfDevice (R.has_failed reader.new ≡ true)) }
 {
     let Some(language) = from_name(options.language) else {

@@ -9,7 +9,8 @@ ghost use Rattle.std.specs.IoError.{error_kind};
 
 use std::io::{self, BufRead, BufReader, Chain, ErrorKind, Read};
 
-/// A reader that keeps a mark that a read has failed. An interrupted read, which is tried again, is
+/// A reader that keeps a mark that a read has failed. An interrupted read, which is tried again,
+/// is
 /// no failure.
 pub trait MarkedRead: BufRead {
     /// Whether a read has failed.
@@ -45,10 +46,13 @@ impl<R: Read> Read for Marked<R> {
 
     fn read(&mut self, buf: &mut [u8]) -> io::Result<usize>
         ensures bound { ReadsAtMost result buf.new }
-        ensures bytes { ReadConsumes (R.remaining self.old.reader) (R.remaining self.new.reader) result buf.new }
+        ensures bytes { ReadConsumes (R.remaining self.old.reader) (R.remaining self.new.reader)
+            result buf.new }
         ensures ok { OnOk result (self.new.failed ≡ self.old.failed) }
-        ensures failed { IfErr result (λ e. error_kind e ≢ ErrorKind.Interrupted → self.new.failed ≡ true) }
-        ensures interrupted { IfErr result (λ e. error_kind e ≡ ErrorKind.Interrupted → self.new.failed ≡ self.old.failed) }
+        ensures failed { IfErr result (λ e. error_kind e ≢ ErrorKind.Interrupted → self.new.failed
+            ≡ true) }
+        ensures interrupted { IfErr result (λ e. error_kind e ≡ ErrorKind.Interrupted
+            → self.new.failed ≡ self.old.failed) }
     {
         let result = self.reader.read(buf);
         if let Err(e) = &result {

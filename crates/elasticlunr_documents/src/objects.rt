@@ -10,9 +10,9 @@ ghost use Rattle.elasticlunr_documents.specs.Objects.{FailsObjects, IsLineOfObje
 ghost use Rattle.elasticlunr_documents.specs.ObjectsTold.{stop_at};
 
 use elasticlunr_job::answer::job_line;
-use elasticlunr_job::outcome::{Refusal, Stop};
+use elasticlunr_job::outcome::{JobError, Refusal};
 use elasticlunr_job_format::job::{Document, Job};
-pub use elasticlunr_job_format::objects::{AddError, Object, Options, Problem, object_of};
+pub use elasticlunr_job_format::objects::{AddError, Object, ObjectFault, Options, object_of};
 use serde_json::Value;
 use std::alloc::{AllocError, AllocFailed, Global};
 
@@ -22,7 +22,7 @@ pub enum ObjectsError {
     /// The language is unknown, or a field stands twice.
     Refused(Refusal),
     /// The number of the first document that is none, from 1, and what is wrong with it.
-    Document(usize, Problem),
+    Document(usize, ObjectFault),
     Memory,
 }
 
@@ -53,7 +53,7 @@ fn stop_at(number: usize, e: AddError) -> ObjectsError
     ensures { result ≡ stop_at number e }
 {
     match e {
-        AddError::Problem(problem) => ObjectsError::Document(number, problem),
+        AddError::ObjectFault(problem) => ObjectsError::Document(number, problem),
         AddError::Memory => ObjectsError::Memory,
     }
 }
@@ -128,7 +128,7 @@ pub fn objects_line(
     let job = job_of(alloc, options, &objects)?;
     match job_line(alloc, &job) {
         Ok(text) => Ok(text),
-        Err(Stop::Refused(refusal)) => Err(ObjectsError::Refused(refusal)),
-        Err(Stop::Memory) => Err(ObjectsError::Memory),
+        Err(JobError::Refused(refusal)) => Err(ObjectsError::Refused(refusal)),
+        Err(JobError::Memory) => Err(ObjectsError::Memory),
     }
 }

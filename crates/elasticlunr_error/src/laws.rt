@@ -7,5 +7,6 @@ use crate::error::IndexError;
 
 /// Two errors are `==` exactly if they are equal.
 pub fn equal_errors()
-    ensures { (a : IndexError) (b : IndexError) → Decides (⟦<IndexError as PartialEq>⟧.eq a b) (a ≡ b) }
+    ensures { (a : IndexError) (b : IndexError) → Decides (⟦<IndexError as PartialEq>⟧.eq a b)
+        (a ≡ b) }
 {}

@@ -1,5 +1,6 @@
 -- On lines that are read one by one.
-use Rattle.std.proofs.Common.{◌≡◌, ◌+◌, List, [], ◌∷◌, ◌++◌, length, take, map, Option, None, Some, unwrap_or, inl, inr, refl, sym, ap, subst, ◌∙◌, arith}
+use Rattle.std.proofs.Common.{◌≡◌, ◌+◌, List, [], ◌∷◌, ◌++◌, length, take, map, Option, None, Some, unwrap_or, inl, inr}
+use Rattle.std.proofs.Common.{refl, sym, ap, subst, ◌∙◌, arith}
 use Rattle.std.specs.List.{slice_get}
 use Rattle.serde_json.specs.Data.{Data}
 use Rattle.elasticlunr_text.specs.Text.{Bytes}
@@ -11,9 +12,10 @@ use Rattle.elasticlunr_job_format.specs.Objects as objects
 use Rattle.elasticlunr_job_format.specs.Objects.{AreDocumentsOf, HasProblem, IsDocumentOf, IsFirstProblem}
 use Rattle.elasticlunr_documents.specs.Objects.{IsLineOfObjects, job_of}
 use Rattle.elasticlunr_documents.specs.declared.objects.ObjectsError.TheVariants as error
-use Rattle.elasticlunr_job_format.specs.declared.objects.Problem.{Problem}
+use Rattle.elasticlunr_job_format.specs.declared.objects.ObjectFault.{ObjectFault}
 use Rattle.elasticlunr_job_format.specs.declared.outcome.Refusal.{Refusal}
-use Rattle.elasticlunr_job_format.specs.declared.outcome.Refusal.TheVariants.{NotJson, NotAJob, UnknownLanguage, DuplicateField, TooManyValues}
+use Rattle.elasticlunr_job_format.specs.declared.outcome.Refusal.TheVariants.{NotJson, NotAJob, UnknownLanguage}
+use Rattle.elasticlunr_job_format.specs.declared.outcome.Refusal.TheVariants.{DuplicateField, TooManyValues}
 use Rattle.elasticlunr_input.specs.Asked.{options_of, reference_key_of}
 use Rattle.elasticlunr_input.specs.Fields.{fields_of_first, text_keys}
 use Rattle.elasticlunr_input.specs.Lines.{IsLinesLineWith}
@@ -22,7 +24,8 @@ use Rattle.elasticlunr_input.specs.Settled.{Settings}
 use Rattle.elasticlunr_input.proofs.LinesBy.{FailLinesOf}
 
 -- the values of a text begin with those that were read, and the next
-parts : (before items : List Data) (d : Data) (more : List (Option Data)) → map Some before ++ Some d ∷ more ≡ map Some items → (take (length before) items ≡ before) × (slice_get items (length before) ≡ Some d)
+parts : (before items : List Data) (d : Data) (more : List (Option Data)) → map Some before ++ Some d ∷ more
+    ≡ map Some items → (take (length before) items ≡ before) × (slice_get items (length before) ≡ Some d)
 parts [] [] d more e = absurd (cc)
 parts [] (x ∷ items) d more e = (refl, let same : x ≡ d = cc in ap Some same)
 parts (b ∷ before) [] d more e = absurd (cc)
@@ -33,7 +36,10 @@ parts (b ∷ before) (x ∷ items) d more e =
     (ap (λ y. y ∷ take (length before) items) heads ∙ ap (λ ys. b ∷ ys) rest.0, rest.1)
 
 -- it is the first that is no document
-pub first_among : (options : objects.Options) (before items : List Data) (docs : List Document) (d : Data) (more : List (Option Data)) (problem : Problem) → map Some before ++ Some d ∷ more ≡ map Some items → AreDocumentsOf options before docs → HasProblem options d problem → IsFirstProblem options items (length before + 1) problem
+pub first_among : (options : objects.Options) (before items : List Data) (docs : List Document) (d : Data)
+    (more : List (Option Data)) (problem : ObjectFault) → map Some before ++ Some d ∷ more ≡ map Some items
+    → AreDocumentsOf options before docs → HasProblem options d problem
+    → IsFirstProblem options items (length before + 1) problem
 first_among options before items docs d more problem e are has =
     let at = parts before items d more e in
     record {
@@ -46,20 +52,30 @@ first_among options before items docs d more problem e are has =
       has = has;
     }
 
-pub problem_among : (options : objects.Options) (before items : List Data) (docs : List Document) (d : Data) (more : List (Option Data)) (problem : Problem) → map Some before ++ Some d ∷ more ≡ map Some items → AreDocumentsOf options before docs → HasProblem options d problem → FailObjects options items
-problem_among options before items docs d more problem e are has =
-    (error.Document (length before + 1) problem, (λ same. (cc)), first_among options before items docs d more problem e are has)
+pub object_fault_among : (options : objects.Options) (before items : List Data) (docs : List Document) (d : Data)
+    (more : List (Option Data)) (problem : ObjectFault) → map Some before ++ Some d ∷ more ≡ map Some items
+    → AreDocumentsOf options before docs → HasProblem options d problem → FailObjects options items
+object_fault_among options before items docs d more problem e are has = (
+  error.Document (length before + 1) problem,
+  (λ same. (cc)),
+  first_among options before items docs d more problem e
+      are has,
+)
 
 -- the fields of the first value alone are those of the first of all
-first_alike : (key : Bytes) (first items : List Data) → map Some first ≡ take 1 (map Some items) → fields_of_first key first ≡ fields_of_first key items
+first_alike : (key : Bytes) (first items : List Data) → map Some first ≡ take 1 (map Some items)
+    → fields_of_first key first ≡ fields_of_first key items
 first_alike key [] [] e = refl
 first_alike key [] (d ∷ items) e = absurd (cc)
 first_alike key (v ∷ first) [] e = absurd (cc)
 first_alike key (v ∷ first) (d ∷ items) e = let same : v ≡ d = cc in ap (text_keys key) same
 
-module _ (settings : Settings) (text : Bytes) (options : objects.Options) (first : List Data) (begins : map Some first ≡ take 1 (readings text)) (told : options ≡ options_of settings first) where
+module _ (settings : Settings) (text : Bytes) (options : objects.Options) (first : List Data) (begins : map Some first
+    ≡ take 1 (readings text)) (told : options ≡ options_of settings first) where
   pub first_options : (items : List Data) → AreLineValues text items → options ≡ options_of settings items
-  first_options items are = told ∙ ap (λ fs. record (options_of settings first) { fields = unwrap_or settings.fields fs }) (first_alike (reference_key_of settings) first items (begins ∙ ap (take 1) (sym are)))
+  first_options items are = told ∙ ap (λ fs. record (options_of settings first)
+      { fields = unwrap_or settings.fields fs })
+      (first_alike (reference_key_of settings) first items (begins ∙ ap (take 1) (sym are)))
 
   pub line_with : (line : Bytes) → IsLineOfLines options text line → IsLinesLineWith settings text line
   line_with line is = (is.0, is.1, subst (λ o. IsLineOfObjects o is.0 line) (first_options is.0 is.1) is.2)
@@ -67,13 +83,16 @@ module _ (settings : Settings) (text : Bytes) (options : objects.Options) (first
   -- the options for the first values are the same
   pub unread_with : HasUnreadLine (λ _. options) text → HasUnreadLine (options_of settings) text
   unread_with unread = (unread.0, unread.1, unread.2, at unread.0 unread.1 unread.2 unread.3 unread.4, unread.4) where
-    at : (before : List Data) (docs : List Document) (rest : List (Option Data)) → AreDocumentsOf options before docs → map Some before ++ None ∷ rest ≡ readings text → AreDocumentsOf (options_of settings before) before docs
+    at : (before : List Data) (docs : List Document) (rest : List (Option Data)) → AreDocumentsOf options before docs
+        → map Some before ++ None ∷ rest ≡ readings text → AreDocumentsOf (options_of settings before) before docs
     at [] [] rest are lines = tt
     at [] (doc ∷ docs) rest are lines = absurd are
     at (d ∷ before) docs rest are lines =
         let key = reference_key_of settings in
         let one : map Some first ≡ take 1 (map Some (d ∷ before)) = begins ∙ ap (take 1) (sym lines) in
-        let same : options ≡ options_of settings (d ∷ before) = told ∙ ap (λ fs. record (options_of settings first) { fields = unwrap_or settings.fields fs }) (first_alike key first (d ∷ before) one) in
+        let same : options ≡ options_of settings (d ∷ before) = told
+        ∙ ap (λ fs. record (options_of settings first) { fields = unwrap_or settings.fields fs })
+        (first_alike key first (d ∷ before) one) in
         subst (λ (o : objects.Options). AreDocumentsOf o (d ∷ before) docs) same are
 
   pub fail_with : FailLinesOf options text → FailLines settings text
@@ -84,7 +103,8 @@ module _ (settings : Settings) (text : Bytes) (options : objects.Options) (first
   ]
 
 -- the options fail with any documents as they do with none
-pub fails_also : (options : objects.Options) (docs : List Document) (refusal : Refusal) → FailsAt (job_of options []) refusal → FailsAt (job_of options docs) refusal
+pub fails_also : (options : objects.Options) (docs : List Document) (refusal : Refusal)
+    → FailsAt (job_of options []) refusal → FailsAt (job_of options docs) refusal
 fails_also options docs NotJson fails = fails
 fails_also options docs NotAJob fails = fails
 fails_also options docs UnknownLanguage fails = fails

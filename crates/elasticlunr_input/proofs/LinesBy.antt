@@ -11,7 +11,8 @@ use Rattle.elasticlunr_input.specs.Refused.{FailObjects, HasUnreadLine}
 
 -- a line is the first that is not JSON, or the values of the lines fail a check of objects
 abbrev pub FailLinesOf : Options → Bytes → Type 0
-FailLinesOf options text = HasUnreadLine (λ _. options) text ⊎ ((items : List Data) × AreLineValues text items × FailObjects options items)
+FailLinesOf options text = HasUnreadLine (λ _. options) text
+    ⊎ ((items : List Data) × AreLineValues text items × FailObjects options items)
 
 -- it is in the text, a line of which is not JSON, or it is that of the first problem of the values of the lines
 abbrev pub IsPlaceInLines : Bytes → Options → Place → Type 0

@@ -15,7 +15,8 @@ reference_key_of settings = unwrap_or settings.reference (codes "id")
 
 -- the fields that are named, or else those of the first of the objects
 abbrev pub fields_of : Settings → List Data → List Bytes
-fields_of settings items = unwrap_or settings.fields (fields_of_first (reference_key_of settings) items)
+fields_of settings items = unwrap_or settings.fields
+    (fields_of_first (reference_key_of settings) items)
 
 -- how these objects are read
 abbrev pub options_of : Settings → List Data → Options
@@ -33,4 +34,5 @@ IsObjectsLineWith settings items text = IsLineOfObjects (options_of settings ite
 
 -- the text of the index of the objects in an array
 abbrev pub IsArrayLineWith : Settings → Data → Bytes → Type 0
-IsArrayLineWith settings d text = (items : List Data) × (as_array d ≡ Some (items_of items)) × IsObjectsLineWith settings items text
+IsArrayLineWith settings d text = (items : List Data) × (as_array d ≡ Some (items_of items))
+    × IsObjectsLineWith settings items text

@@ -7,4 +7,5 @@ use Rattle.elasticlunr_input.specs.Asked.{IsObjectsLineWith}
 use Rattle.elasticlunr_input.specs.Settled.{Settings}
 
 abbrev pub IsLinesLineWith : Settings → Bytes → Bytes → Type 0
-IsLinesLineWith settings input text = (items : List Data) × AreLineValues input items × IsObjectsLineWith settings items text
+IsLinesLineWith settings input text = (items : List Data) × AreLineValues input items
+    × IsObjectsLineWith settings items text

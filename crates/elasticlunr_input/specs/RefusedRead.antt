@@ -8,8 +8,8 @@ use Rattle.elasticlunr_input.specs.RefusedPlaces.{IsInputPlace, IsLinesPlace}
 use Rattle.elasticlunr_input.specs.Settled.{Settings}
 use Rattle.elasticlunr_diagnostics.specs.declared.form.Form.{Form}
 use Rattle.elasticlunr_diagnostics.specs.declared.form.Form.TheVariants.{Lines}
-use Rattle.elasticlunr_diagnostics.specs.declared.message.Trouble.{Trouble}
-use Rattle.elasticlunr_diagnostics.specs.declared.message.Trouble.TheVariants.{Refused, Device}
+use Rattle.elasticlunr_diagnostics.specs.declared.message.InputError.{InputError}
+use Rattle.elasticlunr_diagnostics.specs.declared.message.InputError.TheVariants.{Refused, Device}
 
 -- the text begins with these lines
 abbrev pub BeginsWith : (text read : Bytes) → Type 0
@@ -20,18 +20,22 @@ abbrev pub IsReadOf : Form → (text read : Bytes) → Type 0
 IsReadOf Lines text read = BeginsWith text read
 IsReadOf _ text read = read ≡ text
 
--- what was read of an input of this form is refused, and the place is that of what it is refused for, and is known where it has to be JSON and is not; or memory runs out, or the reader failed
-abbrev pub IsRefusedFrom : Form → Settings → Bytes → Trouble → Type 0
-IsRefusedFrom form settings text (Refused message) = (read : Bytes) × IsReadOf form text read × FailsInput form settings read
-    × IfSome message.place (IsInputPlace form settings read) × (IsNotJson form read → IsSome message.place)
+-- what was read of an input of this form is refused, and the place is that of what it is refused
+-- for, and is known where it has to be JSON and is not; or memory runs out, or the reader failed
+abbrev pub IsRefusedFrom : Form → Settings → Bytes → InputError → Type 0
+IsRefusedFrom form settings text (Refused message) = (read : Bytes) × IsReadOf form text read
+    × FailsInput form settings read
+    × IfSome message.place (IsInputPlace form settings read)
+    × (IsNotJson form read → IsSome message.place)
 IsRefusedFrom form settings text _ = ⊤
 
 -- the same of lines
-abbrev pub AreRefusedFrom : Settings → Bytes → Trouble → Type 0
-AreRefusedFrom settings text (Refused message) = (read : Bytes) × BeginsWith text read × FailLines settings read × IfSome message.place (IsLinesPlace settings read)
+abbrev pub AreRefusedFrom : Settings → Bytes → InputError → Type 0
+AreRefusedFrom settings text (Refused message) = (read : Bytes) × BeginsWith text read
+    × FailLines settings read × IfSome message.place (IsLinesPlace settings read)
 AreRefusedFrom settings text _ = ⊤
 
 -- where it is said that a read failed, this holds
-abbrev pub IfDevice : Type 0 → Trouble → Type 0
+abbrev pub IfDevice : Type 0 → InputError → Type 0
 IfDevice P (Device _) = P
 IfDevice P _ = ⊤

@@ -1,5 +1,6 @@
 -- A job with the settings instead of what it says itself.
-use Rattle.std.specs.Prelude.{List, Bool, true, false, Option, option_map, unwrap_or, string_bytes, if◌then◌else◌}
+use Rattle.std.specs.Prelude.{List, Bool, true, false, Option, option_map, unwrap_or, string_bytes}
+use Rattle.std.specs.Prelude.{if◌then◌else◌}
 use Rattle.serde_json.specs.Data.{Data}
 use Rattle.elasticlunr_text.specs.Text.{Bytes, bytes_of}
 use Rattle.elasticlunr_job_format.specs.Job.{IsNoJob, Job, IsJob}
@@ -44,4 +45,5 @@ IsLineWith settings d text = (job : Job) × IsJob d job × IsLineOf (settled set
 abbrev pub IsRefusedWith : Settings → Data → Refusal → Type 0
 IsRefusedWith settings d NotJson = ⊥
 IsRefusedWith settings d NotAJob = IsNoJob d
-IsRefusedWith settings d refusal = (job : Job) × IsJob d job × FailsAt (settled settings job) refusal
+IsRefusedWith settings d refusal = (job : Job) × IsJob d job
+    × FailsAt (settled settings job) refusal

@@ -1,8 +1,10 @@
 //! The index of documents that are objects in an array, and what is wrong with documents.
-ghost use Rattle.std.specs.Prelude.{◌≡◌, ◌-◌, ◌∷◌, None, map, take, length, string_bytes, if◌then◌else◌, IfOk, IfErr, IfSome};
+ghost use Rattle.std.specs.Prelude.{◌≡◌, ◌-◌, ◌∷◌, None, map, take, length, string_bytes};
+ghost use Rattle.std.specs.Prelude.{if◌then◌else◌, IfOk, IfErr, IfSome};
 ghost use Rattle.elasticlunr_documents.specs.Objects.{IsLineOfObjects};
 ghost use Rattle.elasticlunr_job_format.specs.ObjectsTold.{options_told, texts_told};
-ghost use Rattle.elasticlunr_input.specs.FaultPlaces.{is_of_member, problem_key, problem_path, IsPlaceInObjects};
+ghost use Rattle.elasticlunr_input.specs.FaultPlaces.{is_of_member, object_fault_key};
+ghost use Rattle.elasticlunr_input.specs.FaultPlaces.{object_fault_path, IsPlaceInObjects};
 ghost use Rattle.elasticlunr_json_place.specs.Members.{item, IsPlaceOf};
 ghost use Rattle.elasticlunr_input.specs.Fields.{is_field, text_keys};
 ghost use Rattle.elasticlunr_input.specs.Refused.{IsRefusedObjects};
@@ -13,9 +15,9 @@ use crate::jobs::duplicate_field;
 use crate::notes::Notes;
 use crate::tokens::Tokens;
 use elasticlunr_diagnostics::language::unknown_language;
-use elasticlunr_diagnostics::message::{Message, Trouble, kind_words, unplaced};
+use elasticlunr_diagnostics::message::{InputError, Message, kind_words, unplaced};
 use elasticlunr_documents::objects::{
-    AddError, ObjectsError, Options, Problem, object_of, objects_line,
+    AddError, ObjectFault, ObjectsError, Options, object_of, objects_line,
 };
 use elasticlunr_job::outcome::Refusal;
 use elasticlunr_json_place::member::{Step, place_of};
@@ -29,7 +31,7 @@ pub(crate) fn objects_text(
     text: &[u8],
     items: &[Value],
     options: &Options<'_>,
-) -> Result<String, Trouble>
+) -> Result<String, InputError>
     ensures ok { IfOk result (λ line.
         IsLineOfObjects (options_told options.now) (map view items.now) (string_bytes line)) }
     ensures err { IfErr result (IsRefusedObjects (options_told options.now) (map view items.now)) }
@@ -38,15 +40,15 @@ pub(crate) fn objects_text(
 {
     match objects_line(alloc, options, items) {
         Ok(line) => Ok(line),
-        Err(ObjectsError::Memory) => Err(Trouble::Memory),
+        Err(ObjectsError::Memory) => Err(InputError::Memory),
         Err(ObjectsError::Refused(refusal)) => {
-            Err(Trouble::Refused(unplaced(settings_fault(alloc, options, refusal)?)))
+            Err(InputError::Refused(unplaced(settings_fault(alloc, options, refusal)?)))
         }
         Err(ObjectsError::Document(number, problem)) => {
             let item = items.get(number.saturating_sub(1));
-            let place = problem_place(alloc, text, options, number, problem)?;
-            let text = problem_text(alloc, options, number, item, problem)?;
-            Err(Trouble::Refused(Message { place, text }))
+            let place = object_fault_place(alloc, text, options, number, problem)?;
+            let text = object_fault_text(alloc, options, number, item, problem)?;
+            Err(InputError::Refused(Message { place, text }))
         }
     }
 }
@@ -65,37 +67,38 @@ pub(crate) fn settings_fault(
 }
 
 /// The place of what is wrong with the document of this number in an array.
-fn problem_place(
+fn object_fault_place(
     alloc: Global,
     text: &[u8],
     options: &Options<'_>,
     number: usize,
-    problem: Problem,
+    problem: ObjectFault,
 ) -> Result<Option<Place>, AllocError>
     ensures { IfOk result (λ place. IfSome place
-        (IsPlaceOf None (item (number - 1) ∷ problem_path (options_told options.now) problem) text.now)) }
+        (IsPlaceOf None (item (number - 1) ∷ object_fault_path (options_told options.now) problem) text.now)) }
 {
     let item = Step::Item(number.saturating_sub(1));
-    let key = Step::Key(problem_key(options, problem));
+    let key = Step::Key(object_fault_key(options, problem));
     place_of(alloc, text, None, path_of(&[item, key], problem))
 }
 
 /// The steps to what a problem is about: the document, or a member of it.
-pub(crate) fn path_of<'p, 'a>(path: &'p [Step<'a>], problem: Problem) -> &'p [Step<'a>]
-    ensures { result.now ≡ (if is_of_member problem then path.now else take (length path.now - 1) path.now) }
+pub(crate) fn path_of<'p, 'a>(path: &'p [Step<'a>], problem: ObjectFault) -> &'p [Step<'a>]
+    ensures { result.now ≡ (if is_of_member problem then path.now else take (length path.now - 1)
+        path.now) }
 {
     match problem {
-        Problem::NotAReference(_) | Problem::NotAText(_, _) => path,
+        ObjectFault::NotAReference(_) | ObjectFault::NotAText(_, _) => path,
         _ => &path[..path.len().saturating_sub(1)],
     }
 }
 
 /// The key of the member that a problem is about.
-pub(crate) fn problem_key<'a>(options: &Options<'a>, problem: Problem) -> &'a str
-    ensures { result.now ≡ problem_key (options_told options.now) problem }
+pub(crate) fn object_fault_key<'a>(options: &Options<'a>, problem: ObjectFault) -> &'a str
+    ensures { result.now ≡ object_fault_key (options_told options.now) problem }
 {
     match problem {
-        Problem::NotAText(number, _) => match options.fields.get(number) {
+        ObjectFault::NotAText(number, _) => match options.fields.get(number) {
             Some(field) => *field,
             None => "",
         },
@@ -104,32 +107,32 @@ pub(crate) fn problem_key<'a>(options: &Options<'a>, problem: Problem) -> &'a st
 }
 
 /// What is wrong with a document.
-pub(crate) fn problem_text(
+pub(crate) fn object_fault_text(
     alloc: Global,
     options: &Options<'_>,
     number: usize,
     value: Option<&Value>,
-    problem: Problem,
+    problem: ObjectFault,
 ) -> Result<String, AllocError> {
-    let key = problem_key(options, problem);
+    let key = object_fault_key(options, problem);
     match problem {
-        Problem::NotJson => format!(in alloc; "document {number}: not JSON"),
-        Problem::NotAnObject(kind) => {
+        ObjectFault::NotJson => format!(in alloc; "document {number}: not JSON"),
+        ObjectFault::NotAnObject(kind) => {
             let found = kind_words(kind);
             format!(in alloc; "document {number}: expected an object, found {found}")
         }
-        Problem::NoReference => {
+        ObjectFault::NoReference => {
             format!(in alloc;
                 "document {number}: no member \"{key}\", which is its reference; `--ref` names another key"
             )
         }
-        Problem::NotAReference(kind) => {
+        ObjectFault::NotAReference(kind) => {
             let found = kind_words(kind);
             format!(in alloc;
                 "document {number}, reference \"{key}\": expected a string or a whole number, found {found}"
             )
         }
-        Problem::NotAText(_, kind) => {
+        ObjectFault::NotAText(_, kind) => {
             let found = kind_words(kind);
             let label = document_label(alloc, options, number, value)?;
             format!(in alloc; "{label}, field \"{key}\": expected a string, found {found}")
@@ -160,7 +163,8 @@ pub(crate) fn first_fields<'v>(
     value: &'v Value,
     reference_key: &str,
 ) -> Result<Vec<&'v str>, AllocError>
-    ensures { IfOk result (λ fields. texts_told fields.items ≡ text_keys reference_key.now (view value.now)) }
+    ensures { IfOk result (λ fields. texts_told fields.items
+        ≡ text_keys reference_key.now (view value.now)) }
 {
     let mut fields = Vec::new(alloc);
     let Some(members) = value.as_object() else {
@@ -206,6 +210,6 @@ pub(crate) fn note_object(
     match object_of(alloc, options, item) {
         Ok(object) => notes.object(tokens, &object),
         Err(AddError::Memory) => Err(AllocError),
-        Err(AddError::Problem(_)) => Ok(()),
+        Err(AddError::ObjectFault(_)) => Ok(()),
     }
 }

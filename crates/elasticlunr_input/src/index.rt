@@ -1,11 +1,13 @@
 //! The index of an input, of each form.
-ghost use Rattle.std.specs.Prelude.{◌≡◌, ◌++◌, true, map, string_bytes, unwrap_or, IfOk, IfErr, IfSome};
+ghost use Rattle.std.specs.Prelude.{◌≡◌, ◌++◌, true, map, string_bytes, unwrap_or, IfOk, IfErr};
+ghost use Rattle.std.specs.Prelude.{IfSome};
 ghost use Rattle.elasticlunr_job_format.specs.ObjectsTold.{options_told, texts_told};
 ghost use Rattle.elasticlunr_input.specs.Asked.{IsObjectsLineWith, options_of};
 ghost use Rattle.elasticlunr_input.specs.FaultPlaces.{IsPlaceInObjects};
 ghost use Rattle.elasticlunr_input.specs.Fields.{fields_of_first};
 ghost use Rattle.elasticlunr_diagnostics.specs.Forms.{asked_or_told};
-ghost use Rattle.elasticlunr_input.specs.Indexes.{IsIndexAs, IsIndexOf, IsPlacedIfNotJson, IsRefusedInput};
+ghost use Rattle.elasticlunr_input.specs.Indexes.{IsIndexAs, IsIndexOf, IsPlacedIfNotJson};
+ghost use Rattle.elasticlunr_input.specs.Indexes.{IsRefusedInput};
 ghost use Rattle.elasticlunr_input.specs.Inputs.{IsHeadOf};
 ghost use Rattle.elasticlunr_input.specs.Lines.{IsLinesLineWith};
 ghost use Rattle.elasticlunr_input.specs.Mark.{without_mark};
@@ -26,18 +28,20 @@ use crate::mark::{read_start, without_mark};
 use crate::notes::Notes;
 use crate::settings::{Settings, text_or, texts_of};
 use elasticlunr_diagnostics::form::{Form, asked_or_told, read_value};
-use elasticlunr_diagnostics::message::{Trouble, wants};
+use elasticlunr_diagnostics::message::{InputError, wants};
 use elasticlunr_documents::lines::LastLine;
 pub use elasticlunr_documents::marked::{Marked, MarkedRead};
 use elasticlunr_documents::objects::Options;
-use elasticlunr_job::outcome::Stop;
+use elasticlunr_job::outcome::JobError;
 use serde_json::Value;
 use std::alloc::{AllocError, Global};
 use std::io::Read;
 
 /// The text of the index of an input, and a line feed; what is suspicious goes to the notes, whose
-/// warnings are of no use after an error. A byte order mark before the input is passed over, and no
-/// place counts it. Lines are read one by one, and the value of a line is let go before the next one
+/// warnings are of no use after an error. A byte order mark before the input is passed over, and
+/// no
+/// place counts it. Lines are read one by one, and the value of a line is let go before the next
+/// one
 /// is read; of an input in another form all is read, and held.
 pub fn index_from<R: MarkedRead>(
     alloc: Global,
@@ -45,7 +49,7 @@ pub fn index_from<R: MarkedRead>(
     asked: Option<Form>,
     settings: &Settings,
     notes: &mut Notes,
-) -> Result<String, Trouble>
+) -> Result<String, InputError>
     ensures ok { IfOk result (λ line. IfSome (R.remaining reader.old) (λ text.
         IsIndexOf asked (settings_told settings.now) (without_mark text) (string_bytes line))) }
     ensures err { IfErr result (λ e. IfSome (R.remaining reader.old) (λ text.
@@ -60,21 +64,21 @@ pub fn index_from<R: MarkedRead>(
 
 /// The same trouble, but that the reader is to blame only where it has failed: what else keeps it
 /// from reading on is that there is no memory for what is read.
-fn blamed<R: MarkedRead>(reader: &R, trouble: Trouble) -> Trouble
+fn blamed<R: MarkedRead>(reader: &R, trouble: InputError) -> InputError
     ensures device { IfDevice (R.has_failed reader.now ≡ true) result }
     ensures refused { (kind : Form) (asked : settled.Settings) (text : Bytes)
         → IsRefusedFrom kind asked text trouble → IsRefusedFrom kind asked text result }
 {
     match trouble {
-        Trouble::Refused(message) => Trouble::Refused(message),
-        Trouble::Device(e) => {
+        InputError::Refused(message) => InputError::Refused(message),
+        InputError::Device(e) => {
             if reader.has_failed() {
-                Trouble::Device(e)
+                InputError::Device(e)
             } else {
-                Trouble::Memory
+                InputError::Memory
             }
         }
-        Trouble::Memory => Trouble::Memory,
+        InputError::Memory => InputError::Memory,
     }
 }
 
@@ -85,7 +89,7 @@ fn index_of_input<R: MarkedRead>(
     asked: Option<Form>,
     settings: &Settings,
     notes: &mut Notes,
-) -> Result<String, Trouble>
+) -> Result<String, InputError>
     ensures ok { IfOk result (λ line. IfSome (R.remaining reader.old) (λ text.
         IsIndexOf asked (settings_told settings.now) (without_mark text) (string_bytes line))) }
     ensures err { IfErr result (λ e. IfSome (R.remaining reader.old) (λ text.
@@ -103,7 +107,7 @@ fn index_unmarked<R: MarkedRead>(
     asked: Option<Form>,
     settings: &Settings,
     notes: &mut Notes,
-) -> Result<String, Trouble>
+) -> Result<String, InputError>
     ensures ok { IfOk result (λ line. IfSome (R.remaining reader.old) (λ text.
         IsIndexOf asked (settings_told settings.now) text (string_bytes line))) }
     ensures err { IfErr result (λ e. IfSome (R.remaining reader.old) (λ text.
@@ -132,11 +136,12 @@ fn text_of_job(
     text: &[u8],
     settings: &Settings,
     notes: &mut Notes,
-) -> Result<String, Trouble>
+) -> Result<String, InputError>
     ensures ok { IfOk result (λ line.
         IsIndexAs form.Job (settings_told settings.now) text.now (string_bytes line)) }
     ensures err { IfErr result (IsRefusedInput form.Job (settings_told settings.now) text.now) }
-    ensures place { IfErr result (IfPlaced (IsInputPlace form.Job (settings_told settings.now) text.now)) }
+    ensures place { IfErr result (IfPlaced (IsInputPlace form.Job (settings_told settings.now)
+        text.now)) }
     ensures placed { IfErr result (IsPlacedIfNotJson form.Job text.now) }
 {
     let value = read_value(alloc, text)?;
@@ -145,9 +150,9 @@ fn text_of_job(
             note_job(alloc, &value, settings, notes)?;
             Ok(line)
         }
-        Err(Stop::Memory) => Err(Trouble::Memory),
-        Err(Stop::Refused(refusal)) => {
-            Err(Trouble::Refused(job_refused(alloc, text, &value, settings, refusal)?))
+        Err(JobError::Memory) => Err(InputError::Memory),
+        Err(JobError::Refused(refusal)) => {
+            Err(InputError::Refused(job_refused(alloc, text, &value, settings, refusal)?))
         }
     }
 }
@@ -158,17 +163,18 @@ fn text_of_array(
     text: &[u8],
     settings: &Settings,
     notes: &mut Notes,
-) -> Result<String, Trouble>
+) -> Result<String, InputError>
     ensures ok { IfOk result (λ line.
         IsIndexAs form.Objects (settings_told settings.now) text.now (string_bytes line)) }
     ensures err { IfErr result (IsRefusedInput form.Objects (settings_told settings.now) text.now) }
-    ensures place { IfErr result (IfPlaced (IsInputPlace form.Objects (settings_told settings.now) text.now)) }
+    ensures place { IfErr result (IfPlaced (IsInputPlace form.Objects (settings_told settings.now)
+        text.now)) }
     ensures placed { IfErr result (IsPlacedIfNotJson form.Objects text.now) }
 {
     let value = read_value(alloc, text)?;
     let Some(items) = value.as_array() else {
         let message = wants(alloc, text, &[], "the input", &value, "an array of objects")?;
-        return Err(Trouble::Refused(message));
+        return Err(InputError::Refused(message));
     };
     text_of_objects(alloc, text, items, settings, notes)
 }
@@ -182,7 +188,7 @@ fn text_of_lines<R: MarkedRead>(
     reader: &mut R,
     settings: &Settings,
     notes: &mut Notes,
-) -> Result<String, Trouble>
+) -> Result<String, InputError>
     ensures ok { IfOk result (λ line. IfSome (R.remaining reader.old) (λ rest.
         IsHeadOf head.now rest last.old.text.items last.old.before
         → IsLinesLineWith (settings_told settings.now) (head.now ++ rest) (string_bytes line))) }
@@ -204,7 +210,7 @@ fn text_of_objects(
     items: &[Value],
     settings: &Settings,
     notes: &mut Notes,
-) -> Result<String, Trouble>
+) -> Result<String, InputError>
     ensures ok { IfOk result (λ line.
         IsObjectsLineWith (settings_told settings.now) (map view items.now) (string_bytes line)) }
     ensures err { IfErr result (IsRefusedObjects
@@ -247,7 +253,8 @@ fn fields_or_first<'a>(
     reference_key: &str,
 ) -> Result<Vec<&'a str>, AllocError>
     ensures { IfOk result (λ fields. texts_told fields.items
-        ≡ unwrap_or (settings_told settings.now).fields (fields_of_first reference_key.now (map view items.now))) }
+        ≡ unwrap_or (settings_told settings.now).fields
+        (fields_of_first reference_key.now (map view items.now))) }
 {
     match &settings.fields {
         Some(fields) => texts_of(alloc, fields),

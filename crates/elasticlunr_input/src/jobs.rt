@@ -2,9 +2,11 @@
 ghost use Rattle.std.specs.Prelude.{◌≡◌, true, string_bytes, IfOk, IfErr, IfSome, IfNone};
 ghost use Rattle.elasticlunr.specs.Fields.{all_differ, borrowed};
 ghost use Rattle.elasticlunr_job_format.specs.JobTold.{job_told};
-ghost use Rattle.elasticlunr_job_format.specs.Stop.{StopsWithReason};
+ghost use Rattle.elasticlunr_job_format.specs.JobError.{StopsWithReason};
 ghost use Rattle.elasticlunr_job_format.specs.declared.outcome.Refusal.{Refusal};
-ghost use Rattle.elasticlunr_input.specs.FaultPlaces.{IsPlaceInJob, IsPlaceOfField, IsPlaceOfLanguage, IsPlaceOfRefusal, IsPlaceOfTooLong};
+ghost use Rattle.elasticlunr_input.specs.FaultPlaces.{IsPlaceInJob, IsPlaceOfField};
+ghost use Rattle.elasticlunr_input.specs.FaultPlaces.{IsPlaceOfLanguage, IsPlaceOfRefusal};
+ghost use Rattle.elasticlunr_input.specs.FaultPlaces.{IsPlaceOfTooLong};
 ghost use Rattle.elasticlunr_input.specs.FirstFaults.{AllFit, IsFirstTooLong, IsFirstTwice};
 ghost use Rattle.elasticlunr_input.specs.Settled.{IsLineWith, IsRefusedWith, settings_told};
 ghost use Rattle.serde_json.specs.View.{view};
@@ -14,11 +16,11 @@ use crate::settings::{Settings, settle};
 use crate::tokens::Tokens;
 use elasticlunr_diagnostics::job_fault::fault_message;
 use elasticlunr_diagnostics::language::unknown_language;
-use elasticlunr_diagnostics::message::{Message, Trouble, counted, message_at, unplaced};
+use elasticlunr_diagnostics::message::{InputError, Message, counted, message_at, unplaced};
 use elasticlunr_job::answer::job_line;
 use elasticlunr_job::fault::first_fault;
 use elasticlunr_job::job::{Document, Job, parse};
-use elasticlunr_job::outcome::{Refusal, Stop};
+use elasticlunr_job::outcome::{JobError, Refusal};
 use elasticlunr_json_place::member::Step;
 use serde_json::Value;
 use std::alloc::{AllocError, Global};
@@ -28,10 +30,11 @@ pub(crate) fn job_text<'a>(
     alloc: Global,
     value: &'a Value,
     settings: &'a Settings,
-) -> Result<String, Stop>
+) -> Result<String, JobError>
     ensures ok { IfOk result (λ line.
         IsLineWith (settings_told settings.now) (view value.now) (string_bytes line)) }
-    ensures err { IfErr result (StopsWithReason (IsRefusedWith (settings_told settings.now) (view value.now))) }
+    ensures err { IfErr result (StopsWithReason
+        (IsRefusedWith (settings_told settings.now) (view value.now))) }
 {
     let job = settle(alloc, parse(alloc, value)?, settings)?;
     job_line(alloc, &job)
@@ -56,8 +59,8 @@ pub(crate) fn job_refused(
             let job = settle(alloc, job, settings)?;
             job_fault(alloc, text, &job, settings, refusal)
         }
-        Err(Stop::Memory) => Err(AllocError),
-        Err(Stop::Refused(_)) => Ok(unplaced(String::from_str(alloc, "not a job")?)),
+        Err(JobError::Memory) => Err(AllocError),
+        Err(JobError::Refused(_)) => Ok(unplaced(String::from_str(alloc, "not a job")?)),
     }
 }
 
@@ -144,7 +147,8 @@ pub(crate) fn duplicate_field(alloc: Global, fields: &[&str]) -> Result<String, 
 
 /// The first document with more values than there are fields, and its number.
 fn first_too_long<'j, 'a>(job: &'j Job<'a>) -> Option<(usize, &'j Document<'a>)>
-    ensures some { let told = job_told job.now in IfSome result (λ found. IsFirstTooLong told.fields told.docs found.0) }
+    ensures some { let told = job_told job.now in IfSome result
+        (λ found. IsFirstTooLong told.fields told.docs found.0) }
     ensures none { let told = job_told job.now in IfNone result (AllFit told.fields told.docs) }
 {
     let most = job.fields.len();
@@ -182,8 +186,8 @@ pub(crate) fn note_job(
 ) -> Result<(), AllocError> {
     let job = match parse(alloc, value) {
         Ok(job) => job,
-        Err(Stop::Memory) => return Err(AllocError),
-        Err(Stop::Refused(_)) => return Ok(()),
+        Err(JobError::Memory) => return Err(AllocError),
+        Err(JobError::Refused(_)) => return Ok(()),
     };
     let job = settle(alloc, job, settings)?;
     let tokens = Tokens::of_language(alloc, job.language)?;

@@ -2,7 +2,8 @@
 //! the message of its first fault.
 //!
 //! An input is a job, an array of objects, or a line for each object. [`index::index_from`] goes
-//! from its bytes and the settings to the text; [`notes::Notes`] take what is suspicious on the way.
+//! from its bytes and the settings to the text; [`notes::Notes`] take what is suspicious on the
+//! way.
 #![tactic(auto)]
 
 mod documents;

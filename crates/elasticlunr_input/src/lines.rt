@@ -1,6 +1,7 @@
 //! Documents that are lines of JSON, read one by one.
 ghost use Rattle.std.specs.Fmt.{option_append};
-ghost use Rattle.std.specs.Prelude.{◌≡◌, ◌∷◌, [], List, map, filter, true, Option, Some, None, string_bytes, IfOk, IfErr, IfSome, IfNone, OnOk};
+ghost use Rattle.std.specs.Prelude.{◌≡◌, ◌∷◌, [], List, map, filter, true, Option, Some, None};
+ghost use Rattle.std.specs.Prelude.{string_bytes, IfOk, IfErr, IfSome, IfNone, OnOk};
 ghost use Rattle.elasticlunr_text.specs.Text.{Bytes};
 ghost use Rattle.elasticlunr_job_format.specs.Job.{Document};
 ghost use Rattle.elasticlunr_job_format.specs.LineRead.{AreAll};
@@ -11,32 +12,35 @@ ghost use Rattle.elasticlunr_job_format.specs.Reading.{reading};
 ghost use Rattle.elasticlunr_documents.specs.Lines.{FailsLines, IsLineOfLines};
 ghost use Rattle.elasticlunr_json_place.specs.Members.{IsPlaceOf};
 ghost use Rattle.elasticlunr_json_place.specs.Places.{IsPlaceIn};
-ghost use Rattle.elasticlunr_input.specs.FaultPlaces.{problem_path};
-ghost use Rattle.elasticlunr_input.specs.Inputs.{AreRefusedLines, HasHead, IsBelow, IsPlacedBelow, IsPlaceInLine, IsRefusedFirst, IsTroubleOf, IsUnreadLine};
+ghost use Rattle.elasticlunr_input.specs.FaultPlaces.{object_fault_path};
+ghost use Rattle.elasticlunr_input.specs.Inputs.{AreRefusedLines, HasHead, IsBelow, IsPlacedBelow};
+ghost use Rattle.elasticlunr_input.specs.Inputs.{IsPlaceInLine, IsRefusedFirst, IsTroubleOf};
+ghost use Rattle.elasticlunr_input.specs.Inputs.{IsUnreadLine};
 ghost use Rattle.elasticlunr_diagnostics.specs.Messages.{IfPlaced, IsMemoryOr, IsMemoryOrDevice};
 ghost use Rattle.serde_json.specs.Data.{Data};
 ghost use Rattle.serde_json.specs.View.{view};
 
-use crate::documents::{path_of, problem_key, problem_text, settings_fault};
+use crate::documents::{object_fault_key, object_fault_text, path_of, settings_fault};
 use crate::notes::Notes;
 use crate::tokens::Tokens;
-use elasticlunr_diagnostics::message::{Message, Trouble, lowered, not_json, unplaced};
+use elasticlunr_diagnostics::message::{InputError, Message, lowered, not_json, unplaced};
 use elasticlunr_documents::lines::{LastLine, LinesError, Watch, is_blank, lines_line, read_line};
 use elasticlunr_documents::marked::MarkedRead;
-use elasticlunr_documents::objects::{AddError, Object, Options, Problem, object_of};
+use elasticlunr_documents::objects::{AddError, Object, ObjectFault, Options, object_of};
 use elasticlunr_json_place::member::{Step, place_of};
 use elasticlunr_json_place::place::Place;
 use serde_json::{Error, Value};
 use std::alloc::{AllocError, Global};
 use std::io::{BufRead, Read};
 
-/// Reads a text up to the end of its first line that isn't blank, or to its own end, and gives what
+/// Reads a text up to the end of its first line that isn't blank, or to its own end, and gives
+/// what
 /// it read. The line that it read last stays.
 pub(crate) fn read_head<R: BufRead>(
     alloc: Global,
     reader: &mut R,
     last: &mut LastLine,
-) -> Result<Vec<u8>, Trouble>
+) -> Result<Vec<u8>, InputError>
     ensures ok { IfOk result (λ head.
         HasHead (R.remaining reader.old) (R.remaining reader.new) head.items last.new) }
     ensures err { IfErr result IsMemoryOrDevice }
@@ -54,7 +58,7 @@ pub(crate) fn read_head<R: BufRead>(
             return Ok(head);
         }
     }
-    Err(Trouble::Memory)
+    Err(InputError::Memory)
 }
 
 /// What notes what is suspicious in documents.
@@ -71,12 +75,13 @@ impl Watch for Watcher<'_> {
 }
 
 /// The value of the first line, which was read last, where it isn't blank.
-pub(crate) fn first_value(alloc: Global, last: &LastLine) -> Result<Vec<Value>, Trouble>
+pub(crate) fn first_value(alloc: Global, last: &LastLine) -> Result<Vec<Value>, InputError>
     ensures ok { IfOk result (λ values. map Some (map view values.items)
         ≡ map reading (filter is_filled (last.now.text.items ∷ []))) }
     ensures err { IfErr result
         (IsMemoryOr ((is_filled last.now.text.items ≡ true) × (reading last.now.text.items ≡ None))) }
-    ensures place { IfErr result (IfPlaced (IsBelow last.now.before (IsPlaceIn last.now.text.items))) }
+    ensures place { IfErr result (IfPlaced
+        (IsBelow last.now.before (IsPlaceIn last.now.text.items))) }
     ensures placed { IfErr result (IsUnreadLine last.now) }
 {
     let mut values = Vec::new(alloc);
@@ -88,8 +93,8 @@ pub(crate) fn first_value(alloc: Global, last: &LastLine) -> Result<Vec<Value>, 
             values.push(value)?;
             Ok(values)
         }
-        Err(e) if e.is_memory() => Err(Trouble::Memory),
-        Err(e) => Err(Trouble::Refused(line_unread(alloc, last, &e)?)),
+        Err(e) if e.is_memory() => Err(InputError::Memory),
+        Err(e) => Err(InputError::Refused(line_unread(alloc, last, &e)?)),
     }
 }
 
@@ -98,8 +103,9 @@ fn problem_of(
     alloc: Global,
     options: &Options<'_>,
     value: &Value,
-) -> Result<Option<Problem>, AllocError>
-    ensures some { IfOk result (λ found. IfSome found (HasProblem (options_told options.now) (view value.now))) }
+) -> Result<Option<ObjectFault>, AllocError>
+    ensures some { IfOk result (λ found. IfSome found
+        (HasProblem (options_told options.now) (view value.now))) }
     ensures none { IfOk result (λ found. IfNone found
         ((doc : Document) × IsDocumentOf (options_told options.now) (view value.now) doc)) }
 {
@@ -108,7 +114,7 @@ fn problem_of(
             drop(object);
             Ok(None)
         }
-        Err(AddError::Problem(problem)) => Ok(Some(problem)),
+        Err(AddError::ObjectFault(problem)) => Ok(Some(problem)),
         Err(AddError::Memory) => Err(AllocError),
     }
 }
@@ -120,10 +126,11 @@ pub(crate) fn check_first(
     options: &Options<'_>,
     values: &[Value],
     last: &LastLine,
-) -> Result<(), Trouble>
+) -> Result<(), InputError>
     ensures ok { OnOk result ((d : Data) → (rest : List Data) → map view values.now ≡ d ∷ rest
         → (doc : Document) × IsDocumentOf (options_told options.now) d doc) }
-    ensures err { IfErr result (IsRefusedFirst (options_told options.now) (map view values.now) last.now) }
+    ensures err { IfErr result (IsRefusedFirst (options_told options.now) (map view values.now)
+        last.now) }
 {
     let Some(value) = values.first() else {
         return Ok(());
@@ -132,7 +139,7 @@ pub(crate) fn check_first(
         None => Ok(()),
         Some(problem) => {
             let message = line_refused(alloc, options, last, 1, problem)?;
-            Err(Trouble::Refused(message))
+            Err(InputError::Refused(message))
         }
     }
 }
@@ -151,12 +158,12 @@ fn line_place(
     alloc: Global,
     options: &Options<'_>,
     line: &[u8],
-    problem: Problem,
+    problem: ObjectFault,
 ) -> Result<Option<Place>, AllocError>
     ensures { IfOk result (λ place. IfSome place
-        (IsPlaceOf None (problem_path (options_told options.now) problem) line.now)) }
+        (IsPlaceOf None (object_fault_path (options_told options.now) problem) line.now)) }
 {
-    let key = Step::Key(problem_key(options, problem));
+    let key = Step::Key(object_fault_key(options, problem));
     place_of(alloc, line, None, path_of(&[key], problem))
 }
 
@@ -168,13 +175,13 @@ fn value_refused(
     last: &LastLine,
     value: &Value,
     number: usize,
-    problem: Problem,
+    problem: ObjectFault,
 ) -> Result<Message, AllocError>
     ensures { IfOk result (λ message. IfSome message.place (IsBelow last.now.before
-        (IsPlaceOf None (problem_path (options_told options.now) problem) last.now.text.items))) }
+        (IsPlaceOf None (object_fault_path (options_told options.now) problem) last.now.text.items))) }
 {
     let place = line_place(alloc, options, &last.text, problem)?;
-    let text = problem_text(alloc, options, number, Some(value), problem)?;
+    let text = object_fault_text(alloc, options, number, Some(value), problem)?;
     Ok(lowered(Message { place, text }, last.before))
 }
 
@@ -184,7 +191,7 @@ pub(crate) fn line_refused(
     options: &Options<'_>,
     last: &LastLine,
     number: usize,
-    problem: Problem,
+    problem: ObjectFault,
 ) -> Result<Message, AllocError>
     ensures { IfOk result (λ message. IfSome message.place (IsBelow last.now.before
         (IsPlaceInLine (options_told options.now) last.now.text.items problem))) }
@@ -196,28 +203,29 @@ pub(crate) fn line_refused(
     }
 }
 
-/// Why no index of lines is printed; where a line is no document, it is the one that was read last.
-fn trouble_of(
+/// Why no index of lines is printed; where a line is no document, it is the one that was read
+/// last.
+fn input_error_of(
     alloc: Global,
     options: &Options<'_>,
     last: &LastLine,
     error: LinesError,
-) -> Result<Trouble, AllocError>
+) -> Result<InputError, AllocError>
     ensures cause { IfOk result (IsTroubleOf error) }
     ensures refused { IfOk result (λ e. (left : Option Bytes)
         → FailsLines (options_told options.now) left last.now error
         → AreRefusedLines (options_told options.now) left e) }
 {
     match error {
-        LinesError::Memory => Ok(Trouble::Memory),
-        LinesError::Device(e) => Ok(Trouble::Device(e)),
+        LinesError::Memory => Ok(InputError::Memory),
+        LinesError::Device(e) => Ok(InputError::Device(e)),
         LinesError::Refused(refusal) => {
             let said = settings_fault(alloc, options, refusal)?;
-            Ok(Trouble::Refused(unplaced(said)))
+            Ok(InputError::Refused(unplaced(said)))
         }
         LinesError::Document(number, problem) => {
             let message = line_refused(alloc, options, last, number, problem)?;
-            Ok(Trouble::Refused(message))
+            Ok(InputError::Refused(message))
         }
     }
 }
@@ -231,8 +239,9 @@ pub(crate) fn lines_text<R: MarkedRead>(
     last: &mut LastLine,
     reader: &mut R,
     notes: &mut Notes,
-) -> Result<String, Trouble>
-    ensures ok { IfOk result (λ line. (text : Bytes) × AreAll (option_append (Some head.now) (R.remaining reader.old)) text
+) -> Result<String, InputError>
+    ensures ok { IfOk result (λ line. (text : Bytes)
+        × AreAll (option_append (Some head.now) (R.remaining reader.old)) text
         × IsLineOfLines (options_told options.now) text (string_bytes line)) }
     ensures err { IfErr result (AreRefusedLines (options_told options.now)
         (option_append (Some head.now) (R.remaining reader.old))) }
@@ -242,7 +251,7 @@ pub(crate) fn lines_text<R: MarkedRead>(
             notes.end(&options.fields)?;
             Ok(line)
         }
-        Err(e) => Err(trouble_of(alloc, options, last, e)?),
+        Err(e) => Err(input_error_of(alloc, options, last, e)?),
     }
 }
 
@@ -255,7 +264,8 @@ fn watched_line<R: MarkedRead>(
     reader: &mut R,
     notes: &mut Notes,
 ) -> Result<String, LinesError>
-    ensures ok { IfOk result (λ line. (text : Bytes) × AreAll (option_append (Some head.now) (R.remaining reader.old)) text
+    ensures ok { IfOk result (λ line. (text : Bytes)
+        × AreAll (option_append (Some head.now) (R.remaining reader.old)) text
         × IsLineOfLines (options_told options.now) text (string_bytes line)) }
     ensures err { IfErr result (FailsLines (options_told options.now)
         (option_append (Some head.now) (R.remaining reader.old)) last.new) }

@@ -4,7 +4,7 @@ ghost use Rattle.std.specs.Prelude.{◌≡◌, ◌⊎◌, ◌∷◌, [], length,
 ghost use Rattle.elasticlunr_input.specs.Mark.{without_mark};
 ghost use Rattle.elasticlunr_diagnostics.specs.Messages.{IsMemoryOrDevice};
 
-use elasticlunr_diagnostics::message::Trouble;
+use elasticlunr_diagnostics::message::InputError;
 use std::alloc::Global;
 use std::io::{self, BufRead};
 
@@ -21,7 +21,7 @@ pub fn without_mark(text: &[u8]) -> &[u8]
 
 /// The first three bytes that a reader gives, as many as a mark has; all of them where there are
 /// fewer.
-pub(crate) fn read_start<R: BufRead>(alloc: Global, reader: &mut R) -> Result<Vec<u8>, Trouble>
+pub(crate) fn read_start<R: BufRead>(alloc: Global, reader: &mut R) -> Result<Vec<u8>, InputError>
     ensures taken { IfOk result (λ start.
         Consumes (R.remaining reader.old) (R.remaining reader.new) start.items) }
     ensures whole { IfOk result (λ start.

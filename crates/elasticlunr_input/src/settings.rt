@@ -40,7 +40,8 @@ fn texts_or<'a>(
     own: Vec<&'a str>,
 ) -> Result<Vec<&'a str>, AllocError>
     ensures { IfOk result (λ texts. map (λ s. s.now) texts.items
-        ≡ unwrap_or (option_map (λ names. bytes_of names.items) given.now) (map (λ s. s.now) own.entry.items)) }
+        ≡ unwrap_or (option_map (λ names. bytes_of names.items) given.now)
+        (map (λ s. s.now) own.entry.items)) }
 {
     match given {
         Some(names) => texts_of(alloc, names),

@@ -1,5 +1,6 @@
 -- Indexes of the same settings.
-use Rattle.std.proofs.Common.{◌≡◌, ◌⊎◌, ◌<◌, ◌≤◌, List, Bool, true, false, Option, None, Some, Result, Ok, Err, IsNone, IsSomeAnd, ◌↔◌, Bor, true≢false, inl, inr, sym, ap, subst, ◌∙◌, length, arith}
+use Rattle.std.proofs.Common.{◌≡◌, ◌⊎◌, ◌<◌, ◌≤◌, List, Bool, true, false, Option, None, Some, Result, Ok, Err, IsNone}
+use Rattle.std.proofs.Common.{IsSomeAnd, ◌↔◌, Bor, true≢false, inl, inr, sym, ap, subst, ◌∙◌, length, arith}
 use Rattle.std.proofs.lemmas.Bool.{cases_lt}
 use Rattle.std.proofs.lemmas.List.{length-map}
 use Rattle.elasticlunr_text.specs.Stages.{names_of, IsRun}
@@ -18,14 +19,17 @@ use Rattle.elasticlunr_job_format.specs.JobTold.{document_told}
 use Rattle.elasticlunr_job_format.specs.declared.job.Document as held
 
 -- a call that was not refused has not too many values
-pub not_refused : {T E : Type 0} (r : Result T E) (ok : T) (failed too_many : E) (F M : Type 0) → r ≡ Ok ok → (r ≡ Err failed) ↔ F → (r ≡ Err too_many) ↔ (¬ F × M) → ¬ M
+pub not_refused : {T E : Type 0} (r : Result T E) (ok : T) (failed too_many : E) (F M : Type 0) → r ≡ Ok ok
+    → (r ≡ Err failed) ↔ F → (r ≡ Err too_many) ↔ (¬ F × M) → ¬ M
 not_refused r ok failed too_many F M is f m over =
     let works : ¬ F = λ h. (let e : r ≡ Err failed = f.1 h in cc) in
     let e : r ≡ Err too_many = m.1 (works, over) in cc
 
 -- after a call that was not refused the index works
-pub still_works : {T E : Type 0} (r : Result T E) (ok : T) (failed memory : E) (F : Type 0) → r ≡ Ok ok → F ↔ ((r ≡ Err failed) ⊎ (r ≡ Err memory)) → ¬ F
-still_works r ok failed memory F is f failing = elim (f.0 failing) [ inl a ↦ (let e : r ≡ Err failed = a in cc) | inr b ↦ (let e : r ≡ Err memory = b in cc) ]
+pub still_works : {T E : Type 0} (r : Result T E) (ok : T) (failed memory : E) (F : Type 0) → r ≡ Ok ok → F
+    ↔ ((r ≡ Err failed) ⊎ (r ≡ Err memory)) → ¬ F
+still_works r ok failed memory F is f failing = elim (f.0 failing)
+    [ inl a ↦ (let e : r ≡ Err failed = a in cc) | inr b ↦ (let e : r ≡ Err memory = b in cc) ]
 
 some_not_none : {A : Type 0} (o : Option A) (Q : A → Type 0) → IsSomeAnd o Q → IsNone o → ⊥
 some_not_none None Q some none = absurd some
@@ -33,17 +37,25 @@ some_not_none (Some x) Q some none = true≢false none
 
 module _ {L P X Y : Type 0} {O : X → Type 0} {F : Y → Type 0} {p : _} {g : _} where
   -- they make the same documents
-  pub document_alike : (tokens_of : L → Text → List Text) (leaves : (v : X) × O v → Text → Option Text) (old new : Index L P X Y O F p g) → choices_of new ≡ choices_of old
-      → (reference : Bytes) (values : List Bytes) (document : Document) → IsDocument tokens_of leaves new reference values document → IsDocument tokens_of leaves old reference values document
+  pub document_alike : (tokens_of : L → Text → List Text) (leaves : (v : X) × O v → Text → Option Text)
+      (old new : Index L P X Y O F p g) → choices_of new ≡ choices_of old
+      → (reference : Bytes) (values : List Bytes) (document : Document)
+      → IsDocument tokens_of leaves new reference values document
+      → IsDocument tokens_of leaves old reference values document
   document_alike tokens_of leaves old new same reference values document made =
-      subst (λ c. documents.IsDocument c.fields c.reference_field (Reads tokens_of MayAnswer (IsRun (λ step. leaves (step.vtable, step.value))) c) reference values document) same made
+      subst (λ c. documents.IsDocument c.fields c.reference_field
+      (Reads tokens_of MayAnswer (IsRun (λ step. leaves (step.vtable, step.value))) c) reference values document)
+      same made
 
   -- they are printed alike
-  pub plan_alike : (name_of : L → Bytes) (name_text : (v : X) × O v → Bytes) (old new : Index L P X Y O F p g) → choices_of new ≡ choices_of old → plan_of name_of name_text new ≡ plan_of name_of name_text old
-  plan_alike name_of name_text old new same = ap (plan_with name_of (names_of (λ step. name_text (step.vtable, step.value)))) same
+  pub plan_alike : (name_of : L → Bytes) (name_text : (v : X) × O v → Bytes) (old new : Index L P X Y O F p g)
+      → choices_of new ≡ choices_of old → plan_of name_of name_text new ≡ plan_of name_of name_text old
+  plan_alike name_of name_text old new same =
+      ap (plan_with name_of (names_of (λ step. name_text (step.vtable, step.value)))) same
 
   -- one after the other
-  pub same_settings : (first second third last : Index L P X Y O F p g) → last ≡ third → choices_of third ≡ choices_of second → choices_of second ≡ choices_of first → choices_of last ≡ choices_of first
+  pub same_settings : (first second third last : Index L P X Y O F p g) → last ≡ third → choices_of third
+      ≡ choices_of second → choices_of second ≡ choices_of first → choices_of last ≡ choices_of first
   same_settings first second third last is same earlier = ap choices_of is ∙ (same ∙ earlier)
 
   -- one that holds something has not failed
@@ -51,35 +63,51 @@ module _ {L P X Y : Type 0} {O : X → Type 0} {F : Y → Type 0} {p : _} {g : _
   holding_works index Q some failed = some_not_none index.contents Q some failed
 
   -- a call that fails only a failed index
-  pub works_then : (old new last : Index L P X Y O F p g) → last ≡ new → IsFailed new ↔ IsFailed old → ¬ IsFailed old → ¬ IsFailed last
+  pub works_then : (old new last : Index L P X Y O F p g) → last ≡ new → IsFailed new ↔ IsFailed old → ¬ IsFailed old
+      → ¬ IsFailed last
   works_then old new last is fails works failed = works (fails.0 (subst IsFailed is failed))
 
   -- the compaction that the job asks for
-  pub compacted_then : (name_of : L → Bytes) (name_text : (v : X) × O v → Bytes) (old new last : Index L P X Y O F p g) (wanted : Bool) → last ≡ new → wanted ≡ true
-      → ((commands : Commands) → StandsFor name_of name_text old commands → StandsFor name_of name_text new (commands ▸ compact))
+  pub compacted_then : (name_of : L → Bytes) (name_text : (v : X) × O v → Bytes) (old new last : Index L P X Y O F p g)
+      (wanted : Bool) → last ≡ new → wanted ≡ true
+      → ((commands : Commands) → StandsFor name_of name_text old commands
+      → StandsFor name_of name_text new (commands ▸ compact))
       → Follows (StandsFor name_of name_text old) (StandsFor name_of name_text last) (compacted wanted)
   compacted_then name_of name_text old new last wanted is on then = record {
     stands = λ commands stands.
-        subst (λ b. StandsFor name_of name_text last (followed_by commands (compacted b))) (sym on) (subst (λ i. StandsFor name_of name_text i (commands ▸ compact)) (sym is) (then commands stands));
+        subst (λ b. StandsFor name_of name_text last (followed_by commands (compacted b))) (sym on)
+        (subst (λ i. StandsFor name_of name_text i (commands ▸ compact)) (sym is) (then commands stands));
   }
 
-  pub compacted_not : (name_of : L → Bytes) (name_text : (v : X) × O v → Bytes) (old last : Index L P X Y O F p g) (wanted : Bool) → last ≡ old → wanted ≡ false
+  pub compacted_not : (name_of : L → Bytes) (name_text : (v : X) × O v → Bytes) (old last : Index L P X Y O F p g)
+      (wanted : Bool) → last ≡ old → wanted ≡ false
       → Follows (StandsFor name_of name_text old) (StandsFor name_of name_text last) (compacted wanted)
   compacted_not name_of name_text old last wanted is off = record {
     stands = λ commands stands.
-        subst (λ b. StandsFor name_of name_text last (followed_by commands (compacted b))) (sym off) (subst (λ i. StandsFor name_of name_text i commands) (sym is) stands);
+        subst (λ b. StandsFor name_of name_text last (followed_by commands (compacted b))) (sym off)
+        (subst (λ i. StandsFor name_of name_text i commands) (sym is) stands);
   }
 
   -- the values of a document are not too many
-  pub fits_told : (old new : Index L P X Y O F p g) (doc : held.Document) (values : List (Bor Bytes)) → choices_of new ≡ choices_of old → values ≡ doc.values.items → ¬ (length (fields_of new) < length values) → length (document_told doc).values ≤ length (fields_of old)
+  pub fits_told : (old new : Index L P X Y O F p g) (doc : held.Document) (values : List (Bor Bytes)) → choices_of new
+      ≡ choices_of old → values ≡ doc.values.items → ¬ (length (fields_of new) < length values)
+      → length (document_told doc).values ≤ length (fields_of old)
   fits_told old new doc values same are fits =
-      let values_long : length (document_told doc).values ≡ length values = length-map doc.values.items (λ s. s.now) ∙ sym (ap length are) in
+      let values_long : length (document_told doc).values ≡ length values = length-map doc.values.items (λ s. s.now)
+      ∙ sym (ap length are) in
       let fields_long : length (fields_of new) ≡ length (fields_of old) = ap (λ c. length c.fields) same in
-      elim (cases_lt (length (fields_of new)) (length values)) [ inl over ↦ absurd (fits over) | inr within ↦ omega arith ]
+      elim (cases_lt (length (fields_of new)) (length values)) [
+        | inl over ↦ absurd (fits over)
+        | inr within ↦
+            omega arith
+      ]
 
   -- they are too many
-  pub too_many_told : (old new : Index L P X Y O F p g) (doc : held.Document) (values : List (Bor Bytes)) → choices_of new ≡ choices_of old → values ≡ doc.values.items → length (fields_of new) < length values → HasTooMany (fields_of old) (document_told doc)
+  pub too_many_told : (old new : Index L P X Y O F p g) (doc : held.Document) (values : List (Bor Bytes))
+      → choices_of new ≡ choices_of old → values ≡ doc.values.items → length (fields_of new) < length values
+      → HasTooMany (fields_of old) (document_told doc)
   too_many_told old new doc values same are many =
-      let values_long : length (document_told doc).values ≡ length values = length-map doc.values.items (λ s. s.now) ∙ sym (ap length are) in
+      let values_long : length (document_told doc).values ≡ length values = length-map doc.values.items (λ s. s.now)
+      ∙ sym (ap length are) in
       let fields_long : length (fields_of new) ≡ length (fields_of old) = ap (λ c. length c.fields) same in
       omega arith

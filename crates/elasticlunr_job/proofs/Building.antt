@@ -1,5 +1,6 @@
 -- The index that is built for a job.
-use Rattle.std.proofs.Common.{◌≡◌, ◌≢◌, ℕ, zero, suc, List, [], ◌∷◌, ◌++◌, Bor, map, Option, None, Some, slice_get, IfNone, refl, ap, subst, ◌∙◌}
+use Rattle.std.proofs.Common.{◌≡◌, ◌≢◌, ℕ, zero, suc, List, [], ◌∷◌, ◌++◌, Bor, map, Option, None, Some, slice_get}
+use Rattle.std.proofs.Common.{IfNone, refl, ap, subst, ◌∙◌}
 use Rattle.elasticlunr_text.specs.Text.{Text, Bytes}
 use Rattle.elasticlunr_lang.specs.Known.{language_name, language_stages, language_leaves}
 use Rattle.elasticlunr_lang.specs.declared.any.AnyLanguage.{AnyLanguage}
@@ -14,7 +15,8 @@ use Rattle.elasticlunr_job_format.specs.JobTold.{job_told}
 use Rattle.elasticlunr_job_format.specs.declared.job.Job as held
 use Rattle.elasticlunr_job_format.specs.Job.{Job}
 
-nothing_there : {T : Type 0} (names : List Bytes) (i : ℕ) (tokenizer : T) → slice_get (map {A = Bytes} {B = Option T} (λ _. None) names) i ≢ Some (Some tokenizer)
+nothing_there : {T : Type 0} (names : List Bytes) (i : ℕ) (tokenizer : T)
+    → slice_get (map {A = Bytes} {B = Option T} (λ _. None) names) i ≢ Some (Some tokenizer)
 nothing_there [] i tokenizer e = cc
 nothing_there (name ∷ names) zero tokenizer e = cc
 nothing_there (name ∷ names) (suc i) tokenizer e = nothing_there names i tokenizer e
@@ -25,50 +27,84 @@ module _ {L P T : Type 0} where
   begun job language = record (beginning language) { save = job.save; reference_field = job.reference_field }
 
   -- one thing is given after the other
-  pub begun_for : (job : Job) (language : L) (first second third : Choices L (Option P) T) → first ≡ beginning language → second ≡ record first { save = job.save } → third ≡ record second { reference_field = job.reference_field } → third ≡ begun job language
+  pub begun_for : (job : Job) (language : L) (first second third : Choices L (Option P) T) → first ≡ beginning language
+      → second ≡ record first { save = job.save } → third ≡ record second { reference_field = job.reference_field }
+      → third ≡ begun job language
   begun_for job language first second third e f g =
-      g ∙ ap {A = Choices L (Option P) T} (λ c. record c { reference_field = job.reference_field }) (f ∙ ap {A = Choices L (Option P) T} (λ c. record c { save = job.save }) e)
+      g ∙ ap {A = Choices L (Option P) T} (λ c. record c { reference_field = job.reference_field })
+      (f ∙ ap {A = Choices L (Option P) T} (λ c. record c { save = job.save }) e)
 
   -- and then the fields
-  pub given_told : (job : Job) (language : L) (third last : Choices L (Option P) T) (names : List (Bor Bytes)) → third ≡ begun job language → map (λ name. name.now) names ≡ job.fields → last ≡ with_fields (map (λ name. name.now) names) third → last ≡ with_fields job.fields (begun job language)
+  pub given_told : (job : Job) (language : L) (third last : Choices L (Option P) T) (names : List (Bor Bytes)) → third
+      ≡ begun job language → map (λ name. name.now) names ≡ job.fields → last
+      ≡ with_fields (map (λ name. name.now) names) third → last ≡ with_fields job.fields (begun job language)
   given_told job language third last names e f g =
-      g ∙ ap {A = Choices L (Option P) T} (with_fields (map (λ name. name.now) names)) e ∙ ap (λ ns. with_fields ns (begun job language)) f
+      g ∙ ap {A = Choices L (Option P) T} (with_fields (map (λ name. name.now) names)) e
+      ∙ ap (λ ns. with_fields ns (begun job language)) f
 
-  pub told_fields : (Q : List Bytes → Type 0) (job : Job) (language : L) (third : Choices L (Option P) T) (names : List (Bor Bytes)) → third ≡ begun job language → map (λ name. name.now) names ≡ job.fields → Q (third.fields ++ map (λ name. name.now) names) → Q job.fields
-  told_fields Q job language third names e f q = subst Q f (subst (λ (c : Choices L (Option P) T). Q (c.fields ++ map (λ name. name.now) names)) e q)
+  pub told_fields : (Q : List Bytes → Type 0) (job : Job) (language : L) (third : Choices L (Option P) T)
+      (names : List (Bor Bytes)) → third ≡ begun job language → map (λ name. name.now) names ≡ job.fields
+      → Q (third.fields ++ map (λ name. name.now) names) → Q job.fields
+  told_fields Q job language third names e f q =
+      subst Q f (subst (λ (c : Choices L (Option P) T). Q (c.fields ++ map (λ name. name.now) names)) e q)
 
   -- the same of the fields as the program holds them
-  pub given_for : (job : held.Job) (language : L) (third last : Choices L (Option P) T) (names : List (Bor Bytes)) → third ≡ begun (job_told job) language → names ≡ job.fields.items → last ≡ with_fields (map (λ name. name.now) names) third → last ≡ with_fields (job_told job).fields (begun (job_told job) language)
-  given_for job language third last names e f g = given_told (job_told job) language third last names e (ap (map (λ (name : Bor Bytes). name.now)) f) g
+  pub given_for : (job : held.Job) (language : L) (third last : Choices L (Option P) T) (names : List (Bor Bytes))
+      → third ≡ begun (job_told job) language → names ≡ job.fields.items → last
+      ≡ with_fields (map (λ name. name.now) names) third → last
+      ≡ with_fields (job_told job).fields (begun (job_told job) language)
+  given_for job language third last names e f g = given_told (job_told job) language third last names e
+      (ap (map (λ (name : Bor Bytes). name.now)) f) g
 
-  pub given_fields : (Q : List Bytes → Type 0) (job : held.Job) (language : L) (third : Choices L (Option P) T) (names : List (Bor Bytes)) → third ≡ begun (job_told job) language → names ≡ job.fields.items → Q (third.fields ++ map (λ name. name.now) names) → Q (job_told job).fields
-  given_fields Q job language third names e f q = told_fields Q (job_told job) language third names e (ap (map (λ (name : Bor Bytes). name.now)) f) q
+  pub given_fields : (Q : List Bytes → Type 0) (job : held.Job) (language : L) (third : Choices L (Option P) T)
+      (names : List (Bor Bytes)) → third ≡ begun (job_told job) language → names ≡ job.fields.items
+      → Q (third.fields ++ map (λ name. name.now) names) → Q (job_told job).fields
+  given_fields Q job language third names e f q = told_fields Q (job_told job) language third names e
+      (ap (map (λ (name : Bor Bytes). name.now)) f) q
 
   uses_language : (job : Job) (language : L) → UsesLanguage (with_fields job.fields (begun job language))
   uses_language job language = record { no_pipeline = refl; no_tokenizer = nothing_there job.fields }
 
 module _ {P T : Type 0} where
   -- what `build` makes of what was given
-  pub built_for : (job : Job) (language : AnyLanguage) (given : Choices AnyLanguage (Option P) T) (built : Choices AnyLanguage P T) (plan : Plan) (reads : ℕ → Bytes → List Text → Type 0) (stands : Commands → Type 0) → given ≡ with_fields job.fields (begun job language)
-      → stands none → IsBuiltBy given built → IfNone given.pipeline (plan ≡ language_plan language_name language_stages given)
-      → (UsesLanguage given → ReadsOnly reads (LanguageReads (language_tokens given.language) (language_leaves given.language)))
-      → (ReadsOnly reads (LanguageReads (language_tokens language) (language_leaves language)) → (reference : Bytes) (values : List Bytes) (document : Document)
+  pub built_for : (job : Job) (language : AnyLanguage) (given : Choices AnyLanguage (Option P) T)
+      (built : Choices AnyLanguage P T) (plan : Plan) (reads : ℕ → Bytes → List Text → Type 0) (stands : Commands
+      → Type 0) → given ≡ with_fields job.fields (begun job language)
+      → stands none → IsBuiltBy given built → IfNone given.pipeline
+      (plan ≡ language_plan language_name language_stages given)
+      → (UsesLanguage given → ReadsOnly reads
+      (LanguageReads (language_tokens given.language) (language_leaves given.language)))
+      → (ReadsOnly reads (LanguageReads (language_tokens language) (language_leaves language))
+      → (reference : Bytes) (values : List Bytes) (document : Document)
       → documents.IsDocument built.fields built.reference_field reads reference values document
-      → documents.IsDocument built.fields built.reference_field (LanguageReads (language_tokens language) (language_leaves language)) reference values document)
+      → documents.IsDocument built.fields built.reference_field
+      (LanguageReads (language_tokens language) (language_leaves language)) reference values document)
       → IsBuiltFor job language plan (documents.IsDocument built.fields built.reference_field reads) stands
   built_for job language given built plan reads stands same empty has its_plan uses makes =
-      let fields : built.fields ≡ job.fields = has.fields ∙ ap (λ (c : Choices AnyLanguage (Option P) T). c.fields) same in
-      let reference_field : built.reference_field ≡ job.reference_field = has.reference_field ∙ ap (λ (c : Choices AnyLanguage (Option P) T). c.reference_field) same in
+      let fields : built.fields ≡ job.fields = has.fields ∙ ap (λ (c : Choices AnyLanguage (Option P) T). c.fields) same
+      in
+      let reference_field : built.reference_field ≡ job.reference_field = has.reference_field
+      ∙ ap (λ (c : Choices AnyLanguage (Option P) T). c.reference_field) same in
       let only : ReadsOnly reads (LanguageReads (language_tokens language) (language_leaves language)) =
-      subst (λ (c : Choices AnyLanguage (Option P) T). UsesLanguage c → ReadsOnly reads (LanguageReads (language_tokens c.language) (language_leaves c.language))) same uses (uses_language job language) in
+      subst (λ (c : Choices AnyLanguage (Option P) T). UsesLanguage c
+      → ReadsOnly reads (LanguageReads (language_tokens c.language) (language_leaves c.language))) same uses
+      (uses_language job language) in
       record {
-        its_plan = subst (λ (c : Choices AnyLanguage (Option P) T). IfNone c.pipeline (plan ≡ language_plan language_name language_stages c)) same its_plan;
+        its_plan = subst (λ (c : Choices AnyLanguage (Option P) T). IfNone c.pipeline
+            (plan ≡ language_plan language_name language_stages c)) same its_plan;
         adds = λ doc document made.
-            subst (λ names. documents.IsDocument names job.reference_field (LanguageReads (language_tokens language) (language_leaves language)) doc.reference doc.values document) fields
-            (subst (λ name. documents.IsDocument built.fields name (LanguageReads (language_tokens language) (language_leaves language)) doc.reference doc.values document) reference_field
+            subst (λ names. documents.IsDocument names job.reference_field
+            (LanguageReads (language_tokens language) (language_leaves language)) doc.reference doc.values
+            document) fields
+            (subst (λ name. documents.IsDocument built.fields name
+            (LanguageReads (language_tokens language) (language_leaves language)) doc.reference doc.values
+            document) reference_field
             (makes only doc.reference doc.values document made));
         empty = empty;
       }
 
-  pub built_fields : (job : Job) (language : AnyLanguage) (given : Choices AnyLanguage (Option P) T) (built : Choices AnyLanguage P T) → given ≡ with_fields job.fields (begun job language) → IsBuiltBy given built → built.fields ≡ job.fields
-  built_fields job language given built same has = has.fields ∙ ap (λ (c : Choices AnyLanguage (Option P) T). c.fields) same
+  pub built_fields : (job : Job) (language : AnyLanguage) (given : Choices AnyLanguage (Option P) T)
+      (built : Choices AnyLanguage P T) → given ≡ with_fields job.fields (begun job language) → IsBuiltBy given built
+      → built.fields ≡ job.fields
+  built_fields job language given built same has = has.fields ∙ ap (λ (c : Choices AnyLanguage (Option P) T). c.fields)
+      same

@@ -12,7 +12,8 @@ use Rattle.elasticlunr_job.specs.Commands.{AreCommandsOf, compacted, in_order, I
 use Rattle.elasticlunr_job_format.specs.Job as asked
 use Rattle.elasticlunr_job_format.specs.Job.{Job}
 
-joined : {A B : Type 0} (R : A → B → Type 0) (xs more : List A) (ys also : List B) → AllZip R xs ys → AllZip R more also → AllZip R (xs ++ more) (ys ++ also)
+joined : {A B : Type 0} (R : A → B → Type 0) (xs more : List A) (ys also : List B) → AllZip R xs ys → AllZip R more also
+    → AllZip R (xs ++ more) (ys ++ also)
 joined R [] more [] also each rest = rest
 joined R [] more (y ∷ ys) also each rest = absurd each
 joined R (x ∷ xs) more [] also each rest = absurd each
@@ -23,7 +24,8 @@ module _ (job : Job) (language : AnyLanguage) where
   abbrev Was : Call → Command → Type 0
   Was = IsCommandOf (IsKeptDocument language job.fields job.reference_field)
 
-  added : (docs : List asked.Document) (documents : List Document) → AllZip (IsAdded job language) docs documents → AllZip Was (map (λ doc. adding doc.reference doc.values) docs) (map add documents)
+  added : (docs : List asked.Document) (documents : List Document) → AllZip (IsAdded job language) docs documents
+      → AllZip Was (map (λ doc. adding doc.reference doc.values) docs) (map add documents)
   added [] [] each = tt
   added [] (d ∷ documents) each = absurd each
   added (doc ∷ docs) [] each = absurd each
@@ -37,9 +39,11 @@ module _ (job : Job) (language : AnyLanguage) where
   compacts true = (tt, tt)
   compacts false = tt
 
-  pub commands_of_calls : (commands : Commands) → AreCommandsOf job language commands → calls.AreCommandsOf (IsKeptDocument language job.fields job.reference_field) (job_calls job) commands
+  pub commands_of_calls : (commands : Commands) → AreCommandsOf job language commands
+      → calls.AreCommandsOf (IsKeptDocument language job.fields job.reference_field) (job_calls job) commands
   commands_of_calls commands are = record {
     list = in_order job are.documents;
-    each = joined Was _ _ _ _ (joined Was _ _ _ _ (added job.docs are.documents are.each) (removed job.remove)) (compacts job.compact);
+    each = joined Was _ _ _ _ (joined Was _ _ _ _ (added job.docs are.documents are.each) (removed job.remove))
+        (compacts job.compact);
     whole = are.whole;
   }

@@ -1,15 +1,18 @@
 -- An input has one answer.
-use Rattle.std.proofs.Common.{◌≡◌, ◌≤◌, ◌<◌, ℕ, List, length, All, Any, Option, None, Some, IsSome, is_some, true≢false, refl, sym, ap, subst, ◌∙◌, arith}
+use Rattle.std.proofs.Common.{◌≡◌, ◌≤◌, ◌<◌, ℕ, List, length, All, Any, Option, None, Some, IsSome, is_some, true≢false}
+use Rattle.std.proofs.Common.{refl, sym, ap, subst, ◌∙◌, arith}
 use Rattle.serde_json.specs.Data.{Data}
 use Rattle.elasticlunr_lang.specs.Known.{language_name}
 use Rattle.elasticlunr_lang.specs.declared.any.AnyLanguage.{AnyLanguage}
 use Rattle.elasticlunr_job_format.specs.Job.{Document, Job, IsJob, IsNoJob}
 use Rattle.elasticlunr_job_format.specs.Reading.{reading}
-use Rattle.elasticlunr_job.specs.Answer.{HasJob, HasTooMany, FailsAt, Passes, IsIndexLine, IsRefused, IsAnswer, line, refusal_text}
+use Rattle.elasticlunr_job.specs.Answer.{HasJob, HasTooMany, FailsAt, Passes, IsIndexLine, IsRefused, IsAnswer, line}
+use Rattle.elasticlunr_job.specs.Answer.{refusal_text}
 use Rattle.elasticlunr_job.specs.declared.outcome.Outcome.{Outcome}
 use Rattle.elasticlunr_job.specs.declared.outcome.Outcome.TheVariants.{Printed, Refused}
 use Rattle.elasticlunr_job_format.specs.declared.outcome.Refusal.{Refusal}
-use Rattle.elasticlunr_job_format.specs.declared.outcome.Refusal.TheVariants.{NotJson, NotAJob, UnknownLanguage, DuplicateField, TooManyValues}
+use Rattle.elasticlunr_job_format.specs.declared.outcome.Refusal.TheVariants.{NotJson, NotAJob, UnknownLanguage}
+use Rattle.elasticlunr_job_format.specs.declared.outcome.Refusal.TheVariants.{DuplicateField, TooManyValues}
 use Rattle.elasticlunr_job.proofs.OneJob.{same_some, one_input}
 use Rattle.elasticlunr_job.proofs.OneLine.{OneValue, OneDocument, one_line}
 use Rattle.elasticlunr_job.proofs.OneLanguage.{same_name}
@@ -18,9 +21,11 @@ none_some : {X : Type 0} (o : Option X) → o ≡ None → IsSome o → ⊥
 none_some o e h = true≢false (sym h ∙ ap is_some e)
 
 -- some document has more values than there are fields, or none has
-not_both : (fields : List (List ℕ)) (docs : List Document) → Any (HasTooMany fields) docs → All (λ doc. length doc.values ≤ length fields) docs → ⊥
+not_both : (fields : List (List ℕ)) (docs : List Document) → Any (HasTooMany fields) docs
+    → All (λ doc. length doc.values ≤ length fields) docs → ⊥
 not_both fields docs many fits =
-    let within : length many.1.values ≤ length fields = subst (λ doc. length doc.values ≤ length fields) many.3 (fits many.0 many.1 many.2) in
+    let within : length many.1.values ≤ length fields = subst (λ doc. length doc.values ≤ length fields) many.3
+    (fits many.0 many.1 many.2) in
     let over : length fields < length many.1.values = many.4 in
     absurd (omega arith)
 
@@ -80,28 +85,39 @@ one_way bytes r s (no_job e h) (no_job f k) = e ∙ sym f
 one_way bytes r s (no_job e h) (some_job k) = absurd (no_job_some_job bytes k.0 h k.1)
 one_way bytes r s (some_job h) (no_json f k) = absurd (none_and_some (reading bytes) h.1.0 k h.1.1)
 one_way bytes r s (some_job h) (no_job f k) = absurd (no_job_some_job bytes h.0 k h.1)
-one_way bytes r s (some_job h) (some_job k) = one_failure k.0 r s (subst (λ job. FailsAt job r) (one_input bytes h.0 k.0 h.1 k.1) h.2) k.2
+one_way bytes r s (some_job h) (some_job k) = one_failure k.0 r s
+    (subst (λ job. FailsAt job r) (one_input bytes h.0 k.0 h.1 k.1) h.2) k.2
 
-refused_or_printed : (bytes : List ℕ) (r : Refusal) (job : Job) (language : AnyLanguage) → Way bytes r → HasJob bytes job → Passes job language → ⊥
+refused_or_printed : (bytes : List ℕ) (r : Refusal) (job : Job) (language : AnyLanguage) → Way bytes r
+    → HasJob bytes job → Passes job language → ⊥
 refused_or_printed bytes r job language (no_json e h) has passes = none_and_some (reading bytes) has.0 h has.1
 refused_or_printed bytes r job language (no_job e h) has passes = no_job_some_job bytes job h has
-refused_or_printed bytes r job language (some_job h) has passes = fails_or_passes job r language (subst (λ j. FailsAt j r) (one_input bytes h.0 job h.1 has) h.2) passes
+refused_or_printed bytes r job language (some_job h) has passes = fails_or_passes job r language
+    (subst (λ j. FailsAt j r) (one_input bytes h.0 job h.1 has) h.2) passes
 
 pub one_outcome : (bytes : List ℕ) (o p : Outcome) (t u : List ℕ) → IsAnswer bytes o t → IsAnswer bytes p u → o ≡ p
 one_outcome bytes Printed Printed t u a b = refl
-one_outcome bytes Printed (Refused r) t u a b = absurd (refused_or_printed bytes r a.0 a.2.0 (way bytes r b.0) a.1 a.2.1)
-one_outcome bytes (Refused r) Printed t u a b = absurd (refused_or_printed bytes r b.0 b.2.0 (way bytes r a.0) b.1 b.2.1)
+one_outcome bytes Printed (Refused r) t u a b =
+    absurd (refused_or_printed bytes r a.0 a.2.0 (way bytes r b.0) a.1 a.2.1)
+one_outcome bytes (Refused r) Printed t u a b =
+    absurd (refused_or_printed bytes r b.0 b.2.0 (way bytes r a.0) b.1 b.2.1)
 one_outcome bytes (Refused r) (Refused s) t u a b = ap Refused (one_way bytes r s (way bytes r a.0) (way bytes s b.0))
 
-same_printed : OneValue → OneDocument → (bytes : List ℕ) (t u : List ℕ) → IsAnswer bytes Printed t → IsAnswer bytes Printed u → t ≡ u
+same_printed : OneValue → OneDocument → (bytes : List ℕ) (t u : List ℕ) → IsAnswer bytes Printed t
+    → IsAnswer bytes Printed u → t ≡ u
 same_printed values documents bytes t u a b =
     let job : a.0 ≡ b.0 = one_input bytes a.0 b.0 a.1 b.1 in
     let named : language_name a.2.0 ≡ b.0.language = subst (λ j. language_name a.2.0 ≡ j.language) job a.2.1.named in
     let language : a.2.0 ≡ b.2.0 = same_name a.2.0 b.2.0 (named ∙ sym b.2.1.named) in
-    one_line values documents b.0 b.2.0 t u (subst (λ l. IsIndexLine b.0 l t) language (subst (λ j. IsIndexLine j a.2.0 t) job a.2.2)) b.2.2
+    one_line values documents b.0 b.2.0 t u
+    (subst (λ l. IsIndexLine b.0 l t) language (subst (λ j. IsIndexLine j a.2.0 t) job a.2.2)) b.2.2
 
-pub one_text : OneValue → OneDocument → (bytes : List ℕ) (o p : Outcome) (t u : List ℕ) → IsAnswer bytes o t → IsAnswer bytes p u → t ≡ u
+pub one_text : OneValue → OneDocument → (bytes : List ℕ) (o p : Outcome) (t u : List ℕ) → IsAnswer bytes o t
+    → IsAnswer bytes p u → t ≡ u
 one_text values documents bytes Printed Printed t u a b = same_printed values documents bytes t u a b
-one_text values documents bytes Printed (Refused r) t u a b = absurd (refused_or_printed bytes r a.0 a.2.0 (way bytes r b.0) a.1 a.2.1)
-one_text values documents bytes (Refused r) Printed t u a b = absurd (refused_or_printed bytes r b.0 b.2.0 (way bytes r a.0) b.1 b.2.1)
-one_text values documents bytes (Refused r) (Refused s) t u a b = a.1 ∙ ap (λ q. line (refusal_text q)) (one_way bytes r s (way bytes r a.0) (way bytes s b.0)) ∙ sym b.1
+one_text values documents bytes Printed (Refused r) t u a b =
+    absurd (refused_or_printed bytes r a.0 a.2.0 (way bytes r b.0) a.1 a.2.1)
+one_text values documents bytes (Refused r) Printed t u a b =
+    absurd (refused_or_printed bytes r b.0 b.2.0 (way bytes r a.0) b.1 b.2.1)
+one_text values documents bytes (Refused r) (Refused s) t u a b = a.1
+    ∙ ap (λ q. line (refusal_text q)) (one_way bytes r s (way bytes r a.0) (way bytes s b.0)) ∙ sym b.1

@@ -33,7 +33,8 @@ same_document a b e =
     let all = same_texts (a.reference ∷ a.values) (b.reference ∷ b.values) e in
     let first : a.reference ≡ b.reference = cc in
     let rest : a.values ≡ b.values = cc in
-    let one : a ≡ record { reference = b.reference; values = a.values } = ap (λ r. record { reference = r; values = a.values }) first in
+    let one : a ≡ record { reference = b.reference; values = a.values } =
+    ap (λ r. record { reference = r; values = a.values }) first in
     one ∙ ap (λ vs. record { reference = b.reference; values = vs }) rest
 
 same_documents : (ds es : List Document) → map document ds ≡ map document es → ds ≡ es
@@ -49,13 +50,24 @@ one_job : (d : Data) (j k : Job) → IsJob d j → IsJob d k → j ≡ k
 one_job d j k a b =
     let fields : j.fields ≡ k.fields = same_texts _ _ (same_some _ _ _ a.fields b.fields) in
     let docs : j.docs ≡ k.docs = same_documents _ _ (same_items _ _ (same_some _ _ _ a.docs b.docs)) in
-    let reference_field : j.reference_field ≡ k.reference_field = same_string _ _ (sym a.reference_field ∙ b.reference_field) in
+    let reference_field : j.reference_field ≡ k.reference_field = same_string _ _ (sym a.reference_field
+    ∙ b.reference_field) in
     let save : j.save ≡ k.save = same_boolean _ _ (sym a.save ∙ b.save) in
     let language : j.language ≡ k.language = same_string _ _ (sym a.language ∙ b.language) in
     let pretty : j.pretty ≡ k.pretty = same_boolean _ _ (sym a.pretty ∙ b.pretty) in
     let remove : j.remove ≡ k.remove = same_texts _ _ (sym a.remove ∙ b.remove) in
     let compact : j.compact ≡ k.compact = same_boolean _ _ (sym a.compact ∙ b.compact) in
-    λ i. record { fields = fields i; docs = docs i; reference_field = reference_field i; save = save i; language = language i; pretty = pretty i; remove = remove i; compact = compact i }
+    λ i. record {
+      fields = fields i;
+      docs = docs i;
+      reference_field = reference_field i;
+      save = save i;
+      language =
+          language i;
+      pretty = pretty i;
+      remove = remove i;
+      compact = compact i;
+    }
 
 pub one_input : (bytes : List ℕ) (j k : Job) → HasJob bytes j → HasJob bytes k → j ≡ k
 one_input bytes j k a b =

@@ -21,13 +21,19 @@ OneValue = (plan : Plan) (commands : Commands) (v w : Data) → IsValue plan com
 
 -- a language makes one document of a reference and values
 abbrev pub OneDocument : Type 0
-OneDocument = (fields : List Bytes) (reference_field : Bytes) (language : AnyLanguage) → HasOneDocument (IsDocument fields reference_field (LanguageReads (language_tokens language) (language_leaves language)))
+OneDocument = (fields : List Bytes) (reference_field : Bytes) (language : AnyLanguage)
+    → HasOneDocument (IsDocument fields reference_field
+    (LanguageReads (language_tokens language) (language_leaves language)))
 
-pub one_line : OneValue → OneDocument → (job : Job) (language : AnyLanguage) (t u : Bytes) → IsIndexLine job language t → IsIndexLine job language u → t ≡ u
+pub one_line : OneValue → OneDocument → (job : Job) (language : AnyLanguage) (t u : Bytes) → IsIndexLine job language t
+    → IsIndexLine job language u → t ≡ u
 one_line values documents job language t u a b =
     let one = documents job.fields job.reference_field language in
     let same : a.are_commands.documents ≡ b.are_commands.documents =
-    one_zip (IsAdded job language) (λ doc d e. one doc.reference doc.values d e) job.docs a.are_commands.documents b.are_commands.documents a.are_commands.each b.are_commands.each in
-    let commands : a.commands ≡ b.commands = a.are_commands.whole ∙ (ap (λ ds. followed_by none (in_order job ds)) same ∙ sym b.are_commands.whole) in
-    let value : a.value ≡ b.value = values (job_plan job language) b.commands a.value b.value (subst (λ cs. IsValue (job_plan job language) cs a.value) commands a.is_value) b.is_value in
+    one_zip (IsAdded job language) (λ doc d e. one doc.reference doc.values d e) job.docs a.are_commands.documents
+    b.are_commands.documents a.are_commands.each b.are_commands.each in
+    let commands : a.commands ≡ b.commands = a.are_commands.whole
+    ∙ (ap (λ ds. followed_by none (in_order job ds)) same ∙ sym b.are_commands.whole) in
+    let value : a.value ≡ b.value = values (job_plan job language) b.commands a.value b.value
+    (subst (λ cs. IsValue (job_plan job language) cs a.value) commands a.is_value) b.is_value in
     a.printed ∙ (ap (λ v. line (printed_text job.pretty v)) value ∙ sym b.printed)

@@ -6,43 +6,59 @@ use Rattle.std.proofs.lemmas.Result.{err_from_is_err_and}
 use Rattle.elasticlunr_text.specs.Text.{Bytes}
 use Rattle.elasticlunr_lang.specs.Known.{all_languages, language_name}
 use Rattle.elasticlunr_lang.specs.declared.any.AnyLanguage.{AnyLanguage}
-use Rattle.elasticlunr_lang.specs.declared.any.AnyLanguage.TheVariants.{English, Arabic, Danish, Dutch, Finnish, French, German, Italian, Korean, Norwegian, Portuguese, Romanian, Russian, Spanish, Swedish, Turkish}
+use Rattle.elasticlunr_lang.specs.declared.any.AnyLanguage.TheVariants.{English, Arabic, Danish, Dutch, Finnish, French}
+use Rattle.elasticlunr_lang.specs.declared.any.AnyLanguage.TheVariants.{German, Italian, Korean, Norwegian, Portuguese}
+use Rattle.elasticlunr_lang.specs.declared.any.AnyLanguage.TheVariants.{Romanian, Russian, Spanish, Swedish, Turkish}
 use Rattle.elasticlunr.specs.Fields.{all_differ}
 use Rattle.elasticlunr_job.specs.Answer.{FailsAt, NamesLanguage}
 use Rattle.elasticlunr_job_format.specs.Job.{Job}
 use Rattle.elasticlunr_job_format.specs.declared.outcome.Refusal.{Refusal}
-use Rattle.elasticlunr_job_format.specs.declared.outcome.Stop.{Stop}
+use Rattle.elasticlunr_job_format.specs.declared.outcome.JobError.{JobError}
 use Rattle.elasticlunr_text.specs.IndexError.{IndexError}
 use Rattle.elasticlunr_text.specs.IndexError.TheVariants as index
 use Rattle.elasticlunr_job_format.specs.declared.outcome.Refusal.TheVariants.{TooManyValues}
-use Rattle.elasticlunr_job_format.specs.declared.outcome.Stop.TheVariants.{Memory}
-use Rattle.elasticlunr_job_format.specs.IndexStop.{stop_of}
-use Rattle.elasticlunr_job_format.specs.Stop.{StopsOnlyBy, StopsWithReason}
+use Rattle.elasticlunr_job_format.specs.declared.outcome.JobError.TheVariants.{Memory}
+use Rattle.elasticlunr_job_format.specs.IndexJobError.{job_error_of}
+use Rattle.elasticlunr_job_format.specs.JobError.{StopsOnlyBy, StopsWithReason}
 
 -- the exit of a call that finds too many values, where the index works still
-pub later_too_many : {T : Type 0} (r : Result T Stop) (Fails Later Q : Type 0) (e : IndexError) → IsErrAnd r (λ y. y ≡ stop_of e) → (¬ Fails → ¬ Later) → (e ≡ index.Failed → Later) → (e ≡ index.TooManyValues → Q)
-    → (e ≡ index.Failed) ⊎ ((e ≡ index.TooManyValues) ⊎ (e ≡ index.Memory)) → IfErr r (λ stop. ¬ Fails → StopsOnlyBy TooManyValues Q stop)
+pub later_too_many : {T : Type 0} (r : Result T JobError) (Fails Later Q : Type 0) (e : IndexError)
+    → IsErrAnd r (λ y. y ≡ job_error_of e) → (¬ Fails → ¬ Later) → (e ≡ index.Failed → Later)
+    → (e ≡ index.TooManyValues → Q)
+    → (e ≡ index.Failed) ⊎ ((e ≡ index.TooManyValues) ⊎ (e ≡ index.Memory))
+    → IfErr r (λ stop. ¬ Fails → StopsOnlyBy TooManyValues Q stop)
 later_too_many r Fails Later Q e is still fails many h =
     let p = err_from_is_err_and r is in
-    rw (p.1) (λ works. elim h [ inl f ↦ absurd (still works (fails f)) | inr t ↦ elim t [ inl over ↦ inr (p.2 ∙ ap stop_of over, many over) | inr m ↦ inl (p.2 ∙ ap stop_of m) ] ])
+    rw (p.1) (λ works. elim h [
+      | inl f ↦ absurd (still works (fails f))
+      | inr t ↦
+          elim t [ inl over ↦ inr (p.2 ∙ ap job_error_of over, many over) | inr m ↦ inl (p.2 ∙ ap job_error_of m) ]
+    ])
 
-pub StopsWithReason-by : (reason : Refusal → Type 0) (refusal : Refusal) (P : Type 0) (stop : Stop) → StopsOnlyBy refusal P stop → (P → reason refusal) → StopsWithReason reason stop
+pub StopsWithReason-by : (reason : Refusal → Type 0) (refusal : Refusal) (P : Type 0) (stop : JobError)
+    → StopsOnlyBy refusal P stop → (P → reason refusal) → StopsWithReason reason stop
 StopsWithReason-by reason refusal P stop h f = elim h [ inl m ↦ rw m tt | inr p ↦ rw (p.0) (f p.1) ]
 
 -- the exit of a call that stops for out of memory alone
-pub memory_exit : {T : Type 0} (r : Result T Stop) (reason : Refusal → Type 0) (e : Stop) → IsErrAnd r (λ y. y ≡ e) → e ≡ Memory → IfErr r (StopsWithReason reason)
+pub memory_exit : {T : Type 0} (r : Result T JobError) (reason : Refusal → Type 0) (e : JobError)
+    → IsErrAnd r (λ y. y ≡ e) → e ≡ Memory → IfErr r (StopsWithReason reason)
 memory_exit r reason e is m =
     let p = err_from_is_err_and r is in
     rw (p.1, p.2, m) tt
 
 -- the exit of a call that stops for one refusal
-pub refusal_exit : {T : Type 0} (r : Result T Stop) (reason : Refusal → Type 0) (refusal : Refusal) (P : Type 0) (e : Stop) → IsErrAnd r (λ y. y ≡ e) → StopsOnlyBy refusal P e → (P → reason refusal) → IfErr r (StopsWithReason reason)
+pub refusal_exit : {T : Type 0} (r : Result T JobError) (reason : Refusal → Type 0) (refusal : Refusal) (P : Type 0)
+    (e : JobError) → IsErrAnd r (λ y. y ≡ e) → StopsOnlyBy refusal P e → (P → reason refusal)
+    → IfErr r (StopsWithReason reason)
 refusal_exit r reason refusal P e is h f =
     let p = err_from_is_err_and r is in
     rw (p.1, p.2) (StopsWithReason-by reason refusal P e h f)
 
 -- the exit of the fields, where a name may stand twice
-pub fields_exit : {T : Type 0} (r : Result T Stop) (job : Job) (e : IndexError) → IsErrAnd r (λ y. y ≡ stop_of e) → NamesLanguage job.language → (e ≡ index.DuplicateField → all_differ job.fields ≡ false) → (e ≡ index.DuplicateField) ⊎ (e ≡ index.Memory) → IfErr r (StopsWithReason (FailsAt job))
+pub fields_exit : {T : Type 0} (r : Result T JobError) (job : Job) (e : IndexError)
+    → IsErrAnd r (λ y. y ≡ job_error_of e) → NamesLanguage job.language
+    → (e ≡ index.DuplicateField → all_differ job.fields ≡ false) → (e ≡ index.DuplicateField) ⊎ (e ≡ index.Memory)
+    → IfErr r (StopsWithReason (FailsAt job))
 fields_exit r job e is named twice h =
     let p = err_from_is_err_and r is in
     rw (p.1, p.2) (elim h [ inl d ↦ rw d (named, twice d) | inr m ↦ rw m tt ])
@@ -77,7 +93,8 @@ pub ok_always : {T E : Type 0} (r : Result T E) {F : Type 0} → F → OnOk r F
 ok_always (Ok x) f = f
 ok_always (Err e) f = tt
 
-pub ok_both : {T E : Type 0} (r : Result T E) (F : Type 0) (P Q : T → Type 0) → ((x : T) → F → P x → Q x) → OnOk r F → IfOk r P → IfOk r Q
+pub ok_both : {T E : Type 0} (r : Result T E) (F : Type 0) (P Q : T → Type 0) → ((x : T) → F → P x → Q x) → OnOk r F
+    → IfOk r P → IfOk r Q
 ok_both (Ok x) F P Q f fits h = f x fits h
 ok_both (Err e) F P Q f fits h = h
 

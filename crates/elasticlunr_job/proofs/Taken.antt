@@ -1,5 +1,6 @@
 -- What was done to an index for a job.
--- `made` relates a reference and values to the document that the index makes of them; `old` and `new` are what it stood for before, and what it represents now.
+-- `made` relates a reference and values to the document that the index makes of them; `old` and `new` are what it stood
+-- for before, and what it represents now.
 use Rattle.std.proofs.Common.{List, map}
 use Rattle.std.specs.List.{AllZip}
 use Rattle.elasticlunr_text.specs.Text.{Bytes}

@@ -1,5 +1,6 @@
 -- The answer to an input: the outcome, and what is written.
-use Rattle.std.specs.Prelude.{◌≡◌, ◌<◌, ◌≤◌, List, [], ◌∷◌, ◌++◌, Bool, length, All, Any, codes, Some, None, true, false, if◌then◌else◌}
+use Rattle.std.specs.Prelude.{◌≡◌, ◌<◌, ◌≤◌, List, [], ◌∷◌, ◌++◌, Bool, length, All, Any, codes}
+use Rattle.std.specs.Prelude.{Some, None, true, false, if◌then◌else◌}
 use Rattle.serde_json.specs.Data.{Data}
 use Rattle.serde_json.specs.Written.{compact_text}
 use Rattle.elasticlunr_text.specs.Text.{Bytes}
@@ -14,7 +15,10 @@ use Rattle.elasticlunr_job_format.specs.Reading.{reading}
 use Rattle.elasticlunr_job.specs.declared.outcome.Outcome.{Outcome}
 use Rattle.elasticlunr_job.specs.declared.outcome.Outcome.TheVariants.{Printed, Refused}
 use Rattle.elasticlunr_job_format.specs.declared.outcome.Refusal.{Refusal}
-use Rattle.elasticlunr_job_format.specs.declared.outcome.Refusal.TheVariants.{NotJson, NotAJob, UnknownLanguage, DuplicateField, TooManyValues}
+use Rattle.elasticlunr_job_format.specs.declared.outcome.Refusal.TheVariants.{NotJson, NotAJob}
+use Rattle.elasticlunr_job_format.specs.declared.outcome.Refusal.TheVariants.{UnknownLanguage}
+use Rattle.elasticlunr_job_format.specs.declared.outcome.Refusal.TheVariants.{DuplicateField}
+use Rattle.elasticlunr_job_format.specs.declared.outcome.Refusal.TheVariants.{TooManyValues}
 
 -- the bytes are JSON, and that is this job
 abbrev pub HasJob : Bytes → Job → Type 0
@@ -33,7 +37,8 @@ FailsAt job NotJson = ⊥
 FailsAt job NotAJob = ⊥
 FailsAt job UnknownLanguage = ¬ NamesLanguage job.language
 FailsAt job DuplicateField = NamesLanguage job.language × (all_differ job.fields ≡ false)
-FailsAt job TooManyValues = NamesLanguage job.language × (all_differ job.fields ≡ true) × Any (HasTooMany job.fields) job.docs
+FailsAt job TooManyValues = NamesLanguage job.language × (all_differ job.fields ≡ true)
+    × Any (HasTooMany job.fields) job.docs
 
 -- the job passes all checks, and its language is this one
 pub record Passes (job : Job) (language : AnyLanguage) : Type 0 where
@@ -76,4 +81,5 @@ IsLineOf job text = (language : AnyLanguage) × Passes job language × IsIndexLi
 -- to the input the answer is this outcome, and this is written
 abbrev pub IsAnswer : Bytes → Outcome → Bytes → Type 0
 IsAnswer bytes Printed text = (job : Job) × HasJob bytes job × IsLineOf job text
-IsAnswer bytes (Refused refusal) text = IsRefused bytes refusal × (text ≡ line (refusal_text refusal))
+IsAnswer bytes (Refused refusal) text = IsRefused bytes refusal
+    × (text ≡ line (refusal_text refusal))

@@ -27,14 +27,18 @@ job_plan job language = record {
 abbrev pub language_tokens : AnyLanguage → Text → List Text
 language_tokens language = words
 
--- the document that is added for one of the job: its tokens are those that the language reads of the values
+-- the document that is added for one of the job: its tokens are those that the language reads of
+-- the values
 abbrev pub IsAdded : Job → AnyLanguage → asked.Document → Document → Type 0
-IsAdded job language doc document = IsDocument job.fields job.reference_field (LanguageReads (language_tokens language) (language_leaves language)) doc.reference doc.values document
+IsAdded job language doc document = IsDocument job.fields job.reference_field
+    (LanguageReads (language_tokens language) (language_leaves language)) doc.reference doc.values
+    document
 
 abbrev pub compacted : Bool → List Command
 compacted wanted = if wanted then compact ∷ [] else []
 
--- the documents are added, then the references removed, then the index is compacted if the job asks for it
+-- the documents are added, then the references removed, then the index is compacted if the job asks
+-- for it
 abbrev pub in_order : Job → List Document → List Command
 in_order job documents = map add documents ++ map remove job.remove ++ compacted job.compact
 

@@ -14,7 +14,9 @@ abbrev pub Fits : List Bytes → List asked.Document → Type 0
 Fits fields docs = All (λ doc. length doc.values ≤ length fields) docs
 
 -- an index of this plan is the job's in this language, and nothing was done to it yet
-pub record IsBuiltFor (job : Job) (language : AnyLanguage) (plan : Plan) (made : Bytes → List Bytes → Document → Type 0) (stands : Commands → Type 0) : Type 0 where
+pub record IsBuiltFor (job : Job) (language : AnyLanguage) (plan : Plan) (made : Bytes → List Bytes
+    → Document → Type 0) (stands : Commands → Type 0) : Type 0 where
   pub its_plan : plan ≡ job_plan job language
-  pub adds : (doc : asked.Document) (document : Document) → made doc.reference doc.values document → IsAdded job language doc document
+  pub adds : (doc : asked.Document) (document : Document) → made doc.reference doc.values document
+      → IsAdded job language doc document
   pub empty : stands none

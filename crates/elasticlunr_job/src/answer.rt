@@ -1,20 +1,24 @@
 //! What is written for an input.
 
-ghost use Rattle.std.specs.Prelude.{◌≡◌, ◌↔◌, ◌⊎◌, Any, Err, Some, string_bytes, IfOk, IfErr, IsErr, OnOk};
+ghost use Rattle.std.specs.Prelude.{◌≡◌, ◌↔◌, ◌⊎◌, Any, Err, Some, string_bytes, IfOk, IfErr};
+ghost use Rattle.std.specs.Prelude.{IsErr, OnOk};
 ghost use Rattle.elasticlunr.specs.History.{Commands};
 ghost use Rattle.elasticlunr.specs.Index.{fields_of, plan_of, IsDocument, IsFailed, StandsFor};
 ghost use Rattle.elasticlunr.specs.Printed.{IsTextAfter};
 ghost use Rattle.elasticlunr_lang.specs.Known.{language_name};
 ghost use Rattle.elasticlunr_text.specs.Text.{Bytes};
-ghost use Rattle.elasticlunr_job.specs.Answer.{FailsAt, HasTooMany, IsIndexLine, IsLineOf, IsRefused, IsAnswer, line, printed_text, refusal_text};
+ghost use Rattle.elasticlunr_job.specs.Answer.{FailsAt, HasTooMany, IsIndexLine, IsLineOf};
+ghost use Rattle.elasticlunr_job.specs.Answer.{IsRefused, IsAnswer, line, printed_text};
+ghost use Rattle.elasticlunr_job.specs.Answer.{refusal_text};
 ghost use Rattle.elasticlunr_job.specs.Commands.{language_tokens};
 ghost use Rattle.elasticlunr_job.specs.Filled.{Fits, IsBuiltFor};
 ghost use Rattle.elasticlunr_job_format.specs.JobTold.{job_told};
-ghost use Rattle.elasticlunr_job_format.specs.Stop.{StopsOnlyBy, StopsWithReason};
+ghost use Rattle.elasticlunr_job_format.specs.JobError.{StopsOnlyBy, StopsWithReason};
 ghost use Rattle.elasticlunr_job.specs.declared.outcome.Outcome.TheVariants.{Printed};
-ghost use Rattle.elasticlunr_job_format.specs.declared.outcome.Refusal.TheVariants.{TooManyValues, NotJson};
+ghost use Rattle.elasticlunr_job_format.specs.declared.outcome.Refusal.TheVariants.{TooManyValues};
+ghost use Rattle.elasticlunr_job_format.specs.declared.outcome.Refusal.TheVariants.{NotJson};
 
-use crate::outcome::{Outcome, Refusal, Stop};
+use crate::outcome::{JobError, Outcome, Refusal};
 use elasticlunr::lang::{AnyLanguage, from_name};
 use elasticlunr::laws::calls::an_index_makes_what_its_language_makes;
 use elasticlunr::{Index, IndexBuilder, IndexError};
@@ -39,14 +43,15 @@ fn text_of(index: &Index<AnyLanguage>, pretty: bool) -> Result<String, IndexErro
 }
 
 /// The text of an index, and a line feed.
-pub fn line_of(index: &Index<AnyLanguage>, pretty: bool) -> Result<String, Stop>
+pub fn line_of(index: &Index<AnyLanguage>, pretty: bool) -> Result<String, JobError>
     ensures ok { IfOk result (λ line_text. (commands : Commands)
         → StandsFor language_name name_text index.now commands
         → (text : Bytes)
-        × IsTextAfter (printed_text pretty) (plan_of language_name name_text index.now) commands text
+        × IsTextAfter (printed_text pretty) (plan_of language_name name_text index.now) commands
+        text
         × (string_bytes line_text ≡ line text)) }
     ensures failed { IsFailed index.now → IsErr result }
-    ensures err { IfErr result (λ stop. stop ≡ Stop.Memory) }
+    ensures err { IfErr result (λ stop. stop ≡ JobError.Memory) }
 {
     let mut text = text_of(index, pretty)?;
     text.push('\n')?;
@@ -54,14 +59,15 @@ pub fn line_of(index: &Index<AnyLanguage>, pretty: bool) -> Result<String, Stop>
 }
 
 /// Does to a new index all that the job commands: its text then, and a line feed.
-fn fill_and_print(mut index: Index<AnyLanguage>, job: &Job<'_>) -> Result<String, Stop>
+fn fill_and_print(mut index: Index<AnyLanguage>, job: &Job<'_>) -> Result<String, JobError>
     ensures fits { OnOk result (Fits (fields_of index) (job_told job.now).docs) }
     ensures ok { IfOk result (λ text. (language : AnyLanguage)
         → IsBuiltFor (job_told job.now) language (plan_of language_name name_text index)
         (IsDocument language_tokens leaves index) (StandsFor language_name name_text index)
         → IsIndexLine (job_told job.now) language (string_bytes text)) }
     ensures err { IfErr result (λ stop. ¬ IsFailed index
-        → StopsOnlyBy TooManyValues (Any (HasTooMany (fields_of index)) (job_told job.now).docs) stop) }
+        → StopsOnlyBy TooManyValues (Any (HasTooMany (fields_of index)) (job_told job.now).docs)
+        stop) }
 {
     for doc in &job.docs {
         index.add_doc(doc.reference, &doc.values)?;
@@ -76,12 +82,12 @@ fn fill_and_print(mut index: Index<AnyLanguage>, job: &Job<'_>) -> Result<String
 }
 
 /// The text of a job's index, and a line feed. Its texts are not copied, but into the index.
-pub fn job_line(alloc: Global, job: &Job<'_>) -> Result<String, Stop>
+pub fn job_line(alloc: Global, job: &Job<'_>) -> Result<String, JobError>
     ensures ok { IfOk result (λ text. IsLineOf (job_told job.now) (string_bytes text)) }
     ensures err { IfErr result (StopsWithReason (FailsAt (job_told job.now))) }
 {
     let Some(language) = from_name(job.language) else {
-        return Err(Stop::Refused(Refusal::UnknownLanguage));
+        return Err(JobError::Refused(Refusal::UnknownLanguage));
     };
     let index = IndexBuilder::with_language(alloc, language)?
         .save_docs(job.save)
@@ -93,7 +99,7 @@ pub fn job_line(alloc: Global, job: &Job<'_>) -> Result<String, Stop>
 }
 
 /// The text of the index that the input asks for, and a line feed.
-fn index_line(alloc: Global, bytes: Vec<u8>) -> Result<String, Stop>
+fn index_line(alloc: Global, bytes: Vec<u8>) -> Result<String, JobError>
     ensures ok { IfOk result (λ text. IsAnswer bytes.items Printed (string_bytes text)) }
     ensures err { IfErr result (StopsWithReason (IsRefused bytes.items)) }
 {
@@ -124,10 +130,10 @@ pub fn answer(alloc: Global, bytes: Vec<u8>) -> Result<(Outcome, String), AllocE
 {
     match index_line(alloc, bytes) {
         Ok(text) => Ok((Outcome::Printed, text)),
-        Err(Stop::Refused(refusal)) => {
+        Err(JobError::Refused(refusal)) => {
             let text = String::from_str(alloc, refusal_line(refusal))?;
             Ok((Outcome::Refused(refusal), text))
         }
-        Err(Stop::Memory) => Err(AllocError),
+        Err(JobError::Memory) => Err(AllocError),
     }
 }

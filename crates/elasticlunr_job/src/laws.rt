@@ -30,9 +30,12 @@ pub fn one_answer()
 
 /// What a job commands are its calls, and its language read the documents.
 pub fn documents_of_a_job_are_read()
-    ensures calls { (job : Job) (language : AnyLanguage) (commands : Commands) → AreCommandsOf job language commands
-        → calls.AreCommandsOf (IsKeptDocument language job.fields job.reference_field) (job_calls job) commands }
-    ensures read { (job : Job) (language : AnyLanguage) (commands : Commands) → AreCommandsOf job language commands
+    ensures calls { (job : Job) (language : AnyLanguage) (commands : Commands)
+        → AreCommandsOf job language commands
+        → calls.AreCommandsOf (IsKeptDocument language job.fields job.reference_field)
+        (job_calls job) commands }
+    ensures read { (job : Job) (language : AnyLanguage) (commands : Commands)
+        → AreCommandsOf job language commands
         → AreRead (KeptReads language) job.fields job.reference_field commands }
 {
     documents_of_calls_are_read::<lang::AnyLanguage>();

@@ -14,7 +14,8 @@ use elasticlunr_device::outcome::RunError;
 use std::alloc::Global;
 
 /// Reads a job to the end of the reader, and writes its index, or why it was refused, and a line
-/// feed. Nothing is written before the whole text is there. The reader and the writer must not have
+/// feed. Nothing is written before the whole text is there. The reader and the writer must not
+/// have
 /// failed yet.
 pub fn run<S: Source, K: Sink>(
     alloc: Global,
@@ -28,7 +29,8 @@ pub fn run<S: Source, K: Sink>(
     ensures ok { IfOk result (λ outcome. (text : List ℕ)
         × IsAnswerTo (S.left reader.old) (S.left reader.new) outcome text
         × Appends (K.taken writer.old) (K.taken writer.new) text) }
-    ensures ok_unmarked { OnOk result ((S.has_failed reader.new ≡ false) × (K.has_failed writer.new ≡ false)) }
+    ensures ok_unmarked { OnOk result ((S.has_failed reader.new ≡ false)
+        × (K.has_failed writer.new ≡ false)) }
 
     // Where a write failed, a beginning of the answer to all that the reader had was written.
     ensures writer_fault { K.has_failed writer.new ≡ true → (S.has_failed reader.new ≡ false)
@@ -37,12 +39,14 @@ pub fn run<S: Source, K: Sink>(
         × AppendsBeginning (K.taken writer.old) (K.taken writer.new) text) }
 
     // Where a read failed, nothing was written.
-    ensures reader_fault { S.has_failed reader.new ≡ true → Keeps (K.taken writer.old) (K.taken writer.new) }
+    ensures reader_fault { S.has_failed reader.new ≡ true
+        → Keeps (K.taken writer.old) (K.taken writer.new) }
     ensures device { IsErrOf result RunError.Device
         → (S.has_failed reader.new ≡ true) ⊎ (K.has_failed writer.new ≡ true) }
 
     // Memory ran out before anything was written.
-    ensures memory { IsErrOf result RunError.Memory → Keeps (K.taken writer.old) (K.taken writer.new) }
+    ensures memory { IsErrOf result RunError.Memory
+        → Keeps (K.taken writer.old) (K.taken writer.new) }
     ensures memory_unmarked { IsErrOf result RunError.Memory
         → (S.has_failed reader.new ≡ false) × (K.has_failed writer.new ≡ false) }
 {

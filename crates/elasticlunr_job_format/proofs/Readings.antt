@@ -9,7 +9,8 @@ use Rattle.elasticlunr_job_format.specs.Reading.{reading}
 pub reading_some : (bytes : List ℕ) (d : Data) → IsUtf8 bytes → read bytes ≡ Some d → reading bytes ≡ Some d
 reading_some bytes d text is = rw (is_utf8-from_IsUtf8 bytes text) is
 
-none_at : (b : Bool) (bytes : List ℕ) → is_utf8 bytes ≡ b → (IsUtf8 bytes → read bytes ≡ None) → (if b then read bytes else None) ≡ None
+none_at : (b : Bool) (bytes : List ℕ) → is_utf8 bytes ≡ b → (IsUtf8 bytes → read bytes ≡ None)
+    → (if b then read bytes else None) ≡ None
 none_at true bytes is none = none (IsUtf8-from_is_utf8 bytes is)
 none_at false bytes is none = refl
 

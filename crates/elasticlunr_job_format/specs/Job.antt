@@ -1,5 +1,6 @@
 -- What a job is: an object with these members and no others.
-use Rattle.std.specs.Prelude.{◌≡◌, List, [], ◌∷◌, Bool, true, false, map, codes, Some, unwrap_or, IsSome, Contains}
+use Rattle.std.specs.Prelude.{◌≡◌, List, [], ◌∷◌, Bool, true, false, map, codes, Some, unwrap_or}
+use Rattle.std.specs.Prelude.{IsSome, Contains}
 use Rattle.serde_json.specs.Data.{Data, boolean, string, array}
 use Rattle.serde_json.specs.Find.{get}
 use Rattle.serde_json.specs.View.{items_of}
@@ -33,7 +34,8 @@ abbrev pub get_or : Bytes → Data → Data → Data
 get_or key d absent = unwrap_or (get key d) absent
 
 abbrev pub job_keys : List Bytes
-job_keys = codes "fields" ∷ codes "docs" ∷ codes "ref" ∷ codes "save" ∷ codes "lang" ∷ codes "pretty" ∷ codes "remove" ∷ codes "compact" ∷ []
+job_keys = codes "fields" ∷ codes "docs" ∷ codes "ref" ∷ codes "save" ∷ codes "lang"
+    ∷ codes "pretty" ∷ codes "remove" ∷ codes "compact" ∷ []
 
 -- each key of the object is one of these
 abbrev pub HasOnly : List Bytes → Data → Type 0

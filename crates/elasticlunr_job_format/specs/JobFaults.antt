@@ -1,5 +1,6 @@
 -- What keeps a value from being a job.
-use Rattle.std.specs.Prelude.{◌≡◌, ◌+◌, ◌≤◌, ⊤, ℕ, List, take, slice_get, map, Some, None, IsSome, Contains}
+use Rattle.std.specs.Prelude.{◌≡◌, ◌+◌, ◌≤◌, ⊤, ℕ, List, take, slice_get, map, Some, None, IsSome}
+use Rattle.std.specs.Prelude.{Contains}
 use Rattle.serde_json.specs.Data.{Data, string, no_items}
 use Rattle.serde_json.specs.Find.{as_array, as_bool, as_object, as_str, get}
 use Rattle.serde_json.specs.View.{items_of}
@@ -11,13 +12,16 @@ use Rattle.elasticlunr_job_format.specs.Kinds.{kind_of}
 use Rattle.elasticlunr_job_format.specs.declared.fault.DocumentFault.{DocumentFault}
 use Rattle.elasticlunr_job_format.specs.declared.fault.DocumentFault.TheVariants as doc
 use Rattle.elasticlunr_job_format.specs.declared.fault.Fault.{Fault}
-use Rattle.elasticlunr_job_format.specs.declared.fault.Fault.TheVariants.{NotAnObject, UnknownKey, Member, Missing}
+use Rattle.elasticlunr_job_format.specs.declared.fault.Fault.TheVariants.{NotAnObject, UnknownKey}
+use Rattle.elasticlunr_job_format.specs.declared.fault.Fault.TheVariants.{Member, Missing}
 use Rattle.elasticlunr_job_format.specs.declared.fault.MemberFault.{MemberFault}
-use Rattle.elasticlunr_job_format.specs.declared.fault.MemberFault.TheVariants.{Other, Item, Document}
+use Rattle.elasticlunr_job_format.specs.declared.fault.MemberFault.TheVariants.{Other, Item}
+use Rattle.elasticlunr_job_format.specs.declared.fault.MemberFault.TheVariants.{Document}
 use Rattle.elasticlunr_job_format.specs.declared.key.Key.{Key}
 use Rattle.elasticlunr_job_format.specs.declared.key.Key.TheVariants.{Fields, Docs}
 use Rattle.elasticlunr_job_format.specs.declared.key.Wanted.{Wanted}
-use Rattle.elasticlunr_job_format.specs.declared.key.Wanted.TheVariants.{Text, Truth, Texts, Documents}
+use Rattle.elasticlunr_job_format.specs.declared.key.Wanted.TheVariants.{Text, Truth, Texts}
+use Rattle.elasticlunr_job_format.specs.declared.key.Wanted.TheVariants.{Documents}
 use Rattle.elasticlunr_job_format.specs.declared.kind.Kind.{Kind}
 
 -- the first item that is no text has this number, from 0, and is of this kind
@@ -29,11 +33,13 @@ pub record IsFirstNoText (items : List Data) (i : ℕ) (found : Kind) : Type 0 w
   pub no_text : as_str item ≡ None
   pub kind : found ≡ kind_of item
 
--- what keeps a value from being a document: it is no array, it is empty, or it has an item that is no text
+-- what keeps a value from being a document: it is no array, it is empty, or it has an item that is
+-- no text
 abbrev pub HasDocumentFault : Data → DocumentFault → Type 0
 HasDocumentFault d (doc.NotAList found) = (as_array d ≡ None) × (found ≡ kind_of d)
 HasDocumentFault d doc.Empty = as_array d ≡ Some no_items
-HasDocumentFault d (doc.Item i found) = (items : List Data) × (as_array d ≡ Some (items_of items)) × IsFirstNoText items i found
+HasDocumentFault d (doc.Item i found) = (items : List Data) × (as_array d ≡ Some (items_of items))
+    × IsFirstNoText items i found
 
 -- the first item that is no document has this number, from 0, and this fault
 pub record IsFirstNoDocument (items : List Data) (i : ℕ) (fault : DocumentFault) : Type 0 where
@@ -43,14 +49,17 @@ pub record IsFirstNoDocument (items : List Data) (i : ℕ) (fault : DocumentFaul
   pub there : slice_get items i ≡ Some item
   pub has : HasDocumentFault item fault
 
--- what keeps a value from being what is wanted: it is of another kind, or it has an item that is no text, or no document
+-- what keeps a value from being what is wanted: it is of another kind, or it has an item that is no
+-- text, or no document
 abbrev pub HasMemberFault : Wanted → Data → MemberFault → Type 0
 HasMemberFault Text d (Other found) = (as_str d ≡ None) × (found ≡ kind_of d)
 HasMemberFault Truth d (Other found) = (as_bool d ≡ None) × (found ≡ kind_of d)
 HasMemberFault Texts d (Other found) = (as_array d ≡ None) × (found ≡ kind_of d)
 HasMemberFault Documents d (Other found) = (as_array d ≡ None) × (found ≡ kind_of d)
-HasMemberFault Texts d (Item i found) = (items : List Data) × (as_array d ≡ Some (items_of items)) × IsFirstNoText items i found
-HasMemberFault Documents d (Document i fault) = (items : List Data) × (as_array d ≡ Some (items_of items)) × IsFirstNoDocument items i fault
+HasMemberFault Texts d (Item i found) = (items : List Data) × (as_array d ≡ Some (items_of items))
+    × IsFirstNoText items i found
+HasMemberFault Documents d (Document i fault) = (items : List Data)
+    × (as_array d ≡ Some (items_of items)) × IsFirstNoDocument items i fault
 HasMemberFault wanted d _ = ⊥
 
 -- a job has a member under this key
@@ -59,11 +68,13 @@ IsNeeded Fields = ⊤
 IsNeeded Docs = ⊤
 IsNeeded _ = ⊥
 
--- what keeps a value from being a job: it is no object, it has a key that is none of a job, a member with a fault, or a member is missing
+-- what keeps a value from being a job: it is no object, it has a key that is none of a job, a
+-- member with a fault, or a member is missing
 abbrev pub HasFault : Data → Fault → Type 0
 HasFault d (NotAnObject found) = (as_object d ≡ None) × (found ≡ kind_of d)
 HasFault d (UnknownKey key) = IsSome (get key.now d) × (¬ Contains job_keys key.now)
-HasFault d (Member key fault) = (member : Data) × (get (key_name key) d ≡ Some member) × HasMemberFault (wanted_under key) member fault
+HasFault d (Member key fault) = (member : Data) × (get (key_name key) d ≡ Some member)
+    × HasMemberFault (wanted_under key) member fault
 HasFault d (Missing key) = IsNeeded key × IsSome (as_object d) × (get (key_name key) d ≡ None)
 
 -- when a fault is looked for: keys, members in their order, members that are missing

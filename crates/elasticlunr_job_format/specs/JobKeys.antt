@@ -6,9 +6,11 @@ use Rattle.elasticlunr_error.specs.Text.{Bytes}
 use Rattle.elasticlunr_job_format.specs.Job as spec
 use Rattle.elasticlunr_job_format.specs.Job.{texts, document}
 use Rattle.elasticlunr_job_format.specs.declared.key.Key.{Key}
-use Rattle.elasticlunr_job_format.specs.declared.key.Key.TheVariants.{Fields, Docs, Ref, Save, Lang, Pretty, Remove, Compact}
+use Rattle.elasticlunr_job_format.specs.declared.key.Key.TheVariants.{Fields, Docs, Ref, Save, Lang}
+use Rattle.elasticlunr_job_format.specs.declared.key.Key.TheVariants.{Pretty, Remove, Compact}
 use Rattle.elasticlunr_job_format.specs.declared.key.Wanted.{Wanted}
-use Rattle.elasticlunr_job_format.specs.declared.key.Wanted.TheVariants.{Text, Truth, Texts, Documents}
+use Rattle.elasticlunr_job_format.specs.declared.key.Wanted.TheVariants.{Text, Truth, Texts}
+use Rattle.elasticlunr_job_format.specs.declared.key.Wanted.TheVariants.{Documents}
 
 abbrev pub key_name : Key → Bytes
 key_name Fields = codes "fields"

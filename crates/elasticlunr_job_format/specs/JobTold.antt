@@ -5,7 +5,11 @@ use Rattle.elasticlunr_job_format.specs.declared.job.Document.{Document}
 use Rattle.elasticlunr_job_format.specs.declared.job.Job.{Job}
 
 abbrev pub document_told : Document → spec.Document
-document_told doc = record { reference = doc.reference.now; values = map (λ s. s.now) doc.values.items }
+document_told doc = record {
+  reference = doc.reference.now;
+  values = map (λ s. s.now)
+      doc.values.items;
+}
 
 abbrev pub job_told : Job → spec.Job
 job_told job = record {

@@ -1,9 +1,9 @@
 pub mod Job
 pub mod JobTold
 pub mod Reading
-pub mod Stop
+pub mod JobError
 pub mod Keys
-pub mod IndexStop
+pub mod IndexJobError
 pub mod Kinds
 pub mod JobKeys
 pub mod JobFaults

@@ -1,5 +1,6 @@
 -- A line as it is read.
-use Rattle.std.specs.Prelude.{◌≡◌, ◌≢◌, ◌==◌, ◌⊎◌, ◌++◌, ◌∷◌, ℕ, [], All, Option, IfSome, count_by, true}
+use Rattle.std.specs.Prelude.{◌≡◌, ◌≢◌, ◌==◌, ◌⊎◌, ◌++◌, ◌∷◌, ℕ, [], All, Option, IfSome, count_by}
+use Rattle.std.specs.Prelude.{true}
 use Rattle.elasticlunr_error.specs.Text.{Bytes}
 use Rattle.elasticlunr_job_format.specs.Lines.{is_filled}
 
@@ -25,9 +26,11 @@ EndsLine rest = (rest ≡ []) ⊎ ((more : Bytes) × (rest ≡ 10 ∷ more))
 
 -- where the bytes that were left are known, they begin with this line, to its end, after these
 abbrev pub Begins : Option Bytes → (before line : Bytes) → Type 0
-Begins known before line = IfSome known (λ bytes. (rest : Bytes) × EndsLine rest × (bytes ≡ before ++ (line ++ rest)))
+Begins known before line = IfSome known (λ bytes. (rest : Bytes) × EndsLine rest
+    × (bytes ≡ before ++ (line ++ rest)))
 
--- of what was left these lines were read, which have so many line feeds, and then a line that is not blank, but for its line feed
+-- of what was left these lines were read, which have so many line feeds, and then a line that is
+-- not blank, but for its line feed
 pub record IsLineAfter (known : Option Bytes) (before line : Bytes) (feeds : ℕ) : Type 0 where
   pub begins : Begins known before line
   pub whole : AreWhole before

@@ -1,5 +1,6 @@
 -- The lines of a text, and what they are read as.
-use Rattle.std.specs.Prelude.{◌≡◌, ◌==◌, ◌||◌, ℕ, Bool, true, false, List, Option, Some, map, filter, if◌then◌else◌}
+use Rattle.std.specs.Prelude.{◌≡◌, ◌==◌, ◌||◌, ℕ, Bool, true, false, List, Option, Some, map}
+use Rattle.std.specs.Prelude.{filter, if◌then◌else◌}
 use Rattle.std.specs.List.{list_all, slice_split}
 use Rattle.serde_json.specs.Data.{Data}
 use Rattle.elasticlunr_error.specs.Text.{Bytes}

@@ -1,5 +1,7 @@
--- Documents as JSON objects: the documents of a job that they are, and what is wrong with one that is none.
-use Rattle.std.specs.Prelude.{◌≡◌, ◌+◌, ℕ, List, [], Bool, take, slice_get, Option, Some, None, IsSome}
+-- Documents as JSON objects: the documents of a job that they are, and what is wrong with one that
+-- is none.
+use Rattle.std.specs.Prelude.{◌≡◌, ◌+◌, ℕ, List, [], Bool, take, slice_get, Option, Some, None}
+use Rattle.std.specs.Prelude.{IsSome}
 use Rattle.std.specs.Fmt.{decimal}
 use Rattle.std.specs.List.{AllZip}
 use Rattle.serde_json.specs.Data.{Data, number, string, unsigned}
@@ -8,8 +10,12 @@ use Rattle.elasticlunr_error.specs.Text.{Bytes}
 use Rattle.elasticlunr_job_format.specs.Job.{Document, get_or}
 use Rattle.elasticlunr_job_format.specs.Kinds.{kind_of}
 use Rattle.elasticlunr_job_format.specs.declared.kind.Kind.{Kind}
-use Rattle.elasticlunr_job_format.specs.declared.objects.Problem.{Problem}
-use Rattle.elasticlunr_job_format.specs.declared.objects.Problem.TheVariants.{NotJson, NotAnObject, NoReference, NotAReference, NotAText}
+use Rattle.elasticlunr_job_format.specs.declared.objects.ObjectFault.{ObjectFault}
+use Rattle.elasticlunr_job_format.specs.declared.objects.ObjectFault.TheVariants.{NotJson}
+use Rattle.elasticlunr_job_format.specs.declared.objects.ObjectFault.TheVariants.{NotAnObject}
+use Rattle.elasticlunr_job_format.specs.declared.objects.ObjectFault.TheVariants.{NoReference}
+use Rattle.elasticlunr_job_format.specs.declared.objects.ObjectFault.TheVariants.{NotAReference}
+use Rattle.elasticlunr_job_format.specs.declared.objects.ObjectFault.TheVariants.{NotAText}
 
 -- how documents are read of objects, and what is made of them
 pub record Options : Type 0 where
@@ -33,10 +39,12 @@ HasText d field text = get_or field d (string []) ≡ string text
 abbrev pub HasTexts : Data → List Bytes → List Bytes → Type 0
 HasTexts d fields texts = AllZip (HasText d) fields texts
 
--- the value is this document: an object with a reference under its key, and with the text of each field, in order
+-- the value is this document: an object with a reference under its key, and with the text of each
+-- field, in order
 pub record IsDocumentOf (options : Options) (d : Data) (doc : Document) : Type 0 where
   pub is_object : IsSome (as_object d)
-  pub reference : (member : Data) × (get options.reference_key d ≡ Some member) × (reference_of member ≡ Some doc.reference)
+  pub reference : (member : Data) × (get options.reference_key d ≡ Some member)
+      × (reference_of member ≡ Some doc.reference)
   pub values : HasTexts d options.fields doc.values
 
 -- the values are these documents, in order
@@ -45,7 +53,8 @@ AreDocumentsOf options items docs = AllZip (IsDocumentOf options) items docs
 
 -- there is a member under the key, and it is no text
 abbrev pub HasNoText : Data → Bytes → Kind → Type 0
-HasNoText d field found = (member : Data) × (get field d ≡ Some member) × (as_str member ≡ None) × (found ≡ kind_of member)
+HasNoText d field found = (member : Data) × (get field d ≡ Some member) × (as_str member ≡ None)
+    × (found ≡ kind_of member)
 
 -- the first field whose member is no text
 pub record IsFirstWithoutText (d : Data) (fields : List Bytes) (i : ℕ) (found : Kind) : Type 0 where
@@ -56,15 +65,20 @@ pub record IsFirstWithoutText (d : Data) (fields : List Bytes) (i : ℕ) (found 
   pub no_text : HasNoText d field found
 
 -- the check that the value fails first: it is an object, it has a reference, each field has a text
-abbrev pub HasProblem : Options → Data → Problem → Type 0
+abbrev pub HasProblem : Options → Data → ObjectFault → Type 0
 HasProblem options d NotJson = ⊥
 HasProblem options d (NotAnObject found) = (as_object d ≡ None) × (found ≡ kind_of d)
 HasProblem options d NoReference = IsSome (as_object d) × (get options.reference_key d ≡ None)
-HasProblem options d (NotAReference found) = (member : Data) × (get options.reference_key d ≡ Some member) × (reference_of member ≡ None) × (found ≡ kind_of member)
-HasProblem options d (NotAText i found) = (member : Data) × (reference : Bytes) × (get options.reference_key d ≡ Some member) × (reference_of member ≡ Some reference) × IsFirstWithoutText d options.fields i found
+HasProblem options d (NotAReference found) = (member : Data)
+    × (get options.reference_key d ≡ Some member) × (reference_of member ≡ None)
+    × (found ≡ kind_of member)
+HasProblem options d (NotAText i found) = (member : Data) × (reference : Bytes)
+    × (get options.reference_key d ≡ Some member) × (reference_of member ≡ Some reference)
+    × IsFirstWithoutText d options.fields i found
 
 -- the first value, by its number from 1, that is no document, and the check that it fails first
-pub record IsFirstProblem (options : Options) (items : List Data) (place : ℕ) (problem : Problem) : Type 0 where
+pub record IsFirstProblem (options : Options) (items : List Data) (place : ℕ)
+    (problem : ObjectFault) : Type 0 where
   pub i : ℕ
   pub item : Data
   pub before : List Document

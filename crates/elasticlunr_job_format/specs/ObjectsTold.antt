@@ -10,8 +10,8 @@ use Rattle.elasticlunr_job_format.specs.declared.objects.AddError.{AddError}
 use Rattle.elasticlunr_job_format.specs.declared.objects.AddError.TheVariants as add
 use Rattle.elasticlunr_job_format.specs.declared.objects.Object.{Object}
 use Rattle.elasticlunr_job_format.specs.declared.objects.Options.{Options}
-use Rattle.elasticlunr_job_format.specs.declared.objects.Problem.{Problem}
-use Rattle.elasticlunr_job_format.specs.declared.objects.Problem.TheVariants.{NotAText}
+use Rattle.elasticlunr_job_format.specs.declared.objects.ObjectFault.{ObjectFault}
+use Rattle.elasticlunr_job_format.specs.declared.objects.ObjectFault.TheVariants.{NotAText}
 
 abbrev pub texts_told : List (Bor Bytes) → List Bytes
 texts_told = map (λ s. s.now)
@@ -26,14 +26,18 @@ options_told options = record {
 }
 
 abbrev pub object_told : Object → Document
-object_told object = record { reference = string_bytes object.reference; values = texts_told object.values.items }
+object_told object = record {
+  reference = string_bytes object.reference;
+  values =
+      texts_told object.values.items;
+}
 
 -- it is out of memory, or a problem that there is
-abbrev pub IsMemoryOr : (Problem → Type 0) → AddError → Type 0
+abbrev pub IsMemoryOr : (ObjectFault → Type 0) → AddError → Type 0
 IsMemoryOr Is add.Memory = ⊤
-IsMemoryOr Is (add.Problem problem) = Is problem
+IsMemoryOr Is (add.ObjectFault problem) = Is problem
 
 -- the problem is that a field has no text
-abbrev pub HasFieldProblem : Data → List Bytes → Problem → Type 0
+abbrev pub HasFieldProblem : Data → List Bytes → ObjectFault → Type 0
 HasFieldProblem d fields (NotAText i found) = IsFirstWithoutText d fields i found
 HasFieldProblem d fields _ = ⊥

@@ -1,11 +1,16 @@
 //! What keeps a JSON value from being a job.
 
-ghost use Rattle.std.specs.Prelude.{◌≡◌, map, not, find, string_bytes, option_copied, IfSome, IfNone, OnSome};
+ghost use Rattle.std.specs.Prelude.{◌≡◌, map, not, find, string_bytes, option_copied, IfSome};
+ghost use Rattle.std.specs.Prelude.{IfNone, OnSome};
 ghost use Rattle.std.specs.BTreeMap.{keys};
 ghost use Rattle.serde_json.specs.View.{view};
 ghost use Rattle.elasticlunr_job_format.specs.Job.{IsNoJob};
-ghost use Rattle.elasticlunr_job_format.specs.FaultSteps.{AreDocuments, AreTexts, HasJobKeys, HasNeeded, IsADocument, IsFirstMissing, IsFitUnder};
-ghost use Rattle.elasticlunr_job_format.specs.JobFaults.{turn_of, HasDocumentFault, HasFault, HasFirstFault, HasMemberFault, IsAJob, IsFirstNoDocument, IsFirstNoText};
+ghost use Rattle.elasticlunr_job_format.specs.FaultSteps.{AreDocuments, AreTexts, HasJobKeys};
+ghost use Rattle.elasticlunr_job_format.specs.FaultSteps.{HasNeeded, IsADocument, IsFirstMissing};
+ghost use Rattle.elasticlunr_job_format.specs.FaultSteps.{IsFitUnder};
+ghost use Rattle.elasticlunr_job_format.specs.JobFaults.{turn_of, HasDocumentFault, HasFault};
+ghost use Rattle.elasticlunr_job_format.specs.JobFaults.{HasFirstFault, HasMemberFault, IsAJob};
+ghost use Rattle.elasticlunr_job_format.specs.JobFaults.{IsFirstNoDocument, IsFirstNoText};
 ghost use Rattle.elasticlunr_job_format.specs.JobKeys.{IsWanted};
 ghost use Rattle.elasticlunr_job_format.specs.Keys.{is_job_key};
 ghost use Rattle.elasticlunr_job_format.specs.Kinds.{kind_of};
@@ -143,7 +148,8 @@ fn fault_under(value: &Value, key: Key) -> Option<MemberFault>
 
 /// The first key of an object that is none of a job.
 fn unknown_key(members: &Map<String, Value>) -> Option<&String>
-    ensures { option_copied result ≡ find (λ key. not (is_job_key (string_bytes key))) (keys members.now) }
+    ensures { option_copied result ≡ find (λ key. not (is_job_key (string_bytes key)))
+        (keys members.now) }
 {
     members.keys().find(|key| !is_job_key(key.as_str()))
 }

@@ -1,6 +1,7 @@
 //! The job: what the input asks for. Its texts are those of the JSON value, which it borrows.
 
-ghost use Rattle.std.specs.Prelude.{◌≡◌, ◌≢◌, ℕ, List, Bool, map, string_bytes, IfOk, IfErr, IfSome, IsSomeAnd, Any, Some, []};
+ghost use Rattle.std.specs.Prelude.{◌≡◌, ◌≢◌, ℕ, List, Bool, map, string_bytes, IfOk, IfErr};
+ghost use Rattle.std.specs.Prelude.{IfSome, IsSomeAnd, Any, Some, []};
 ghost use Rattle.serde_json.specs.Data.{Data, boolean, string, array};
 ghost use Rattle.serde_json.specs.Find.{get};
 ghost use Rattle.serde_json.specs.View.{view, items_of};
@@ -9,12 +10,12 @@ ghost use Rattle.std.specs.BTreeMap.{keys};
 ghost use Rattle.elasticlunr_job_format.specs.Job.{texts, document, get_or, IsJob, IsNoJob};
 ghost use Rattle.elasticlunr_job_format.specs.Job as spec;
 ghost use Rattle.elasticlunr_job_format.specs.JobTold.{document_told, job_told};
-ghost use Rattle.elasticlunr_job_format.specs.Stop.{StopsOnlyBy};
+ghost use Rattle.elasticlunr_job_format.specs.JobError.{StopsOnlyBy};
 ghost use Rattle.elasticlunr_job_format.specs.Keys.{is_job_key};
 ghost use Rattle.elasticlunr_job_format.specs.declared.outcome.Refusal.TheVariants.{NotAJob};
 
 use crate::key::is_job_key;
-use crate::outcome::{Refusal, Stop};
+use crate::outcome::{JobError, Refusal};
 use serde_json::{Map, Value};
 use std::alloc::Global;
 
@@ -38,7 +39,7 @@ pub struct Job<'a> {
     pub compact: bool,
 }
 
-const NOT_A_JOB: Stop = Stop::Refused(Refusal::NotAJob);
+const NOT_A_JOB: JobError = JobError::Refused(Refusal::NotAJob);
 
 /// What a member of a job is: a text, a truth value, or an array.
 trait Member<'a>: Sized + Drop {
@@ -49,7 +50,7 @@ trait Member<'a>: Sized + Drop {
     ghost IsOther: { Data → Type 0 };
 
     /// What this JSON value represents.
-    fn read(alloc: Global, value: &'a Value) -> Result<Self, Stop>
+    fn read(alloc: Global, value: &'a Value) -> Result<Self, JobError>
         ensures ok { IfOk result (λ member. view value.now ≡ told member) }
         ensures err { IfErr result (StopsOnlyBy NotAJob (IsOther (view value.now))) };
 }
@@ -59,7 +60,7 @@ impl<'a> Member<'a> for &'a str {
 
     ghost IsOther = { λ d. (s : List ℕ) → d ≢ string s };
 
-    fn read(_alloc: Global, value: &'a Value) -> Result<&'a str, Stop> {
+    fn read(_alloc: Global, value: &'a Value) -> Result<&'a str, JobError> {
         value.as_str().ok_or(NOT_A_JOB)
     }
 }
@@ -69,7 +70,7 @@ impl<'a> Member<'a> for bool {
 
     ghost IsOther = { λ d. (b : Bool) → d ≢ boolean b };
 
-    fn read(_alloc: Global, value: &'a Value) -> Result<bool, Stop> {
+    fn read(_alloc: Global, value: &'a Value) -> Result<bool, JobError> {
         value.as_bool().ok_or(NOT_A_JOB)
     }
 }
@@ -77,9 +78,10 @@ impl<'a> Member<'a> for bool {
 impl<'a, T: Member<'a>> Member<'a> for Vec<T> {
     ghost told = { λ members. array (items_of (map T.told members.items)) };
 
-    ghost IsOther = { λ d. (items : List Data) → d ≡ array (items_of items) → Any T.IsOther items };
+    ghost IsOther = { λ d. (items : List Data) → d ≡ array (items_of items)
+        → Any T.IsOther items };
 
-    fn read(alloc: Global, value: &'a Value) -> Result<Vec<T>, Stop> {
+    fn read(alloc: Global, value: &'a Value) -> Result<Vec<T>, JobError> {
         let Some(items) = value.as_array() else {
             return Err(NOT_A_JOB);
         };
@@ -97,7 +99,7 @@ impl<'a> Member<'a> for Document<'a> {
 
     ghost IsOther = { λ d. (doc : spec.Document) → d ≢ document doc };
 
-    fn read(alloc: Global, value: &'a Value) -> Result<Document<'a>, Stop> {
+    fn read(alloc: Global, value: &'a Value) -> Result<Document<'a>, JobError> {
         let mut texts = Vec::<&'a str>::read(alloc, value)?;
         if texts.is_empty() {
             return Err(NOT_A_JOB);
@@ -123,9 +125,11 @@ fn member_or<'a, T: Member<'a>>(
     value: &'a Value,
     key: &str,
     absent: T,
-) -> Result<T, Stop>
-    ensures ok { IfOk result (λ member. get_or key.now (view value.now) (T.told absent) ≡ T.told member) }
-    ensures err { IfErr result (StopsOnlyBy NotAJob (IsSomeAnd (get key.now (view value.now)) T.IsOther)) }
+) -> Result<T, JobError>
+    ensures ok { IfOk result (λ member. get_or key.now (view value.now) (T.told absent)
+        ≡ T.told member) }
+    ensures err { IfErr result (StopsOnlyBy NotAJob
+        (IsSomeAnd (get key.now (view value.now)) T.IsOther)) }
 {
     match value.get(key) {
         Some(member) => T::read(alloc, member),
@@ -134,9 +138,10 @@ fn member_or<'a, T: Member<'a>>(
 }
 
 /// The member under a key that has to be there.
-fn required<'a, T: Member<'a>>(alloc: Global, value: &'a Value, key: &str) -> Result<T, Stop>
+fn required<'a, T: Member<'a>>(alloc: Global, value: &'a Value, key: &str) -> Result<T, JobError>
     ensures ok { IfOk result (λ member. get key.now (view value.now) ≡ Some (T.told member)) }
-    ensures err { IfErr result (StopsOnlyBy NotAJob (IfSome (get key.now (view value.now)) T.IsOther)) }
+    ensures err { IfErr result (StopsOnlyBy NotAJob
+        (IfSome (get key.now (view value.now)) T.IsOther)) }
 {
     match value.get(key) {
         Some(member) => T::read(alloc, member),
@@ -146,7 +151,7 @@ fn required<'a, T: Member<'a>>(alloc: Global, value: &'a Value, key: &str) -> Re
 
 /// The job that a value is: an object with the keys of a job and no others, each member of its
 /// kind. `null` is of no kind.
-pub fn parse<'a>(alloc: Global, value: &'a Value) -> Result<Job<'a>, Stop>
+pub fn parse<'a>(alloc: Global, value: &'a Value) -> Result<Job<'a>, JobError>
     ensures ok { IfOk result (λ job. IsJob (view value.now) (job_told job)) }
     ensures err { IfErr result (StopsOnlyBy NotAJob (IsNoJob (view value.now))) }
 {

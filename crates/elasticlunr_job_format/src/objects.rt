@@ -5,8 +5,10 @@
 
 ghost use Rattle.std.specs.Prelude.{◌≡◌, IfOk, IfErr, option_map, string_bytes};
 ghost use Rattle.serde_json.specs.View.{view};
-ghost use Rattle.elasticlunr_job_format.specs.Objects.{HasNoText, HasProblem, HasText, HasTexts, IsDocumentOf, reference_of};
-ghost use Rattle.elasticlunr_job_format.specs.ObjectsTold.{HasFieldProblem, IsMemoryOr, object_told, options_told, texts_told};
+ghost use Rattle.elasticlunr_job_format.specs.Objects.{HasNoText, HasProblem, HasText, HasTexts};
+ghost use Rattle.elasticlunr_job_format.specs.Objects.{IsDocumentOf, reference_of};
+ghost use Rattle.elasticlunr_job_format.specs.ObjectsTold.{HasFieldProblem, IsMemoryOr};
+ghost use Rattle.elasticlunr_job_format.specs.ObjectsTold.{object_told, options_told, texts_told};
 
 use crate::kind::{Kind, kind_of};
 use serde_json::Value;
@@ -25,7 +27,7 @@ pub struct Options<'a> {
 
 /// What is wrong with a document: the first check that it fails.
 #[derive(Clone, Copy)]
-pub enum Problem {
+pub enum ObjectFault {
     /// It is a line that is not JSON.
     NotJson,
     /// It is of this kind, and no object.
@@ -41,7 +43,7 @@ pub enum Problem {
 /// Why a document was not added.
 #[derive(Clone, Copy)]
 pub enum AddError {
-    Problem(Problem),
+    ObjectFault(ObjectFault),
     Memory,
 }
 
@@ -104,13 +106,14 @@ fn text_under<'a>(value: &'a Value, field: &str) -> Result<&'a str, Kind>
 fn values_of<'a>(alloc: Global, fields: &[&str], value: &'a Value) -> Result<Vec<&'a str>, AddError>
     ensures ok { IfOk result (λ found.
         HasTexts (view value.now) (texts_told fields.now) (texts_told found.items)) }
-    ensures err { IfErr result (IsMemoryOr (HasFieldProblem (view value.now) (texts_told fields.now))) }
+    ensures err { IfErr result (IsMemoryOr
+        (HasFieldProblem (view value.now) (texts_told fields.now))) }
 {
     let mut found = Vec::with_capacity(alloc, fields.len())?;
     for (i, field) in fields.iter().enumerate() {
         match text_under(value, *field) {
             Ok(text) => found.push(text)?,
-            Err(kind) => return Err(AddError::Problem(Problem::NotAText(i, kind))),
+            Err(kind) => return Err(AddError::ObjectFault(ObjectFault::NotAText(i, kind))),
         }
     }
     Ok(found)
@@ -122,18 +125,20 @@ pub fn object_of<'a>(
     options: &Options<'_>,
     value: &'a Value,
 ) -> Result<Object<'a>, AddError>
-    ensures ok { IfOk result (λ object. IsDocumentOf (options_told options.now) (view value.now) (object_told object)) }
+    ensures ok { IfOk result (λ object. IsDocumentOf (options_told options.now) (view value.now)
+        (object_told object)) }
     ensures whole { IfOk result (λ object. object.value.now ≡ value.now) }
-    ensures err { IfErr result (IsMemoryOr (HasProblem (options_told options.now) (view value.now))) }
+    ensures err { IfErr result (IsMemoryOr
+        (HasProblem (options_told options.now) (view value.now))) }
 {
     if !value.is_object() {
-        return Err(AddError::Problem(Problem::NotAnObject(kind_of(value))));
+        return Err(AddError::ObjectFault(ObjectFault::NotAnObject(kind_of(value))));
     }
     let Some(member) = value.get(options.reference_key) else {
-        return Err(AddError::Problem(Problem::NoReference));
+        return Err(AddError::ObjectFault(ObjectFault::NoReference));
     };
     let Some(reference) = reference_of(alloc, member)? else {
-        return Err(AddError::Problem(Problem::NotAReference(kind_of(member))));
+        return Err(AddError::ObjectFault(ObjectFault::NotAReference(kind_of(member))));
     };
     let values = values_of(alloc, &options.fields, value)?;
     Ok(Object {

@@ -15,44 +15,44 @@ pub enum Refusal {
 
 /// Why no index is printed: the refusal, or out of memory.
 #[derive(Clone, Copy)]
-pub enum Stop {
+pub enum JobError {
     Refused(Refusal),
     Memory,
 }
 
-impl From<AllocError> for Stop {
-    ghost use Rattle.elasticlunr_job_format.specs.declared.outcome.Stop.TheVariants.{Memory};
+impl From<AllocError> for JobError {
+    ghost use Rattle.elasticlunr_job_format.specs.declared.outcome.JobError.TheVariants.{Memory};
     ghost use Rattle.std.specs.Prelude.{◌≡◌};
 
     ghost from_gives = { λ _ e. e ≡ Memory };
 
-    fn from(_refused: AllocError) -> Stop {
-        Stop::Memory
+    fn from(_refused: AllocError) -> JobError {
+        JobError::Memory
     }
 }
 
-impl<T: Drop> From<AllocFailed<T>> for Stop {
-    ghost use Rattle.elasticlunr_job_format.specs.declared.outcome.Stop.TheVariants.{Memory};
+impl<T: Drop> From<AllocFailed<T>> for JobError {
+    ghost use Rattle.elasticlunr_job_format.specs.declared.outcome.JobError.TheVariants.{Memory};
     ghost use Rattle.std.specs.Prelude.{◌≡◌};
 
     ghost from_gives = { λ _ e. e ≡ Memory };
 
-    fn from(_refused: AllocFailed<T>) -> Stop {
-        Stop::Memory
+    fn from(_refused: AllocFailed<T>) -> JobError {
+        JobError::Memory
     }
 }
 
-impl From<IndexError> for Stop {
+impl From<IndexError> for JobError {
     ghost use Rattle.std.specs.Prelude.{◌≡◌};
-    ghost use Rattle.elasticlunr_job_format.specs.IndexStop.{stop_of};
+    ghost use Rattle.elasticlunr_job_format.specs.IndexJobError.{job_error_of};
 
-    ghost from_gives = { λ e stop. stop ≡ stop_of e };
+    ghost from_gives = { λ e stop. stop ≡ job_error_of e };
 
-    fn from(e: IndexError) -> Stop {
+    fn from(e: IndexError) -> JobError {
         match e {
-            IndexError::DuplicateField => Stop::Refused(Refusal::DuplicateField),
-            IndexError::TooManyValues => Stop::Refused(Refusal::TooManyValues),
-            _ => Stop::Memory,
+            IndexError::DuplicateField => JobError::Refused(Refusal::DuplicateField),
+            IndexError::TooManyValues => JobError::Refused(Refusal::TooManyValues),
+            _ => JobError::Memory,
         }
     }
 }

@@ -12,7 +12,8 @@ pub fn read_line<R: BufRead>(reader: &mut R, line: &mut Vec<u8>) -> io::Result<b
     ensures line { OnOk result (HasNoFeed line.new.items) }
     ensures taken { IfOk result (λ more. Consumes (R.remaining reader.old) (R.remaining reader.new)
         (if more then fed line.new.items else line.new.items)) }
-    ensures last { IfOk result (λ more. more ≡ false → AreAll (R.remaining reader.old) line.new.items) }
+    ensures last { IfOk result (λ more. more ≡ false
+        → AreAll (R.remaining reader.old) line.new.items) }
     ensures none_lost { OnErr result (Consumes (R.remaining reader.old) (R.remaining reader.new)
         line.new.items) }
 {

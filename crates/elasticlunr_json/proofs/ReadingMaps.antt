@@ -1,5 +1,6 @@
 -- Reading the maps of a value.
-use Rattle.std.proofs.Common.{◌≡◌, ◌≢◌, ℕ, List, [], ◌∷◌, ◌++◌, Option, Some, None, IsSomeAnd, IfSome, Bool, refl, sym, ap, ◌∙◌, string_bytes, string_cmp, Less, Equal, Greater}
+use Rattle.std.proofs.Common.{◌≡◌, ◌≢◌, ℕ, List, [], ◌∷◌, ◌++◌, Option, Some, None, IsSomeAnd, IfSome, Bool, refl, sym}
+use Rattle.std.proofs.Common.{ap, ◌∙◌, string_bytes, string_cmp, Less, Equal, Greater}
 use Rattle.std.specs.Ordering.{match_ordering}
 use Rattle.std.proofs.lemmas.List.{nil_from_length}
 use Rattle.std.specs.List.Sorted.{IsStrictlySortedBy}
@@ -8,7 +9,8 @@ use Rattle.std.specs.FinMap as finite
 use Rattle.std.specs.FinMap.Entries.{by_order}
 use Rattle.std.proofs.lemmas.Cmp.{nat_list_cmp_total}
 use Rattle.std.specs.Option.{option_and_then}
-use Rattle.serde_json.specs.Data.{Num, unsigned, negative, float, Data, null, boolean, number, string, array, object, Items, Members, no_members, member, put}
+use Rattle.serde_json.specs.Data.{Num, unsigned, negative, float, Data, null, boolean, number, string, array, object}
+use Rattle.serde_json.specs.Data.{Items, Members, no_members, member, put}
 use Rattle.serde_json.specs.Find.{as_array, as_object, as_str, as_bool, as_number, as_u64}
 use Rattle.serde_json.specs.View.{view, members_view}
 use Rattle.serde_json.proofs.Views.{Entry, put_last}
@@ -16,37 +18,50 @@ use Rattle.elasticlunr_error.specs.Text.{Bytes, text_cmp}
 use Rattle.elasticlunr_json.specs.Maps.{members, keyed, count}
 
 module _ {Y : Type 0} (value : Y → Data) where
-  members_put : (k : Bytes) (y : Y) (es : List (Bytes × Y)) → members value (finite.put text_cmp k y es) ≡ put k (value y) (members value es)
+  members_put : (k : Bytes) (y : Y) (es : List (Bytes × Y)) → members value (finite.put text_cmp k y es)
+      ≡ put k (value y) (members value es)
   members_put k y [] = refl
   members_put k y (e ∷ es) =
-      elim (text_cmp k e.0) as (λ o. members value (by_order o ((k, y) ∷ e ∷ es) ((e.0, y) ∷ es) (e ∷ finite.put text_cmp k y es))
-      ≡ match_ordering o (member k (value y) (members value (e ∷ es))) (member e.0 (value y) (members value es)) (member e.0 (value e.1) (put k (value y) (members value es)))) [
+      elim (text_cmp k e.0) as (λ o. members value
+      (by_order o ((k, y) ∷ e ∷ es) ((e.0, y) ∷ es) (e ∷ finite.put text_cmp k y es))
+      ≡ match_ordering o (member k (value y) (members value (e ∷ es))) (member e.0 (value y) (members value es))
+      (member e.0 (value e.1) (put k (value y) (members value es)))) [
         | Less ↦ refl
         | Equal ↦ refl
         | Greater ↦ ap (member e.0 (value e.1)) (members_put k y es)
       ]
 
   -- one more member, and one more entry
-  pub read_more : (m n : finite.FinMap text_cmp Y) (done : List Entry) (e : Entry) (more : List Entry) (y : Y) → IsStrictlySortedBy string_cmp (keys_of (done ++ e ∷ more))
-      → members_view done ≡ members value (finite.entries m) → n ≡ finite.insert m (string_bytes e.0) y → view e.1 ≡ value y → members_view (done ++ e ∷ []) ≡ members value (finite.entries n)
+  pub read_more : (m n : finite.FinMap text_cmp Y) (done : List Entry) (e : Entry) (more : List Entry) (y : Y)
+      → IsStrictlySortedBy string_cmp (keys_of (done ++ e ∷ more))
+      → members_view done ≡ members value (finite.entries m) → n ≡ finite.insert m (string_bytes e.0) y → view e.1
+      ≡ value y → members_view (done ++ e ∷ []) ≡ members value (finite.entries n)
   read_more m n done e more y sorted held is here =
-      sym (put_last done e more sorted) ∙ (λ i. put (string_bytes e.0) (here i) (held i)) ∙ sym (members_put (string_bytes e.0) y (finite.entries m))
-      ∙ ap (members value) (sym (finite.entries-insert nat_list_cmp_total m (string_bytes e.0) y) ∙ ap finite.entries (sym is))
+      sym (put_last done e more sorted) ∙ (λ i. put (string_bytes e.0) (here i) (held i))
+      ∙ sym (members_put (string_bytes e.0) y (finite.entries m))
+      ∙ ap (members value) (sym (finite.entries-insert nat_list_cmp_total m (string_bytes e.0) y)
+      ∙ ap finite.entries (sym is))
 
   -- no member, and no entry
   pub no_members_yet : (m : finite.FinMap text_cmp Y) → m ≡ finite.empty → no_members ≡ members value (finite.entries m)
-  no_members_yet m is = sym (ap (members value) (nil_from_length _ (sym (finite.len-entries m) ∙ ap finite.len is ∙ finite.len-empty text_cmp Y)))
+  no_members_yet m is = sym (ap (members value)
+      (nil_from_length _ (sym (finite.len-entries m) ∙ ap finite.len is ∙ finite.len-empty text_cmp Y)))
 
-  pub value_there : (done : List Entry) (e : Entry) (more : List Entry) (es : List (Bytes × Y)) → members_view (done ++ e ∷ more) ≡ members value es → (y : Y) × (view e.1 ≡ value y)
+  pub value_there : (done : List Entry) (e : Entry) (more : List Entry) (es : List (Bytes × Y))
+      → members_view (done ++ e ∷ more) ≡ members value es → (y : Y) × (view e.1 ≡ value y)
   value_there [] e more [] h = absurd (cc)
   value_there [] e more (x ∷ es) h = let same : view e.1 ≡ value x.1 = cc in (x.1, same)
   value_there (d ∷ done) e more [] h = absurd (cc)
-  value_there (d ∷ done) e more (x ∷ es) h = let rest : members_view (done ++ e ∷ more) ≡ members value es = cc in value_there done e more es rest
+  value_there (d ∷ done) e more (x ∷ es) h = let rest : members_view (done ++ e ∷ more)
+      ≡ members value es = cc in value_there done e more es rest
 
   -- a member whose value is none of those
-  pub foreign_member : (d : Data) (all done : List Entry) (e : Entry) (more : List Entry) → d ≡ object (members_view all) → done ++ e ∷ more ≡ all → ((y : Y) → view e.1 ≢ value y) → (m : finite.FinMap text_cmp Y) → d ≢ keyed value m
+  pub foreign_member : (d : Data) (all done : List Entry) (e : Entry) (more : List Entry) → d
+      ≡ object (members_view all) → done ++ e ∷ more ≡ all → ((y : Y) → view e.1 ≢ value y)
+      → (m : finite.FinMap text_cmp Y) → d ≢ keyed value m
   foreign_member d all done e more is split none m same =
-      let both : object (members_view (done ++ e ∷ more)) ≡ object (members value (finite.entries m)) = ap (λ es. object (members_view es)) split ∙ sym is ∙ same in
+      let both : object (members_view (done ++ e ∷ more)) ≡ object (members value (finite.entries m)) =
+      ap (λ es. object (members_view es)) split ∙ sym is ∙ same in
       let inner : members_view (done ++ e ∷ more) ≡ members value (finite.entries m) = cc in
       let there = value_there done e more (finite.entries m) inner in
       none there.0 there.1

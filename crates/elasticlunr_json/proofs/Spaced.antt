@@ -1,10 +1,13 @@
 -- A reader finds in an indented text the tokens that it was printed of.
-use Rattle.std.proofs.Common.{◌≡◌, ℕ, zero, suc, ◌*◌, List, [], ◌∷◌, ◌++◌, map, Bool, true, false, if◌then◌else◌, inl, inr, refl, sym, ap, ◌∙◌, subst, append_assoc}
+use Rattle.std.proofs.Common.{◌≡◌, ℕ, zero, suc, ◌*◌, List, [], ◌∷◌, ◌++◌, map, Bool, true, false, if◌then◌else◌, inl}
+use Rattle.std.proofs.Common.{inr, refl, sym, ap, ◌∙◌, subst, append_assoc}
 use Rattle.std.proofs.Math.ListN.{replicate}
-use Rattle.json.specs.Token.{Token, begin_object, end_object, begin_array, end_array, key, string, number, boolean, null, bad}
+use Rattle.json.specs.Token.{Token, begin_object, end_object, begin_array, end_array, key, string, number, boolean}
+use Rattle.json.specs.Token.{null, bad}
 use Rattle.json.specs.Lex.{tokens}
 use Rattle.json.specs.Print.{token_text, separator, begins, ends, ArePrintable}
-use Rattle.json.specs.Layout.{Last, nothing, bracket, name, value, is_value, line, gap, depth_at, after, step, piece, pretty, pretty_from}
+use Rattle.json.specs.Layout.{Last, nothing, bracket, name, value, is_value, line, gap, depth_at, after, step, piece}
+use Rattle.json.specs.Layout.{pretty, pretty_from}
 use Rattle.json.specs.Spaced.{IsGap, AreGaps, print_spaced}
 use Rattle.json.proofs.Printed.Tokens.{tokens-print_spaced}
 
@@ -62,11 +65,13 @@ print_spaced-spaced s [] = refl
 print_spaced-spaced s (t ∷ ts) =
     let before = separator (is_value s.0) t in
     let space = gap s.0 (begins t) (depth_at s.1 t) in
-    ap (λ l. piece s t ++ l) (print_spaced-spaced (step s t) ts ∙ ap (λ b. print_spaced b (spaced (step s t) ts)) (after_value t (depth_at s.1 t)))
+    ap (λ l. piece s t ++ l) (print_spaced-spaced (step s t) ts ∙ ap (λ b. print_spaced b (spaced (step s t) ts))
+    (after_value t (depth_at s.1 t)))
     ∙ joined before space (token_text t) (print_spaced (ends t) (spaced (step s t) ts))
 
 pub tokens-pretty : (ts : List Token) → ArePrintable ts → tokens (pretty ts) ≡ ts
 tokens-pretty ts printable =
     let ps = spaced (nothing, 0) ts in
     let are = are_tokens (nothing, 0) ts in
-    ap tokens (print_spaced-spaced (nothing, 0) ts) ∙ tokens-print_spaced ps (are_gaps (nothing, 0) ts) (subst ArePrintable (sym are) printable) ∙ are
+    ap tokens (print_spaced-spaced (nothing, 0) ts) ∙ tokens-print_spaced ps (are_gaps (nothing, 0) ts)
+    (subst ArePrintable (sym are) printable) ∙ are

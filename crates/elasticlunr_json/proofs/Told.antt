@@ -1,5 +1,6 @@
 -- What is written for a value whose numbers are integers tells the value.
-use Rattle.std.proofs.Common.{◌≡◌, ℕ, pos, negsuc, ◌+◌, false, ◌||◌, List, [], ◌++◌, Option, Some, unwrap_or, refl, sym, ap, ap₂, ◌∙◌, arith}
+use Rattle.std.proofs.Common.{◌≡◌, ℕ, pos, negsuc, ◌+◌, false, ◌||◌, List, [], ◌++◌, Option, Some, unwrap_or, refl, sym}
+use Rattle.std.proofs.Common.{ap, ap₂, ◌∙◌, arith}
 use Rattle.json.specs.Token.{Token}
 use Rattle.json.specs.Lex.{tokens}
 use Rattle.json.specs.Json as json
@@ -9,9 +10,11 @@ use Rattle.json.specs.Tree.{json_tokens, HasNumbers, ItemsHaveNumbers, MembersHa
 use Rattle.json.proofs.Printed.Decimals.{IsNumber-decimal, IsNumber-signed_decimal}
 use Rattle.json.proofs.Printed.Tokens.{tokens-print}
 use Rattle.json.proofs.Printed.Trees.{value-json_tokens, ArePrintable-json_tokens}
-use Rattle.serde_json.specs.Data.{Num, unsigned, negative, float, Data, null, boolean, number, string, array, object, Items, no_items, item, Members, no_members, member}
+use Rattle.serde_json.specs.Data.{Num, unsigned, negative, float, Data, null, boolean, number, string, array, object}
+use Rattle.serde_json.specs.Data.{Items, no_items, item, Members, no_members, member}
 use Rattle.serde_json.specs.Read.{number_of}
-use Rattle.serde_json.specs.Written.{number_text, outline, items_outline, members_outline, has_float, items_have_float, members_have_float, compact_text}
+use Rattle.serde_json.specs.Written.{number_text, outline, items_outline, members_outline, has_float, items_have_float}
+use Rattle.serde_json.specs.Written.{members_have_float, compact_text}
 use Rattle.serde_json.proofs.Numbers.{number_of-decimal, number_of-negative}
 use Rattle.serde_json.proofs.Texts.{print-outline}
 use Rattle.elasticlunr_json.specs.Texts.{IsInteger, HasIntegers, ItemsHaveIntegers, MembersHaveIntegers, pretty_text}
@@ -23,7 +26,8 @@ json_told : (j k : json.Json) → json_tokens j ≡ json_tokens k → j ≡ k
 json_told j k same =
     let n : ℕ = tree.depth j + tree.depth k in
     ap (λ (o : Option (json.Json × List Token)). (unwrap_or o (j, [])).0)
-    (sym (value-json_tokens j n [] (omega arith)) ∙ ap (λ ts. json.value n (ts ++ [])) same ∙ value-json_tokens k n [] (omega arith))
+    (sym (value-json_tokens j n [] (omega arith)) ∙ ap (λ ts. json.value n (ts ++ [])) same
+    ∙ value-json_tokens k n [] (omega arith))
 
 -- ---- the JSON value tells the value
 
@@ -69,8 +73,10 @@ mutual
   back-members (member k d ms) whole = ap₂ (member k) (back-outline d whole.0) (back-members ms whole.1)
 
 -- values of which the tokens are equal
-pub value_told : (v w : Data) → HasIntegers v → HasIntegers w → json_tokens (outline v) ≡ json_tokens (outline w) → v ≡ w
-value_told v w one other same = sym (back-outline v one) ∙ ap back (json_told (outline v) (outline w) same) ∙ back-outline w other
+pub value_told : (v w : Data) → HasIntegers v → HasIntegers w → json_tokens (outline v) ≡ json_tokens (outline w) → v
+    ≡ w
+value_told v w one other same = sym (back-outline v one) ∙ ap back (json_told (outline v) (outline w) same)
+    ∙ back-outline w other
 
 -- ---- the text tells the tokens
 
@@ -101,16 +107,19 @@ printable : (d : Data) → HasIntegers d → ArePrintable (json_tokens (outline 
 printable d whole = ArePrintable-json_tokens (outline d) (numbers_are d whole)
 
 pub tokens-compact_text : (d : Data) → HasIntegers d → tokens (compact_text d) ≡ json_tokens (outline d)
-tokens-compact_text d whole = ap tokens (sym (print-outline d)) ∙ tokens-print (json_tokens (outline d)) (printable d whole)
+tokens-compact_text d whole = ap tokens (sym (print-outline d))
+    ∙ tokens-print (json_tokens (outline d)) (printable d whole)
 
 pub tokens-pretty_text : (d : Data) → HasIntegers d → tokens (pretty_text d) ≡ json_tokens (outline d)
 tokens-pretty_text d whole = tokens-pretty (json_tokens (outline d)) (printable d whole)
 
 pub compact_told : (v w : Data) → HasIntegers v → HasIntegers w → compact_text v ≡ compact_text w → v ≡ w
-compact_told v w one other same = value_told v w one other (sym (tokens-compact_text v one) ∙ ap tokens same ∙ tokens-compact_text w other)
+compact_told v w one other same = value_told v w one other (sym (tokens-compact_text v one) ∙ ap tokens same
+    ∙ tokens-compact_text w other)
 
 pub pretty_told : (v w : Data) → HasIntegers v → HasIntegers w → pretty_text v ≡ pretty_text w → v ≡ w
-pretty_told v w one other same = value_told v w one other (sym (tokens-pretty_text v one) ∙ ap tokens same ∙ tokens-pretty_text w other)
+pretty_told v w one other same = value_told v w one other (sym (tokens-pretty_text v one) ∙ ap tokens same
+    ∙ tokens-pretty_text w other)
 
 -- ---- such a value has no float
 

@@ -25,5 +25,7 @@ abbrev pub count : ℕ → Data
 count n = number (unsigned n)
 
 -- two maps have the same keys, and at each key what the test takes for the same
-abbrev pub same_map : {X : Type 0} → (X → X → Bool) → finite.FinMap text_cmp X → finite.FinMap text_cmp X → Bool
-same_map same m n = pointwise (λ p q. bytes_eq p.0 q.0 && same p.1 q.1) (finite.entries m) (finite.entries n)
+abbrev pub same_map : {X : Type 0} → (X → X → Bool) → finite.FinMap text_cmp X
+    → finite.FinMap text_cmp X → Bool
+same_map same m n = pointwise (λ p q. bytes_eq p.0 q.0 && same p.1 q.1) (finite.entries m)
+    (finite.entries n)

@@ -1,7 +1,10 @@
 -- Why reading a value was refused.
 use Rattle.std.specs.Prelude.{◌≡◌, Result, IfOk, IsOkUnless}
 use Rattle.elasticlunr_error.specs.declared.error.IndexError.{IndexError}
-use Rattle.elasticlunr_error.specs.declared.error.IndexError.TheVariants.{DuplicateField, TooManyValues, BadClass, ForeignValue, Failed, Memory}
+use Rattle.elasticlunr_error.specs.declared.error.IndexError.TheVariants.{DuplicateField}
+use Rattle.elasticlunr_error.specs.declared.error.IndexError.TheVariants.{TooManyValues, BadClass}
+use Rattle.elasticlunr_error.specs.declared.error.IndexError.TheVariants.{ForeignValue, Failed}
+use Rattle.elasticlunr_error.specs.declared.error.IndexError.TheVariants.{Memory}
 
 -- memory was refused, or the value is foreign, and then P
 abbrev pub IsRefused : Type 0 → IndexError → Type 0

@@ -5,7 +5,9 @@ use Rattle.json.specs.Tree.{json_tokens, members_tokens}
 use Rattle.serde_json.specs.Data.{Data, Members}
 use Rattle.serde_json.specs.Written.{outline, members_outline}
 use Rattle.elasticlunr_json.specs.declared.tokens.Token.{Token}
-use Rattle.elasticlunr_json.specs.declared.tokens.Token.TheVariants.{BeginObject, EndObject, BeginArray, EndArray, Key, String, Bool}
+use Rattle.elasticlunr_json.specs.declared.tokens.Token.TheVariants.{BeginObject, EndObject}
+use Rattle.elasticlunr_json.specs.declared.tokens.Token.TheVariants.{BeginArray, EndArray, Key}
+use Rattle.elasticlunr_json.specs.declared.tokens.Token.TheVariants.{String, Bool}
 
 -- the JSON token that it is
 abbrev pub token_of : Token → json.Token

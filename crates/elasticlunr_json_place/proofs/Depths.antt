@@ -1,7 +1,9 @@
 -- How deep the values within a value nest.
-use Rattle.std.proofs.Common.{◌≡◌, ◌≤◌, ℕ, zero, suc, List, [], ◌∷◌, Option, Some, None, IfSome, option_and_then, Ordering, Less, Equal, Greater, subst, arith}
+use Rattle.std.proofs.Common.{◌≡◌, ◌≤◌, ℕ, zero, suc, List, [], ◌∷◌, Option, Some, None, IfSome, option_and_then}
+use Rattle.std.proofs.Common.{Ordering, Less, Equal, Greater, subst, arith}
 use Rattle.std.specs.Ordering.{match_ordering}
-use Rattle.serde_json.specs.Data.{Data, null, boolean, number, string, array, object, Items, no_items, item, Members, no_members, member, depth, items_depth, members_depth}
+use Rattle.serde_json.specs.Data.{Data, null, boolean, number, string, array, object, Items, no_items, item, Members}
+use Rattle.serde_json.specs.Data.{no_members, member, depth, items_depth, members_depth}
 use Rattle.serde_json.specs.Find.{get_item, get_member}
 use Rattle.elasticlunr_error.specs.Text.{Bytes}
 use Rattle.elasticlunr_json_place.specs.Members.{Move, follow, move}
@@ -11,14 +13,16 @@ use Rattle.elasticlunr_json_place.specs.Members as step
 abbrev Within : ℕ → Option Data → Type 0
 Within n o = IfSome o (λ d. depth d ≤ n)
 
-one_of : (o : Ordering) (a b c : Option Data) (n : ℕ) → Within n a → Within n b → Within n c → Within n (match_ordering o a b c)
+one_of : (o : Ordering) (a b c : Option Data) (n : ℕ) → Within n a → Within n b → Within n c
+    → Within n (match_ordering o a b c)
 one_of Less a b c n p q r = p
 one_of Equal a b c n p q r = q
 one_of Greater a b c n p q r = r
 
 of_member : (k : Bytes) (ms : Members) (n : ℕ) → members_depth ms ≤ n → Within n (get_member k ms)
 of_member k no_members n h = tt
-of_member k (member l e ms) n h = one_of _ (get_member k ms) (Some e) (get_member k ms) n (of_member k ms n (omega arith)) (omega arith) (of_member k ms n (omega arith))
+of_member k (member l e ms) n h = one_of _ (get_member k ms) (Some e) (get_member k ms) n
+    (of_member k ms n (omega arith)) (omega arith) (of_member k ms n (omega arith))
 
 of_item : (i : ℕ) (ds : Items) (n : ℕ) → items_depth ds ≤ n → Within n (get_item i ds)
 of_item i no_items n h = tt
@@ -39,7 +43,8 @@ of_move (step.item i) (number x) n h = tt
 of_move (step.item i) (string s) n h = tt
 of_move (step.item i) (object ms) n h = tt
 
-then_within : (f : Data → Option Data) (o : Option Data) (n : ℕ) → ((d : Data) → depth d ≤ n → Within n (f d)) → Within n o → Within n (option_and_then f o)
+then_within : (f : Data → Option Data) (o : Option Data) (n : ℕ) → ((d : Data) → depth d ≤ n → Within n (f d))
+    → Within n o → Within n (option_and_then f o)
 then_within f None n more h = tt
 then_within f (Some d) n more h = more d h
 

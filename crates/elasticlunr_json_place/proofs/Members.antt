@@ -1,5 +1,7 @@
 -- On where a value stands.
-use Rattle.std.proofs.Common.{◌≡◌, ◌<◌, ◌≤◌, ℕ, suc, List, length, get_or, drop, slice_range, Bool, true, false, Option, Some, None, option_and_then, Result, Ok, Err, IfOk, if◌then◌else◌, is_some, true≢false, sym, ap, ◌∙◌, drop-cons}
+use Rattle.std.proofs.Common.{◌≡◌, ◌<◌, ◌≤◌, ℕ, suc, List, length, get_or, drop, slice_range, Bool, true, false, Option}
+use Rattle.std.proofs.Common.{Some, None, option_and_then, Result, Ok, Err, IfOk, if◌then◌else◌, is_some, true≢false}
+use Rattle.std.proofs.Common.{sym, ap, ◌∙◌, drop-cons}
 use Rattle.std.specs.declared.alloc.AllocError.{AllocError}
 use Rattle.std.specs.Str.{is_utf8}
 use Rattle.serde_json.specs.Data.{Data, depth}
@@ -12,14 +14,17 @@ use Rattle.elasticlunr_json_place.specs.declared.member.Step.{Step}
 use Rattle.elasticlunr_json_place.proofs.Depths.{depth-follow}
 
 -- what a part is read as is the value of the text
-pub value_is : (line : Option ℕ) (text bytes : Bytes) (r : Option Data) → Some bytes ≡ part_of line text → reading bytes ≡ r → r ≡ value_of line text
+pub value_is : (line : Option ℕ) (text bytes : Bytes) (r : Option Data) → Some bytes ≡ part_of line text → reading bytes
+    ≡ r → r ≡ value_of line text
 value_is line text bytes r part is = sym is ∙ ap (option_and_then reading) part
 
 -- the first step of the rest of a path
-pub follow_step : (path : List Step) (i : ℕ) (past : Step) (d : Data) (r : Option Data) → i < length path → r ≡ move (move_told (get_or path i past)) d
+pub follow_step : (path : List Step) (i : ℕ) (past : Step) (d : Data) (r : Option Data) → i < length path → r
+    ≡ move (move_told (get_or path i past)) d
     → follow (path_told (drop i path)) d ≡ option_and_then (follow (path_told (drop (suc i) path))) r
 follow_step path i past d r below is =
-    ap (λ p. follow (path_told p) d) (drop-cons path i past below) ∙ ap (option_and_then (follow (path_told (drop (suc i) path)))) (sym is)
+    ap (λ p. follow (path_told p) d) (drop-cons path i past below)
+    ∙ ap (option_and_then (follow (path_told (drop (suc i) path)))) (sym is)
 
 not_none : (d : Data) → None ≡ Some d → ⊥
 not_none d is = true≢false (ap is_some (sym is))
@@ -36,12 +41,21 @@ depth_part (Some bytes) d is = depth-reading bytes d is
 depth_part None d is = absurd (not_none d is)
 
 module _ (line : Option ℕ) (path : List Move) (text : Bytes) (start end : ℕ) (bytes : Bytes) (found whole value : Data)
-    (part : bytes ≡ slice_range text start end) (reads : Some found ≡ reading bytes) (all : Some whole ≡ value_of line text) (leads : Some value ≡ follow path whole) where
+    (part : bytes ≡ slice_range text start end) (reads : Some found ≡ reading bytes) (all : Some whole
+    ≡ value_of line text) (leads : Some value ≡ follow path whole) where
   there : found ≡ value → HasValue line path text start end
-  there same = (value, ap (option_and_then (follow path)) (sym all) ∙ sym leads, ap reading (sym part) ∙ (sym reads ∙ ap Some same))
+  there same = (
+    value,
+    ap (option_and_then (follow path)) (sym all) ∙ sym leads,
+    ap reading (sym part)
+        ∙ (sym reads ∙ ap Some same),
+  )
 
-  -- these bytes are read as what the path leads to, where the two are the same whenever they nest no deeper than a text may
-  pub has_value : (r : Result Bool AllocError) → IfOk r (λ same. same ≡ true → depth found ≤ max_depth → depth value ≤ max_depth → found ≡ value)
+  -- these bytes are read as what the path leads to, where the two are the same whenever they nest no deeper than a text
+  -- may
+  pub has_value : (r : Result Bool AllocError)
+      → IfOk r (λ same. same ≡ true → depth found ≤ max_depth → depth value ≤ max_depth → found ≡ value)
       → IfOk r (λ has. has ≡ true → HasValue line path text start end)
-  has_value (Ok b) same = λ yes. there (same yes (depth-reading bytes found (sym reads)) (depth-follow path whole value max_depth (depth_part (part_of line text) whole (sym all)) (sym leads)))
+  has_value (Ok b) same = λ yes. there (same yes (depth-reading bytes found (sym reads))
+      (depth-follow path whole value max_depth (depth_part (part_of line text) whole (sym all)) (sym leads)))
   has_value (Err e) same = tt

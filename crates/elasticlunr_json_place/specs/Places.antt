@@ -1,5 +1,6 @@
 -- Where a byte of a text stands: its line and its column.
-use Rattle.std.specs.Prelude.{◌≡◌, ◌+◌, ◌-◌, ◌<◌, ◌≤◌, ◌==◌, ◌⊎◌, ℕ, Bool, not, take, length, min, count_by, bit_and}
+use Rattle.std.specs.Prelude.{◌≡◌, ◌+◌, ◌-◌, ◌<◌, ◌≤◌, ◌==◌, ◌⊎◌, ℕ, Bool, not, take, length, min}
+use Rattle.std.specs.Prelude.{count_by, bit_and}
 use Rattle.std.specs.List.{after_last}
 use Rattle.elasticlunr_error.specs.Text.{Bytes}
 use Rattle.elasticlunr_json_place.specs.declared.place.Place.{Place}
@@ -26,7 +27,8 @@ place_at text offset = record { line = line_at text offset; column = column_at t
 abbrev pub IsPlaceIn : Bytes → Place → Type 0
 IsPlaceIn text place = (offset : ℕ) × (offset ≤ length text) × (place ≡ place_at text offset)
 
--- the first offset in this line, from 1, or in a later one; the end of the text, where it has fewer lines
+-- the first offset in this line, from 1, or in a later one; the end of the text, where it has fewer
+-- lines
 pub record IsLineStart (text : Bytes) (line start : ℕ) : Type 0 where
   pub within : start ≤ length text
   pub before : (k : ℕ) → k < start → line_at text k < line
@@ -34,4 +36,5 @@ pub record IsLineStart (text : Bytes) (line start : ℕ) : Type 0 where
 
 -- the offset at so many bytes of a line, both from 1; none past the end of the text
 abbrev pub IsOffsetOf : Bytes → ℕ → ℕ → ℕ → Type 0
-IsOffsetOf text line column offset = (start : ℕ) × IsLineStart text line start × (offset ≡ min (start + (column - 1)) (length text))
+IsOffsetOf text line column offset = (start : ℕ) × IsLineStart text line start
+    × (offset ≡ min (start + (column - 1)) (length text))

@@ -1,10 +1,13 @@
 //! Where a value stands in a text of JSON: it is looked for, and what is found is checked.
-ghost use Rattle.std.specs.Prelude.{◌≡◌, ◌≤◌, ℕ, true, false, Some, codes, map, option_map, slice_get, IfOk, IfSome};
+ghost use Rattle.std.specs.Prelude.{◌≡◌, ◌≤◌, ℕ, true, false, Some, codes, map, option_map};
+ghost use Rattle.std.specs.Prelude.{slice_get, IfOk, IfSome};
 ghost use Rattle.serde_json.specs.Data.{boolean, depth, null};
 ghost use Rattle.serde_json.specs.Read.{max_depth};
 ghost use Rattle.serde_json.specs.View.{view};
 ghost use Rattle.elasticlunr_job_format.specs.Lines.{filled_lines, is_space};
-ghost use Rattle.elasticlunr_json_place.specs.Members.{follow, move, move_told, part_of, path_told, value_of, value_at, with_word, HasValue, IsPlaceOf, StandsAt};
+ghost use Rattle.elasticlunr_json_place.specs.Members.{follow, move, move_told, part_of};
+ghost use Rattle.elasticlunr_json_place.specs.Members.{path_told, value_of, value_at, with_word};
+ghost use Rattle.elasticlunr_json_place.specs.Members.{HasValue, IsPlaceOf, StandsAt};
 
 use crate::place::{Place, place_at};
 use crate::seek::{Span, seek};
@@ -60,7 +63,8 @@ fn stands_at(
 
 /// Whether the text has no white space at an offset.
 fn begins_at(text: &[u8], start: usize) -> bool
-    ensures { result ≡ true → (first : ℕ) × (slice_get text.now start ≡ Some first) × (is_space first ≡ false) }
+    ensures { result ≡ true → (first : ℕ) × (slice_get text.now start ≡ Some first)
+        × (is_space first ≡ false) }
 {
     match text.get(start) {
         Some(byte) => !is_space(*byte),
@@ -76,7 +80,8 @@ fn has_value(
     path: &[Step<'_>],
     span: Span,
 ) -> Result<bool, AllocError>
-    ensures { IfOk result (λ has. has ≡ true → HasValue line (path_told path.now) text.now span.start span.end) }
+    ensures { IfOk result (λ has. has ≡ true → HasValue line (path_told path.now) text.now
+        span.start span.end) }
 {
     let Some(bytes) = text.get(span.start..span.end) else {
         return Ok(false);
@@ -111,7 +116,8 @@ fn gives_null(
     span: Span,
 ) -> Result<bool, AllocError>
     ensures { IfOk result (λ gives. gives ≡ true
-        → value_at line (path_told path.now) (with_word text.now span.start span.end (codes "null")) ≡ Some null) }
+        → value_at line (path_told path.now)
+        (with_word text.now span.start span.end (codes "null")) ≡ Some null) }
 {
     let changed = with_word(alloc, text, span, "null")?;
     match value_in(alloc, &changed, line)? {
@@ -129,7 +135,8 @@ fn gives_true(
     span: Span,
 ) -> Result<bool, AllocError>
     ensures { IfOk result (λ gives. gives ≡ true
-        → value_at line (path_told path.now) (with_word text.now span.start span.end (codes "true"))
+        → value_at line (path_told path.now)
+        (with_word text.now span.start span.end (codes "true"))
         ≡ Some (boolean true)) }
 {
     let changed = with_word(alloc, text, span, "true")?;
@@ -186,7 +193,8 @@ fn filled_lines(alloc: Global, text: &[u8]) -> Result<Vec<&[u8]>, AllocError>
 
 /// What a path leads to.
 fn follow<'v>(value: &'v Value, path: &[Step<'_>]) -> Option<&'v Value>
-    ensures { option_map (λ found. view found.now) result ≡ follow (path_told path.now) (view value.now) }
+    ensures { option_map (λ found. view found.now) result
+        ≡ follow (path_told path.now) (view value.now) }
 {
     let mut here = value;
     for step in path {
@@ -197,7 +205,8 @@ fn follow<'v>(value: &'v Value, path: &[Step<'_>]) -> Option<&'v Value>
 
 /// What a step leads to.
 fn moved<'v>(value: &'v Value, step: Step<'_>) -> Option<&'v Value>
-    ensures { option_map (λ found. view found.now) result ≡ move (move_told step.entry) (view value.now) }
+    ensures { option_map (λ found. view found.now) result
+        ≡ move (move_told step.entry) (view value.now) }
 {
     match step {
         Step::Key(key) => value.get(key),

@@ -10,7 +10,9 @@ use Rattle.elasticlunr_lang.specs.Languages.{StemOf}
 use Rattle.elasticlunr_lang.specs.StopWords.{language_stop_words}
 use Rattle.elasticlunr_lang.specs.Known.{all_languages, language_name, language_leaves}
 use Rattle.elasticlunr_lang.specs.declared.any.AnyLanguage.{AnyLanguage}
-use Rattle.elasticlunr_lang.specs.declared.any.AnyLanguage.TheVariants.{English, Arabic, Danish, Dutch, Finnish, French, German, Italian, Korean, Norwegian, Portuguese, Romanian, Russian, Spanish, Swedish, Turkish}
+use Rattle.elasticlunr_lang.specs.declared.any.AnyLanguage.TheVariants.{English, Arabic, Danish, Dutch, Finnish, French}
+use Rattle.elasticlunr_lang.specs.declared.any.AnyLanguage.TheVariants.{German, Italian, Korean, Norwegian, Portuguese}
+use Rattle.elasticlunr_lang.specs.declared.any.AnyLanguage.TheVariants.{Romanian, Russian, Spanish, Swedish, Turkish}
 
 -- the first language of this name
 abbrev first_named : Bytes → Option AnyLanguage
@@ -39,7 +41,8 @@ same-language_name one other same =
     let found : Some one ≡ Some other = sym (first_named-name one) ∙ (ap first_named same ∙ first_named-name other) in
     cc
 
-one_some : (word : Text) (left other : Option Text) → IsSomeAnd left (Stem word) → IsSomeAnd other (Stem word) → left ≡ other
+one_some : (word : Text) (left other : Option Text) → IsSomeAnd left (Stem word) → IsSomeAnd other (Stem word) → left
+    ≡ other
 one_some word None other is also = absurd is
 one_some word (Some u) None is also = absurd also
 one_some word (Some u) (Some v) is also = ap Some (one-Stem word u v is also)
@@ -48,8 +51,10 @@ one-StemOf : (text left other : Option Text) → StemOf text left → StemOf tex
 one-StemOf None left other is also = is ∙ sym also
 one-StemOf (Some word) left other is also = one_some word left other is also
 
-pub one-language_leaves : (language : AnyLanguage) (token : Text) (left other : Option Text) → language_leaves language token left → language_leaves language token other → left ≡ other
-one-language_leaves English token left other is also = one-StemOf (unless_listed (language_stop_words English) (trimmed is_word_char token)) left other is also
+pub one-language_leaves : (language : AnyLanguage) (token : Text) (left other : Option Text)
+    → language_leaves language token left → language_leaves language token other → left ≡ other
+one-language_leaves English token left other is also =
+    one-StemOf (unless_listed (language_stop_words English) (trimmed is_word_char token)) left other is also
 one-language_leaves Arabic token left other is also = is ∙ sym also
 one-language_leaves Danish token left other is also = is ∙ sym also
 one-language_leaves Dutch token left other is also = is ∙ sym also

@@ -1,5 +1,6 @@
 -- Languages with a trimmer of a class and stop words.
-use Rattle.std.specs.Prelude.{◌≡◌, ℕ, Bool, List, [], ◌∷◌, ◌++◌, Option, Some, None, option_and_then, codes, if◌then◌else◌}
+use Rattle.std.specs.Prelude.{◌≡◌, ℕ, Bool, List, [], ◌∷◌, ◌++◌, Option, Some, None}
+use Rattle.std.specs.Prelude.{option_and_then, codes, if◌then◌else◌}
 use Rattle.elasticlunr_text.specs.Text.{Text, Bytes, is_listed}
 use Rattle.elasticlunr_text.specs.Trimmed.{trimmed, unless_empty}
 
@@ -13,4 +14,5 @@ class_stages code = (codes "trimmer-" ++ code) ∷ (codes "stopWordFilter-" ++ c
 
 -- the token is cut to its class; it is dropped if nothing is left, or a stop word
 abbrev pub class_leaves : (ℕ → Bool) → List Text → Text → Option Text → Type 0
-class_leaves in_class words token left = left ≡ option_and_then (unless_listed words) (unless_empty (trimmed in_class token))
+class_leaves in_class words token left = left
+    ≡ option_and_then (unless_listed words) (unless_empty (trimmed in_class token))

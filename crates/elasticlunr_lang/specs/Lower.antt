@@ -1,5 +1,6 @@
 -- Lower case, character by character.
-use Rattle.std.specs.Prelude.{ℕ, ◌+◌, ◌==◌, ◌%◌, nat_le, Bool, ◌&&◌, ◌||◌, not, List, [], ◌∷◌, if◌then◌else◌}
+use Rattle.std.specs.Prelude.{ℕ, ◌+◌, ◌==◌, ◌%◌, nat_le, Bool, ◌&&◌, ◌||◌, not, List, [], ◌∷◌}
+use Rattle.std.specs.Prelude.{if◌then◌else◌}
 
 -- the character is one of those from low to high
 abbrev pub is_between : ℕ → ℕ → ℕ → Bool

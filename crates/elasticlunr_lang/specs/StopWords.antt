@@ -1,10 +1,16 @@
--- The stop words of the built-in languages, as texts. A proof sees the words of a list only where it asks for them.
+-- The stop words of the built-in languages, as texts. A proof sees the words of a list only where
+-- it asks for them.
 use Rattle.std.specs.Prelude.{◌==◌, List, [], map}
 use Rattle.std.specs.List.{slice_split}
 use Rattle.std.specs.Str.{chars}
 use Rattle.elasticlunr_text.specs.Text.{Text, Bytes}
 use Rattle.elasticlunr_lang.specs.declared.any.AnyLanguage.{AnyLanguage}
-use Rattle.elasticlunr_lang.specs.declared.any.AnyLanguage.TheVariants.{English, Arabic, Danish, Dutch, Finnish, French, German, Italian, Korean, Norwegian, Portuguese, Romanian, Russian, Spanish, Swedish, Turkish}
+use Rattle.elasticlunr_lang.specs.declared.any.AnyLanguage.TheVariants.{English, Arabic, Danish}
+use Rattle.elasticlunr_lang.specs.declared.any.AnyLanguage.TheVariants.{Dutch, Finnish, French}
+use Rattle.elasticlunr_lang.specs.declared.any.AnyLanguage.TheVariants.{German, Italian, Korean}
+use Rattle.elasticlunr_lang.specs.declared.any.AnyLanguage.TheVariants.{Norwegian, Portuguese}
+use Rattle.elasticlunr_lang.specs.declared.any.AnyLanguage.TheVariants.{Romanian, Russian, Spanish}
+use Rattle.elasticlunr_lang.specs.declared.any.AnyLanguage.TheVariants.{Swedish, Turkish}
 use Rattle.elasticlunr_lang.specs.declared.stop_words.en.TheConstants as en
 use Rattle.elasticlunr_lang.specs.declared.stop_words.da.TheConstants as da
 use Rattle.elasticlunr_lang.specs.declared.stop_words.du.TheConstants as du

@@ -1,5 +1,6 @@
 //! What a built-in language answers as a type of its own.
-ghost use Rattle.elasticlunr_lang.specs.Known.{language_name, language_code, language_stages, language_leaves};
+ghost use Rattle.elasticlunr_lang.specs.Known.{language_name, language_code, language_stages};
+ghost use Rattle.elasticlunr_lang.specs.Known.{language_leaves};
 ghost use Rattle.elasticlunr_lang.specs.Words.{words};
 ghost use Rattle.elasticlunr_lang.specs.declared.any.AnyLanguage.{AnyLanguage};
 
@@ -8,7 +9,8 @@ use crate::language::Language;
 use elasticlunr_text::pipeline::Pipeline;
 use std::alloc::{AllocError, Global};
 
-/// A type that represents one of the built-in languages. As a `Language` it answers as that one does.
+/// A type that represents one of the built-in languages. As a `Language` it answers as that one
+/// does.
 pub trait KeptLanguage: Drop {
     // the language that it represents
     ghost LANGUAGE: { AnyLanguage };

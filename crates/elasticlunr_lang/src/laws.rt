@@ -29,26 +29,42 @@ use crate::kept::{
 use crate::language::Language;
 use elasticlunr_text::pipeline::Pipeline;
 
-/// A variant of `AnyLanguage` means what the one definition of the built-in languages says of it, and
+/// A variant of `AnyLanguage` means what the one definition of the built-in languages says of it,
+/// and
 /// so does the type of its name.
 pub fn a_type_means_what_its_variant_means()
     ensures any { (language : AnyLanguage) → MeansAs ⟦<AnyLanguage as Language>⟧ language language }
-    ensures english { (language : English) → MeansAs ⟦<English as Language>⟧ language AnyLanguage.English }
-    ensures arabic { (language : Arabic) → MeansAs ⟦<Arabic as Language>⟧ language AnyLanguage.Arabic }
-    ensures danish { (language : Danish) → MeansAs ⟦<Danish as Language>⟧ language AnyLanguage.Danish }
+    ensures english { (language : English) → MeansAs ⟦<English as Language>⟧ language
+        AnyLanguage.English }
+    ensures arabic { (language : Arabic) → MeansAs ⟦<Arabic as Language>⟧ language
+        AnyLanguage.Arabic }
+    ensures danish { (language : Danish) → MeansAs ⟦<Danish as Language>⟧ language
+        AnyLanguage.Danish }
     ensures dutch { (language : Dutch) → MeansAs ⟦<Dutch as Language>⟧ language AnyLanguage.Dutch }
-    ensures finnish { (language : Finnish) → MeansAs ⟦<Finnish as Language>⟧ language AnyLanguage.Finnish }
-    ensures french { (language : French) → MeansAs ⟦<French as Language>⟧ language AnyLanguage.French }
-    ensures german { (language : German) → MeansAs ⟦<German as Language>⟧ language AnyLanguage.German }
-    ensures italian { (language : Italian) → MeansAs ⟦<Italian as Language>⟧ language AnyLanguage.Italian }
-    ensures korean { (language : Korean) → MeansAs ⟦<Korean as Language>⟧ language AnyLanguage.Korean }
-    ensures norwegian { (language : Norwegian) → MeansAs ⟦<Norwegian as Language>⟧ language AnyLanguage.Norwegian }
-    ensures portuguese { (language : Portuguese) → MeansAs ⟦<Portuguese as Language>⟧ language AnyLanguage.Portuguese }
-    ensures romanian { (language : Romanian) → MeansAs ⟦<Romanian as Language>⟧ language AnyLanguage.Romanian }
-    ensures russian { (language : Russian) → MeansAs ⟦<Russian as Language>⟧ language AnyLanguage.Russian }
-    ensures spanish { (language : Spanish) → MeansAs ⟦<Spanish as Language>⟧ language AnyLanguage.Spanish }
-    ensures swedish { (language : Swedish) → MeansAs ⟦<Swedish as Language>⟧ language AnyLanguage.Swedish }
-    ensures turkish { (language : Turkish) → MeansAs ⟦<Turkish as Language>⟧ language AnyLanguage.Turkish }
+    ensures finnish { (language : Finnish) → MeansAs ⟦<Finnish as Language>⟧ language
+        AnyLanguage.Finnish }
+    ensures french { (language : French) → MeansAs ⟦<French as Language>⟧ language
+        AnyLanguage.French }
+    ensures german { (language : German) → MeansAs ⟦<German as Language>⟧ language
+        AnyLanguage.German }
+    ensures italian { (language : Italian) → MeansAs ⟦<Italian as Language>⟧ language
+        AnyLanguage.Italian }
+    ensures korean { (language : Korean) → MeansAs ⟦<Korean as Language>⟧ language
+        AnyLanguage.Korean }
+    ensures norwegian { (language : Norwegian) → MeansAs ⟦<Norwegian as Language>⟧ language
+        AnyLanguage.Norwegian }
+    ensures portuguese { (language : Portuguese) → MeansAs ⟦<Portuguese as Language>⟧ language
+        AnyLanguage.Portuguese }
+    ensures romanian { (language : Romanian) → MeansAs ⟦<Romanian as Language>⟧ language
+        AnyLanguage.Romanian }
+    ensures russian { (language : Russian) → MeansAs ⟦<Russian as Language>⟧ language
+        AnyLanguage.Russian }
+    ensures spanish { (language : Spanish) → MeansAs ⟦<Spanish as Language>⟧ language
+        AnyLanguage.Spanish }
+    ensures swedish { (language : Swedish) → MeansAs ⟦<Swedish as Language>⟧ language
+        AnyLanguage.Swedish }
+    ensures turkish { (language : Turkish) → MeansAs ⟦<Turkish as Language>⟧ language
+        AnyLanguage.Turkish }
 {}
 
 /// A name is the name of one of the built-in languages at most.
@@ -59,11 +75,13 @@ pub fn a_name_names_one_language()
 /// The stages of a built-in language leave one answer of a token.
 pub fn a_kept_language_leaves_one_answer()
     ensures { (language : AnyLanguage) (token : Text) (left other : Option Text)
-        → language_leaves language token left → language_leaves language token other → left ≡ other }
+        → language_leaves language token left → language_leaves language token other → left
+        ≡ other }
 {}
 
 /// A language whose meaning is that of some pipeline, as `make_pipeline` says of the one that it
 /// answers, leaves one answer of a token.
 pub fn a_language_leaves_one_answer<L: Language>(language: &L, pipeline: &Pipeline)
-    ensures { LeavesBy leaves pipeline.now (L.leaves_of language.now) → LeavesOne (L.leaves_of language.now) }
+    ensures { LeavesBy leaves pipeline.now (L.leaves_of language.now)
+        → LeavesOne (L.leaves_of language.now) }
 {}

@@ -1,6 +1,7 @@
 //! The built-in languages by name and by code.
 ghost use Rattle.std.specs.Prelude.{◌≡◌, ◌≢◌, All, IfSome, IsNone};
-ghost use Rattle.elasticlunr_lang.specs.Known.{all_languages, language_name, language_code, SameCode};
+ghost use Rattle.elasticlunr_lang.specs.Known.{all_languages, language_name, language_code};
+ghost use Rattle.elasticlunr_lang.specs.Known.{SameCode};
 
 use crate::any::AnyLanguage;
 
@@ -31,7 +32,8 @@ pub fn languages() -> [AnyLanguage; 16]
 /// The language with exactly this name, as `German`. Does not allocate.
 pub fn from_name(name: &str) -> Option<AnyLanguage>
     ensures found { IfSome result (λ language. language_name language ≡ name.now) }
-    ensures none { IsNone result → All (λ language. language_name language ≢ name.now) all_languages }
+    ensures none { IsNone result → All (λ language. language_name language ≢ name.now)
+        all_languages }
 {
     for language in languages() {
         if language.as_name() == name {
@@ -44,7 +46,8 @@ pub fn from_name(name: &str) -> Option<AnyLanguage>
 /// The language whose code equals the text but for ASCII case, as `de`. Does not allocate.
 pub fn from_code(code: &str) -> Option<AnyLanguage>
     ensures found { IfSome result (λ language. SameCode (language_code language) code.now) }
-    ensures none { IsNone result → All (λ language. ¬ (SameCode (language_code language) code.now)) all_languages }
+    ensures none { IsNone result → All (λ language. ¬ (SameCode (language_code language) code.now))
+        all_languages }
 {
     for language in languages() {
         if language.as_code().eq_ignore_ascii_case(code) {

@@ -1,4 +1,5 @@
-//! The stages of the built-in languages. Their names and classes are good, so that memory alone can be
+//! The stages of the built-in languages. Their names and classes are good, so that memory alone
+//! can be
 //! wanting.
 ghost use Rattle.std.specs.Prelude.{◌≡◌, ◌++◌, ℕ, codes, string_bytes, IfOk};
 ghost use Rattle.elasticlunr_text.specs.Text.{word_texts};
@@ -8,7 +9,8 @@ ghost use Rattle.elasticlunr_text.specs.Trimmers.{trimmer_name, keeps};
 ghost use Rattle.elasticlunr_text.specs.Stages.{names_by, LeavesBy, HasKnownStages};
 ghost use Rattle.elasticlunr_lang.specs.Classes.{class_stages, class_leaves};
 ghost use Rattle.elasticlunr_lang.specs.StopWords.{listed_words};
-ghost use Rattle.elasticlunr_lang.specs.Languages.{english_stages, stem_leaves, arabic_stages, arabic_leaves, keep_stages};
+ghost use Rattle.elasticlunr_lang.specs.Languages.{english_stages, stem_leaves, arabic_stages};
+ghost use Rattle.elasticlunr_lang.specs.Languages.{arabic_leaves, keep_stages};
 
 use elasticlunr_text::lang::common::{RegexTrimmer, StopWordFilter};
 use elasticlunr_text::pipeline::{Pipeline, Stage};
@@ -123,7 +125,8 @@ pub fn english_pipeline(
     empty: Pipeline,
 ) -> Result<Pipeline, AllocError>
     ensures names { IfOk result (λ pipeline. names_by name_text pipeline ≡ english_stages) }
-    ensures leaves { IfOk result (λ pipeline. LeavesBy leaves pipeline (stem_leaves (listed_words stop_words.now))) }
+    ensures leaves { IfOk result (λ pipeline. LeavesBy leaves pipeline
+        (stem_leaves (listed_words stop_words.now))) }
     ensures known { IfOk result (λ pipeline. HasKnownStages pipeline) }
 {
     let mut pipeline = empty;

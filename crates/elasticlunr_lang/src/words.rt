@@ -1,5 +1,6 @@
 //! The words of a text.
-ghost use Rattle.std.specs.Prelude.{◌≡◌, ◌<◌, List, ◌∷◌, [], ◌++◌, IfOk, IfSome, OnOk, filter, map, length, option_map};
+ghost use Rattle.std.specs.Prelude.{◌≡◌, ◌<◌, List, ◌∷◌, [], ◌++◌, IfOk, IfSome, OnOk, filter};
+ghost use Rattle.std.specs.Prelude.{map, length, option_map};
 ghost use Rattle.std.specs.Str.{chars, IsAscii};
 ghost use Rattle.elasticlunr_text.specs.Text.{Text, text_of, texts_of, is_not_empty};
 ghost use Rattle.elasticlunr_lang.specs.Lower.{lower};
@@ -67,7 +68,8 @@ fn push_word(alloc: Global, words: &mut Vec<String>, run: &str) -> Result<(), Al
 
 /// The text up to its first separator, and what follows that.
 fn split_run(text: &str) -> (&str, Option<&str>)
-    ensures run { IsRunOf (chars text.now) (chars result.0.now) (option_map (λ rest. chars rest.now) result.1) }
+    ensures run { IsRunOf (chars text.now) (chars result.0.now)
+        (option_map (λ rest. chars rest.now) result.1) }
     ensures shorter { IfSome result.1 (λ rest. length rest.now < length text.now) }
 {
     match text.split_once(|c| is_separator(c)) {
@@ -99,8 +101,10 @@ fn read_run(
     pipeline: &Pipeline,
     kept: &mut Vec<String>,
 ) -> Result<(), AllocError>
-    ensures { OnOk result ((tokens : List Text) → IsReadAs leaves pipeline.now tokens (texts_of kept.old.items)
-        → IsReadAs leaves pipeline.now (tokens ++ map in_lower_case (filter is_not_empty (chars run.now ∷ [])))
+    ensures { OnOk result ((tokens : List Text)
+        → IsReadAs leaves pipeline.now tokens (texts_of kept.old.items)
+        → IsReadAs leaves pipeline.now (tokens ++ map in_lower_case
+        (filter is_not_empty (chars run.now ∷ [])))
         (texts_of kept.new.items)) }
 {
     if !run.is_empty() {
@@ -117,7 +121,8 @@ pub fn run_on_words(
     text: &str,
     pipeline: &Pipeline,
 ) -> Result<Vec<String>, AllocError>
-    ensures { IfOk result (λ left. IsReadAs leaves pipeline.now (words (chars text.now)) (texts_of left.items)) }
+    ensures { IfOk result (λ left. IsReadAs leaves pipeline.now (words (chars text.now))
+        (texts_of left.items)) }
 {
     let mut kept = Vec::new(alloc);
     let mut left = Some(text);

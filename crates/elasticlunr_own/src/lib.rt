@@ -114,7 +114,8 @@ pub fn index_with_tokenizer(
 ) -> Result<String, IndexError>
     requires callable { Tokenize.IsAlwaysCallable tokenizer }
     requires one_answer { HasOneAnswer (Tokenize.post tokenizer) }
-    ensures duplicate { result ≡ Err DuplicateField → IsTrue (has_name (codes "title") (chosen builder).fields)
+    ensures duplicate { result ≡ Err DuplicateField
+        → IsTrue (has_name (codes "title") (chosen builder).fields)
         ⊎ IsTrue (has_name (codes "body") (chosen builder).fields) }
     ensures errors { IfErr result (λ e. (e ≡ DuplicateField) ⊎ (e ≡ Memory)) }
 {

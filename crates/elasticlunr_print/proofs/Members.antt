@@ -18,30 +18,36 @@ turned_back k l e = nat_list_cmp_total.antisymm l k ∙ ap ordering_reverse e
 -- what is below the members and below a new key is below both
 below_put : (l k : Bytes) (d : Data) (ms : Members) → text_cmp l k ≡ Less → IsBelow l ms → IsBelow l (put k d ms)
 below_put l k d no_members h below = (h, tt)
-below_put l k d (member m e ms) h below = elim (text_cmp k m) as (λ o. IsBelow l (match_ordering o (member k d (member m e ms)) (member m d ms) (member m e (put k d ms)))) [
-  | Less ↦ (h, below)
-  | Equal ↦ below
-  | Greater ↦ (below.0, below_put l k d ms h below.1)
-]
+below_put l k d (member m e ms) h below = elim (text_cmp k m) as
+    (λ o. IsBelow l (match_ordering o (member k d (member m e ms)) (member m d ms) (member m e (put k d ms)))) [
+      | Less ↦ (h, below)
+      | Equal ↦ below
+      | Greater ↦ (below.0, below_put l k d ms h below.1)
+    ]
 
 -- what is put among members in order leaves them in order
 pub order_put : (k : Bytes) (d : Data) (ms : Members) → HasKeysInOrder ms → HasKeysInOrder (put k d ms)
 order_put k d no_members order = (tt, tt)
-order_put k d (member l e ms) order = elim (text_cmp k l) as (λ o. text_cmp k l ≡ o → HasKeysInOrder (match_ordering o (member k d (member l e ms)) (member l d ms) (member l e (put k d ms)))) [
-  | Less ↦ λ is. ((is, further k l ms is order.0), order)
-  | Equal ↦ λ is. order
-  | Greater ↦ λ is. (below_put l k d ms (turned_back k l is) order.0, order_put k d ms order.1)
-] refl
+order_put k d (member l e ms) order = elim (text_cmp k l) as (λ o. text_cmp k l ≡ o
+    → HasKeysInOrder (match_ordering o (member k d (member l e ms)) (member l d ms) (member l e (put k d ms)))) [
+      | Less ↦ λ is. ((is, further k l ms is order.0), order)
+      | Equal ↦ λ is. order
+      | Greater ↦ λ is. (below_put l k d ms (turned_back k l is) order.0, order_put k d ms order.1)
+    ] refl
 
 -- each of these members is found in the whole
 abbrev pub AreFound : Members → Members → Type 0
 AreFound whole no_members = Unit {0}
 AreFound whole (member k d ms) = (get_member k whole ≡ Some d) × AreFound whole ms
 
-found_later : (k : Bytes) (d : Data) (whole ms : Members) → IsBelow k ms → AreFound whole ms → AreFound (member k d whole) ms
+found_later : (k : Bytes) (d : Data) (whole ms : Members) → IsBelow k ms → AreFound whole ms
+    → AreFound (member k d whole) ms
 found_later k d whole no_members below found = tt
-found_later k d whole (member l e ms) below found =
-    (ap (λ o. match_ordering o (get_member l whole) (Some d) (get_member l whole)) (turned k l below.0) ∙ found.0, found_later k d whole ms below.1 found.1)
+found_later k d whole (member l e ms) below found = (
+  ap (λ o. match_ordering o (get_member l whole) (Some d) (get_member l whole)) (turned k l below.0)
+      ∙ found.0,
+  found_later k d whole ms below.1 found.1,
+)
 
 -- members in order are each found
 pub all_found : (ms : Members) → HasKeysInOrder ms → AreFound ms ms

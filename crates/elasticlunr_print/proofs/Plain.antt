@@ -7,7 +7,8 @@ use Rattle.std.specs.FinMap.Entries.{below_all, is_sorted}
 use Rattle.elasticlunr_error.specs.Text.{Bytes, text_cmp}
 use Rattle.elasticlunr_json.specs.Maps.{members, keyed}
 use Rattle.elasticlunr_trie.specs.Tree.{IsBelow, HasKeysInOrder}
-use Rattle.serde_json.specs.Data.{Num, unsigned, negative, float, Data, null, boolean, number, string, array, object, Items, no_items, item, Members, no_members, member, put}
+use Rattle.serde_json.specs.Data.{Num, unsigned, negative, float, Data, null, boolean, number, string, array, object}
+use Rattle.serde_json.specs.Data.{Items, no_items, item, Members, no_members, member, put}
 use Rattle.serde_json.specs.Written.{has_float, items_have_float, members_have_float}
 use Rattle.elasticlunr_print.specs.Printed.{members_after, object_of}
 use Rattle.elasticlunr_print.proofs.Members.{order_put}
@@ -73,11 +74,19 @@ module _ {X : Type 0} (value : X → Data) where
 
   members_below : (k : Bytes) (es : List (Bytes × X)) → T (below_all text_cmp k es) → IsBelow k (members value es)
   members_below k [] h = tt
-  members_below k (e ∷ es) h = (less (text_cmp k e.0) (first _ (below_all text_cmp k es) h), members_below k es (second (is_lt (text_cmp k e.0)) _ h))
+  members_below k (e ∷ es) h = (
+    less (text_cmp k e.0) (first _ (below_all text_cmp k es) h),
+    members_below k es
+        (second (is_lt (text_cmp k e.0)) _ h),
+  )
 
   members_in_order : (es : List (Bytes × X)) → T (is_sorted text_cmp es) → HasKeysInOrder (members value es)
   members_in_order [] h = tt
-  members_in_order (e ∷ es) h = (members_below e.0 es (first _ (is_sorted text_cmp es) h), members_in_order es (second (below_all text_cmp e.0 es) _ h))
+  members_in_order (e ∷ es) h = (
+    members_below e.0 es (first _ (is_sorted text_cmp es) h),
+    members_in_order es
+        (second (below_all text_cmp e.0 es) _ h),
+  )
 
   members_plain : ((x : X) → IsPlain (value x)) → (es : List (Bytes × X)) → ArePlain (members value es)
   members_plain each [] = tt
@@ -88,20 +97,23 @@ module _ {X : Type 0} (value : X → Data) where
 
 put_plain : (k : Bytes) (d : Data) (ms : Members) → IsPlain d → ArePlain ms → ArePlain (put k d ms)
 put_plain k d no_members here later = (here, tt)
-put_plain k d (member l e ms) here later = elim (text_cmp k l) as (λ o. ArePlain (match_ordering o (member k d (member l e ms)) (member l d ms) (member l e (put k d ms)))) [
-  | Less ↦ (here, later)
-  | Equal ↦ (here, later.1)
-  | Greater ↦ (later.0, put_plain k d ms here later.1)
-]
+put_plain k d (member l e ms) here later = elim (text_cmp k l) as
+    (λ o. ArePlain (match_ordering o (member k d (member l e ms)) (member l d ms) (member l e (put k d ms)))) [
+      | Less ↦ (here, later)
+      | Equal ↦ (here, later.1)
+      | Greater ↦ (later.0, put_plain k d ms here later.1)
+    ]
 
 -- the value of each pair is plain
 abbrev pub AllPlain : List (Bytes × Data) → Type 0
 AllPlain [] = Unit {0}
 AllPlain (pair ∷ pairs) = IsPlain pair.1 × AllPlain pairs
 
-after_plain : (pairs : List (Bytes × Data)) (ms : Members) → HasKeysInOrder ms → ArePlain ms → AllPlain pairs → IsPlain (object (members_after ms pairs))
+after_plain : (pairs : List (Bytes × Data)) (ms : Members) → HasKeysInOrder ms → ArePlain ms → AllPlain pairs
+    → IsPlain (object (members_after ms pairs))
 after_plain [] ms order plain each = (order, plain)
-after_plain (pair ∷ pairs) ms order plain each = after_plain pairs (put pair.0 pair.1 ms) (order_put pair.0 pair.1 ms order) (put_plain pair.0 pair.1 ms each.0 plain) each.1
+after_plain (pair ∷ pairs) ms order plain each = after_plain pairs (put pair.0 pair.1 ms)
+    (order_put pair.0 pair.1 ms order) (put_plain pair.0 pair.1 ms each.0 plain) each.1
 
 -- an object of pairs is plain where they are
 pub object_plain : (pairs : List (Bytes × Data)) → AllPlain pairs → IsPlain (object_of pairs)

@@ -7,7 +7,8 @@ use Rattle.elasticlunr_trie.specs.Table.{Table, Postings, postings}
 use Rattle.elasticlunr_trie.specs.Tree.{IsTree, AreParts, IsTrieValue, frequency, frequencies}
 use Rattle.elasticlunr_store.specs.Contents.{Contents, store_value}
 use Rattle.elasticlunr_json.specs.Maps.{keyed, count}
-use Rattle.serde_json.specs.Data.{Data, null, boolean, number, string, array, object, unsigned, Members, no_members, member}
+use Rattle.serde_json.specs.Data.{Data, null, boolean, number, string, array, object, unsigned, Members, no_members}
+use Rattle.serde_json.specs.Data.{member}
 use Rattle.serde_json.specs.Find.{get_member}
 use Rattle.elasticlunr_commands.specs.Standing.{Plan}
 use Rattle.elasticlunr_print.specs.Printed.{texts, AreTrieValues, trie, index_pairs, IsValueOf}
@@ -25,17 +26,21 @@ module _ (T : Table) where
   AllWillBePlain no_members = Unit {0}
   AllWillBePlain (member k d ms) = WillBePlain d × AllWillBePlain ms
 
-  parts_plain : (p : Text) (all ms : Members) → get_member (codes "docs") all ≡ Some (object (frequencies (map.entries (postings T p))))
-      → get_member (codes "df") all ≡ Some (number (unsigned (map.len (postings T p)))) → AllWillBePlain ms → AreFound all ms → AreParts T p ms → ArePlain ms
+  parts_plain : (p : Text) (all ms : Members) → get_member (codes "docs") all
+      ≡ Some (object (frequencies (map.entries (postings T p))))
+      → get_member (codes "df") all ≡ Some (number (unsigned (map.len (postings T p)))) → AllWillBePlain ms
+      → AreFound all ms → AreParts T p ms → ArePlain ms
   parts_plain p all no_members docs df will found parts = tt
   parts_plain p all (member k d ms) docs df will found parts = (
     elim parts.0 [
       | inl is ↦
-          let both : Some d ≡ Some (object (frequencies (map.entries (postings T p)))) = sym found.0 ∙ ap (λ q. get_member q all) is ∙ docs in
+          let both : Some d ≡ Some (object (frequencies (map.entries (postings T p)))) = sym found.0
+          ∙ ap (λ q. get_member q all) is ∙ docs in
           let here : d ≡ object (frequencies (map.entries (postings T p))) = cc in
           subst IsPlain (sym here) (frequencies_plain (postings T p))
       | inr (inl is) ↦
-          let both : Some d ≡ Some (number (unsigned (map.len (postings T p)))) = sym found.0 ∙ ap (λ q. get_member q all) is ∙ df in
+          let both : Some d ≡ Some (number (unsigned (map.len (postings T p)))) = sym found.0
+          ∙ ap (λ q. get_member q all) is ∙ df in
           let here : d ≡ number (unsigned (map.len (postings T p))) = cc in
           subst IsPlain (sym here) tt
       | inr (inr letter) ↦ will.0 (p ++ letter.0 ∷ []) letter.2
@@ -50,7 +55,11 @@ module _ (T : Table) where
     tree_plain (number n) p tree = absurd tree
     tree_plain (string s) p tree = absurd tree
     tree_plain (array ds) p tree = absurd tree
-    tree_plain (object ms) p tree = (tree.0, parts_plain p ms ms tree.1 tree.2 (all_plain ms) (all_found ms tree.0) tree.4)
+    tree_plain (object ms) p tree = (
+      tree.0,
+      parts_plain p ms ms tree.1 tree.2 (all_plain ms) (all_found ms tree.0)
+          tree.4,
+    )
 
     all_plain : (ms : Members) → AllWillBePlain ms
     all_plain no_members = tt
@@ -62,22 +71,29 @@ module _ (T : Table) where
 store_plain : (c : Contents) → IsPlain (store_value c)
 store_plain c = (
   ((refl, (refl, (refl, tt))), ((refl, (refl, tt)), ((refl, tt), (tt, tt)))),
-  (keyed_plain (keyed count) (λ m. keyed_plain count (λ n. tt) m) c.lengths, (keyed_plain (keyed string) (λ m. keyed_plain string (λ s. tt) m) c.texts, (tt, (tt, tt)))),
+  (
+    keyed_plain (keyed count) (λ m. keyed_plain count (λ n. tt) m) c.lengths,
+    (keyed_plain (keyed string) (λ m. keyed_plain string (λ s. tt) m) c.texts, (tt, (tt, tt))),
+  ),
 )
 
 texts_plain : (names : List Bytes) → ArePlainItems (texts names)
 texts_plain [] = tt
 texts_plain (name ∷ names) = (tt, texts_plain names)
 
-tries_plain : (names : List Bytes) (tables : List Table) (values : List Data) → AreTrieValues tables values → AllPlain (zip names values)
+tries_plain : (names : List Bytes) (tables : List Table) (values : List Data) → AreTrieValues tables values
+    → AllPlain (zip names values)
 tries_plain [] tables values are = tt
 tries_plain (name ∷ names) tables [] are = tt
 tries_plain (name ∷ names) [] (value ∷ values) are = elim are [ ]
-tries_plain (name ∷ names) (table ∷ tables) (value ∷ values) (trie is are) = (trie_plain table value is, tries_plain names tables values are)
+tries_plain (name ∷ names) (table ∷ tables) (value ∷ values) (trie is are) =
+    (trie_plain table value is, tries_plain names tables values are)
 
 -- a value of an index is plain
-pub value_plain : (plan : Plan) (tables : List Table) (contents : Contents) (value : Data) → IsValueOf plan tables contents value → IsPlain value
+pub value_plain : (plan : Plan) (tables : List Table) (contents : Contents) (value : Data)
+    → IsValueOf plan tables contents value → IsPlain value
 value_plain plan tables contents value is =
     let documents : IsPlain is.documents = subst IsPlain (sym is.store) (store_plain contents) in
     let tries = object_plain (zip plan.fields is.tries) (tries_plain plan.fields tables is.tries is.each_trie) in
-    subst IsPlain (sym is.whole) (object_plain (index_pairs plan is.tries is.documents) (documents, (texts_plain plan.fields, (tries, (tt, (texts_plain plan.stages, (tt, (tt, tt))))))))
+    subst IsPlain (sym is.whole) (object_plain (index_pairs plan is.tries is.documents)
+    (documents, (texts_plain plan.fields, (tries, (tt, (texts_plain plan.stages, (tt, (tt, tt))))))))

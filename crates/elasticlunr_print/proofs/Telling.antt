@@ -1,5 +1,6 @@
 -- A value tells what it was printed of.
-use Rattle.std.proofs.Common.{◌≡◌, suc, List, [], ◌∷◌, length, arith, Bool, true, false, not, ◌&&◌, ◌||◌, true≢false, Some, bytes_eq, refl, sym, ap, subst, ◌∙◌}
+use Rattle.std.proofs.Common.{◌≡◌, suc, List, [], ◌∷◌, length, arith, Bool, true, false, not, ◌&&◌, ◌||◌, true≢false}
+use Rattle.std.proofs.Common.{Some, bytes_eq, refl, sym, ap, subst, ◌∙◌}
 use Rattle.std.proofs.lemmas.Slice.Eq.{bytes_eq-Decides}
 use Rattle.std.specs.Prelude.{All}
 use Rattle.std.specs.List.{zip}
@@ -12,7 +13,8 @@ use Rattle.serde_json.specs.Find.{get_member}
 use Rattle.serde_json.proofs.Views.{get_member-put, get_member-put_other}
 use Rattle.elasticlunr_commands.specs.Fields.{has_name, all_differ}
 use Rattle.elasticlunr_commands.specs.Standing.{Plan}
-use Rattle.elasticlunr_print.specs.Printed.{texts, members_after, index_object, AreTrieValues, trie, IsValueOf, PrintAlike}
+use Rattle.elasticlunr_print.specs.Printed.{texts, members_after, index_object, AreTrieValues, trie, IsValueOf}
+use Rattle.elasticlunr_print.specs.Printed.{PrintAlike}
 use Rattle.elasticlunr_print.proofs.Sorting.{as_many}
 
 pub same_texts : (xs ys : List Bytes) → texts xs ≡ texts ys → xs ≡ ys
@@ -38,7 +40,8 @@ either true b e = refl
 either false b e = e
 
 -- values under other names leave what is found
-pub untouched : (q : Bytes) (names : List Bytes) (values : List Data) (before : Members) → has_name q names ≡ false → get_member q (members_after before (zip names values)) ≡ get_member q before
+pub untouched : (q : Bytes) (names : List Bytes) (values : List Data) (before : Members) → has_name q names ≡ false
+    → get_member q (members_after before (zip names values)) ≡ get_member q before
 untouched q [] values before none = refl
 untouched q (name ∷ names) [] before none = refl
 untouched q (name ∷ names) (value ∷ values) before none =
@@ -47,8 +50,10 @@ untouched q (name ∷ names) (value ∷ values) before none =
     ∙ get_member-put_other q name value before (λ is. true≢false (sym ((bytes_eq-Decides name q).1 (sym is)) ∙ parts.0))
 
 -- where names differ, members tell the values that were put in
-told : (names : List Bytes) (xs ys : List Data) (before after : Members) → all_differ names ≡ true → length xs ≡ length names → length ys ≡ length names
-    → ((q : Bytes) → has_name q names ≡ true → get_member q (members_after before (zip names xs)) ≡ get_member q (members_after after (zip names ys))) → xs ≡ ys
+told : (names : List Bytes) (xs ys : List Data) (before after : Members) → all_differ names ≡ true → length xs
+    ≡ length names → length ys ≡ length names
+    → ((q : Bytes) → has_name q names ≡ true → get_member q (members_after before (zip names xs))
+    ≡ get_member q (members_after after (zip names ys))) → xs ≡ ys
 told [] [] [] before after differ first second same = refl
 told [] [] (y ∷ ys) before after differ first second same = absurd (omega arith)
 told [] (x ∷ xs) ys before after differ first second same = absurd (omega arith)
@@ -56,11 +61,13 @@ told (name ∷ names) [] ys before after differ first second same = absurd (omeg
 told (name ∷ names) (x ∷ xs) [] before after differ first second same = absurd (omega arith)
 told (name ∷ names) (x ∷ xs) (y ∷ ys) before after differ first second same =
     let parts = both_true (has_name name names) (all_differ names) differ in
-    let both : Some x ≡ Some y = sym (get_member-put name x before) ∙ sym (untouched name names xs (put name x before) parts.0)
+    let both : Some x ≡ Some y = sym (get_member-put name x before)
+    ∙ sym (untouched name names xs (put name x before) parts.0)
     ∙ same name (ap (λ b. b || has_name name names) ((bytes_eq-Decides name name).1 refl))
     ∙ untouched name names ys (put name y after) parts.0 ∙ get_member-put name y after in
     let here : x ≡ y = cc (both) in
-    let more = told names xs ys (put name x before) (put name y after) parts.1 (omega arith) (omega arith) (λ q there. same q (either (bytes_eq name q) (has_name q names) there)) in
+    let more = told names xs ys (put name x before) (put name y after) parts.1 (omega arith) (omega arith)
+    (λ q there. same q (either (bytes_eq name q) (has_name q names) there)) in
     λ i. here i ∷ more i
 
 -- what the store promises of values: they come from one table, and from one contents
@@ -76,7 +83,8 @@ first_of_all T ts all = all 0 T (omega arith)
 rest_of_all : (T : Table) (ts : List Table) → All IsTable (T ∷ ts) → All IsTable ts
 rest_of_all T ts all = λ k d h. all (suc k) d (omega arith)
 
-same_tables : HasOneTable → (ts us : List Table) (vs : List Data) → All IsTable ts → All IsTable us → AreTrieValues ts vs → AreTrieValues us vs → ts ≡ us
+same_tables : HasOneTable → (ts us : List Table) (vs : List Data) → All IsTable ts → All IsTable us
+    → AreTrieValues ts vs → AreTrieValues us vs → ts ≡ us
 same_tables only [] [] vs first second one two = refl
 same_tables only [] (U ∷ us) [] first second one two = elim two [ ]
 same_tables only [] (U ∷ us) (v ∷ vs) first second one two = elim one [ ]
@@ -104,17 +112,22 @@ same_later : (k l : Bytes) (d e : Data) (ms ns : Members) → member k d ms ≡ 
 same_later k l d e ms ns is = cc (is)
 
 -- a value tells the plan as far as it is printed, the tables and the contents
-pub told_by_value : HasOneTable → HasOneContents → (plan other : Plan) (tables others : List Table) (contents kept : Contents) (v : Data) → all_differ plan.fields ≡ true
+pub told_by_value : HasOneTable → HasOneContents → (plan other : Plan) (tables others : List Table)
+    (contents kept : Contents) (v : Data) → all_differ plan.fields ≡ true
     → length tables ≡ length plan.fields → All IsTable tables → length others ≡ length other.fields → All IsTable others
-    → IsValueOf plan tables contents v → IsValueOf other others kept v → PrintAlike plan other × (tables ≡ others) × (contents ≡ kept)
-told_by_value one_table one_contents plan other tables others contents kept v differ many are many_others are_others one two =
-    let both : index_object plan one.tries one.documents ≡ index_object other two.tries two.documents = sym one.whole ∙ two.whole in
+    → IsValueOf plan tables contents v → IsValueOf other others kept v → PrintAlike plan other × (tables ≡ others)
+    × (contents ≡ kept)
+told_by_value one_table one_contents plan other tables others contents kept v differ many are many_others are_others one
+    two =
+    let both : index_object plan one.tries one.documents ≡ index_object other two.tries two.documents = sym one.whole
+    ∙ two.whole in
     let first = same_members _ _ both in
     let documents = same_here _ _ one.documents two.documents _ _ first in
     let second = same_later _ _ _ _ _ _ first in
     let names = same_items (texts plan.fields) (texts other.fields) (same_here _ _ _ _ _ _ second) in
     let third = same_later _ _ _ _ _ _ second in
-    let index = same_members (members_after no_members (zip plan.fields one.tries)) (members_after no_members (zip other.fields two.tries)) (same_here _ _ _ _ _ _ third) in
+    let index = same_members (members_after no_members (zip plan.fields one.tries))
+    (members_after no_members (zip other.fields two.tries)) (same_here _ _ _ _ _ _ third) in
     let fourth = same_later _ _ _ _ _ _ third in
     let language = same_text plan.language other.language (same_here _ _ _ _ _ _ fourth) in
     let fifth = same_later _ _ _ _ _ _ fourth in
@@ -123,9 +136,18 @@ told_by_value one_table one_contents plan other tables others contents kept v di
     let reference = same_text plan.reference_field other.reference_field (same_here _ _ _ _ _ _ sixth) in
     let fields = same_texts plan.fields other.fields names in
     let together = index ∙ ap (λ ns. members_after no_members (zip ns two.tries)) (sym fields) in
-    let tries = told plan.fields one.tries two.tries no_members no_members differ (as_many tables one.tries one.each_trie ∙ many)
-    (as_many others two.tries two.each_trie ∙ many_others ∙ ap length (sym fields)) (λ q there. ap (get_member q) together) in (
-      record { same_fields = fields; same_reference_field = reference; same_language = language; same_stages = same_texts plan.stages other.stages stages },
-      same_tables one_table tables others two.tries are are_others (subst (AreTrieValues tables) tries one.each_trie) two.each_trie,
+    let tries = told plan.fields one.tries two.tries no_members no_members differ
+    (as_many tables one.tries one.each_trie ∙ many)
+    (as_many others two.tries two.each_trie ∙ many_others ∙ ap length (sym fields))
+    (λ q there. ap (get_member q) together) in (
+      record {
+        same_fields = fields;
+        same_reference_field = reference;
+        same_language = language;
+        same_stages =
+            same_texts plan.stages other.stages stages;
+      },
+      same_tables one_table tables others two.tries are are_others (subst (AreTrieValues tables) tries one.each_trie)
+          two.each_trie,
       one_contents contents kept two.documents (sym documents ∙ one.store) two.store,
     )

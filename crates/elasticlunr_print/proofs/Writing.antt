@@ -16,7 +16,8 @@ ok_then (Ok x) p f = f p
 ok_then (Err e) p f = tt
 
 -- first these, and then those
-pub joined : {T : Type 0} (old between new these those : List T) → between ≡ old ++ these → new ≡ between ++ those → new ≡ old ++ (these ++ those)
+pub joined : {T : Type 0} (old between new these those : List T) → between ≡ old ++ these → new ≡ between ++ those → new
+    ≡ old ++ (these ++ those)
 joined old between new these those first second = second ∙ ap (λ ts. ts ++ those) first ∙ append_assoc old these those
 
 -- the tokens of the last members, one after the other

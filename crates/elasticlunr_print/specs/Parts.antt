@@ -7,7 +7,15 @@ use Rattle.elasticlunr_print.specs.declared.parts.Parts.{Parts}
 
 -- how an index with these parts is built, as far as it is printed
 abbrev pub plan_of_parts : Parts → Plan
-plan_of_parts p = record { fields = map string_bytes p.fields.now; reference_field = p.ref_field.now; save = p.store.now.save; language = p.language.now; stages = map string_bytes p.stages.now }
+plan_of_parts p = record {
+  fields = map string_bytes p.fields.now;
+  reference_field =
+      p.ref_field.now;
+  save = p.store.now.save;
+  language = p.language.now;
+  stages = map string_bytes
+      p.stages.now;
+}
 
 -- the value of an index with these parts
 abbrev pub IsPrinted : Parts → Data → Type 0
@@ -22,4 +30,5 @@ abbrev pub settings_members : Plan → Members
 settings_members plan =
     member (codes "lang") (string plan.language)
     (member (codes "pipeline") (array (texts plan.stages))
-    (member (codes "ref") (string plan.reference_field) (member (codes "version") (string (codes "0.9.5")) no_members)))
+    (member (codes "ref") (string plan.reference_field)
+    (member (codes "version") (string (codes "0.9.5")) no_members)))

@@ -21,7 +21,8 @@ HasTrie index name table = IsTable table × IsSomeAnd (get name index) (IsTrieVa
 
 -- under `index` it has, under each name, the trie value of the table at the same place
 abbrev pub HasTries : Data → List Bytes → List Table → Type 0
-HasTries v names tables = IsSomeAnd (get (codes "index") v) (λ index. AllZip (HasTrie index) names tables)
+HasTries v names tables = IsSomeAnd (get (codes "index") v)
+    (λ index. AllZip (HasTrie index) names tables)
 
 -- under `documentStore` it has the value of these contents
 abbrev pub HasStore : Data → Contents → Type 0
@@ -32,12 +33,15 @@ abbrev pub HasLanguage : Data → Bytes → Type 0
 HasLanguage v name = get (codes "lang") v ≡ Some (string name)
 
 -- the fields, their tries and the store
-pub record HasParts (v : Data) (names : List Bytes) (tables : List Table) (contents : Contents) : Type 0 where
+pub record HasParts (v : Data) (names : List Bytes) (tables : List Table) (contents : Contents) :
+    Type 0 where
   pub fields : HasFields v names
   pub tries : HasTries v names tables
   pub store : HasStore v contents
 
--- these are the names of the plan's fields, and the tables and the contents are what the commands leave
-pub record ArePartsOf (plan : Plan) (commands : Commands) (names : List Bytes) (tables : List Table) (contents : Contents) : Type 0 where
+-- these are the names of the plan's fields, and the tables and the contents are what the commands
+-- leave
+pub record ArePartsOf (plan : Plan) (commands : Commands) (names : List Bytes) (tables : List Table)
+    (contents : Contents) : Type 0 where
   pub fields : names ≡ plan.fields
   pub holds : Holds plan commands tables contents

@@ -1,5 +1,6 @@
 //! The JSON value of an index.
-ghost use Rattle.std.specs.Prelude.{◌≡◌, List, false, map, length, string_bytes, IfOk, OnOk, IsOkUnless};
+ghost use Rattle.std.specs.Prelude.{◌≡◌, List, false, map, length, string_bytes, IfOk, OnOk};
+ghost use Rattle.std.specs.Prelude.{IsOkUnless};
 ghost use Rattle.std.specs.List.{zip, All};
 ghost use Rattle.elasticlunr_trie.specs.Table.{IsTable};
 ghost use Rattle.elasticlunr_error.specs.declared.error.IndexError.TheVariants.{Memory};

@@ -37,7 +37,8 @@ pub fn write_index<W: Tokens>(
 // Writes the members that say how the index was built, and the end of the object.
 fn write_settings<W: Tokens>(parts: Parts<'_>, out: &mut W) -> Result<(), AllocError>
     ensures { OnOk result (W.Tokens.written out.new
-        ≡ W.Tokens.written out.old ++ members_tokens (members_outline (settings_members (plan_of_parts parts.entry)))) }
+        ≡ W.Tokens.written out.old ++ members_tokens
+        (members_outline (settings_members (plan_of_parts parts.entry)))) }
 {
     out.token(Token::Key("lang"))?;
     out.token(Token::String(parts.language))?;
@@ -71,7 +72,8 @@ fn write_tries<W: Tokens>(
     tries: &BTreeMap<&str, &InvertedIndex>,
     out: &mut W,
 ) -> Result<(), AllocError>
-    ensures { OnOk result (WritesTries tries.now (W.Tokens.written out.old) (W.Tokens.written out.new)) }
+    ensures { OnOk result (WritesTries tries.now (W.Tokens.written out.old)
+        (W.Tokens.written out.new)) }
 {
     out.token(Token::BeginObject)?;
     for (name, trie) in tries.iter() {

@@ -13,7 +13,9 @@ use Rattle.elasticlunr.specs.Standing.{Plan}
 use Rattle.elasticlunr_search.specs.Fields.{HasStages, HasWholeTries}
 use Rattle.elasticlunr_search.specs.Refusal.{Lacks, NamesOther, RefusesOthers, RefusesValue, Refuses}
 use Rattle.elasticlunr_search.specs.declared.error.SearchError.{SearchError}
-use Rattle.elasticlunr_search.specs.declared.error.SearchError.TheVariants.{NotRead, OtherLanguage, OtherPipeline, BadFields, BadTries, BadStore, NoSuchField, Memory}
+use Rattle.elasticlunr_search.specs.declared.error.SearchError.TheVariants.{NotRead, OtherLanguage, OtherPipeline}
+use Rattle.elasticlunr_search.specs.declared.error.SearchError.TheVariants.{BadFields, BadTries, BadStore, NoSuchField}
+use Rattle.elasticlunr_search.specs.declared.error.SearchError.TheVariants.{Memory}
 use Rattle.elasticlunr_search.proofs.Stages.{stages_held}
 use Rattle.elasticlunr_search.proofs.Whole.{of_parts}
 
@@ -22,29 +24,40 @@ abbrev pub FieldsOnce : Type 0
 FieldsOnce = (v : Data) (names others : List Bytes) → HasFields v names → HasFields v others → names ≡ others
 
 -- a value that has its parts lacks none
-lacks_none : FieldsOnce → (v : Data) (fields : List Bytes) (tables : List Table) (contents : Contents) → HasParts v fields tables contents
+lacks_none : FieldsOnce → (v : Data) (fields : List Bytes) (tables : List Table) (contents : Contents)
+    → HasParts v fields tables contents
     → IsConsistent contents → (e : SearchError) → Lacks v e → e ≡ Memory
 lacks_none once v fields tables contents has are NotRead lacks = absurd lacks
 lacks_none once v fields tables contents has are OtherLanguage lacks = absurd lacks
 lacks_none once v fields tables contents has are OtherPipeline lacks = absurd lacks
 lacks_none once v fields tables contents has are BadFields lacks = absurd (lacks fields has.fields)
-lacks_none once v fields tables contents has are BadTries lacks = absurd (lacks.2 tables (subst (λ ns. HasWholeTries v ns tables) (once v fields lacks.0 has.fields lacks.1) (of_parts v fields tables contents has are).tries))
+lacks_none once v fields tables contents has are BadTries lacks =
+    absurd (lacks.2 tables (subst (λ ns. HasWholeTries v ns tables) (once v fields lacks.0 has.fields lacks.1)
+    (of_parts v fields tables contents has are).tries))
 lacks_none once v fields tables contents has are BadStore lacks = absurd (lacks contents are has.store)
 lacks_none once v fields tables contents has are NoSuchField lacks = absurd lacks
 lacks_none once v fields tables contents has are Memory lacks = refl
 
 -- a printed text is refused out of memory, for its depth, for its language, or for its stages
 pub accepted : ((v : Data) (name other : Bytes) → HasLanguage v name → HasLanguage v other → name ≡ other)
-    → FieldsOnce → (language : Bytes) (stages : List Bytes) (text : List ℕ) (e : SearchError) → Refuses language stages text e → (plan : Plan) (commands : Commands) (p : IsPrintOf plan commands text)
-    → HasParts p.value plan.fields p.tables p.contents → HasLanguage p.value plan.language → (e ≡ Memory) ⊎ (((e ≡ NotRead) × (max_depth < depth p.value)) ⊎ (((e ≡ OtherLanguage) × (plan.language ≢ language)) ⊎ ((e ≡ OtherPipeline) × (plan.stages ≢ stages))))
+    → FieldsOnce → (language : Bytes) (stages : List Bytes) (text : List ℕ) (e : SearchError)
+    → Refuses language stages text e → (plan : Plan) (commands : Commands) (p : IsPrintOf plan commands text)
+    → HasParts p.value plan.fields p.tables p.contents → HasLanguage p.value plan.language → (e ≡ Memory)
+    ⊎ (((e ≡ NotRead) × (max_depth < depth p.value))
+    ⊎ (((e ≡ OtherLanguage) × (plan.language ≢ language)) ⊎ ((e ≡ OtherPipeline) × (plan.stages ≢ stages))))
 accepted one once language stages text e refuses plan commands p has names = by_reading refuses where
   its_stages : HasStages p.value plan.stages
   its_stages = stages_held plan p.tables p.contents p.value p.printed
 
   by_value : RefusesValue language stages p.value e
-      → (e ≡ Memory) ⊎ (((e ≡ NotRead) × (max_depth < depth p.value)) ⊎ (((e ≡ OtherLanguage) × (plan.language ≢ language)) ⊎ ((e ≡ OtherPipeline) × (plan.stages ≢ stages))))
+      → (e ≡ Memory) ⊎ (((e ≡ NotRead) × (max_depth < depth p.value))
+      ⊎ (((e ≡ OtherLanguage) × (plan.language ≢ language)) ⊎ ((e ≡ OtherPipeline) × (plan.stages ≢ stages))))
   by_value r = elim r [
-    | inl other ↦ inr (inr (inl (other.0, λ same. other.1.2 (one p.value other.1.0 plan.language other.1.1 names ∙ same))))
+    | inl other ↦ inr (inr (inl (
+      other.0,
+      λ same. other.1.2 (one p.value other.1.0 plan.language other.1.1 names
+          ∙ same),
+    )))
     | inr more ↦ elim more [
       | inl others ↦ inr (inr (inr (others.0, λ same. others.1 (subst (HasStages p.value) same its_stages))))
       | inr lacks ↦ inl (lacks_none once p.value plan.fields p.tables p.contents has p.holds.store.are_contents e lacks)
@@ -52,14 +65,16 @@ accepted one once language stages text e refuses plan commands p has names = by_
   ]
 
   by_reading : Refuses language stages text e
-      → (e ≡ Memory) ⊎ (((e ≡ NotRead) × (max_depth < depth p.value)) ⊎ (((e ≡ OtherLanguage) × (plan.language ≢ language)) ⊎ ((e ≡ OtherPipeline) × (plan.stages ≢ stages))))
+      → (e ≡ Memory) ⊎ (((e ≡ NotRead) × (max_depth < depth p.value))
+      ⊎ (((e ≡ OtherLanguage) × (plan.language ≢ language)) ⊎ ((e ≡ OtherPipeline) × (plan.stages ≢ stages))))
   by_reading r = elim r [
     | inl none ↦ elim (cases_lt max_depth (depth p.value)) [
       | inl deep ↦ inr (inl (none.0, deep))
       | inr shallow ↦ (let wrong : None ≡ Some p.value = sym none.1 ∙ p.read_as.reads shallow in absurd (cc))
     ]
     | inr more ↦ elim more [
-      | inl value ↦ by_value (subst (λ w. RefusesValue language stages w e) (p.read_as.no_other_within value.1.0 value.0 value.1.1) value.2)
+      | inl value ↦ by_value (subst (λ w. RefusesValue language stages w e)
+          (p.read_as.no_other_within value.1.0 value.0 value.1.1) value.2)
       | inr m ↦ inl m
     ]
   ]
@@ -70,10 +85,22 @@ module _ {T : Type 0} (language : Bytes) (stages : List Bytes) (v : Data) (r : R
   others_by_memory is = record { other_language = λ other. inr is; other_stages = λ not_other none. inr is }
 
   pub others_by_language : r ≡ Err OtherLanguage → NamesOther language v → RefusesOthers language stages v r
-  others_by_language is other = record { other_language = λ _. inl is; other_stages = λ not_other none. absurd (not_other other) }
+  others_by_language is other = record {
+    other_language = λ _. inl is;
+    other_stages = λ not_other none. absurd
+        (not_other other);
+  }
 
   pub others_by_stages : r ≡ Err OtherPipeline → ¬ NamesOther language v → RefusesOthers language stages v r
-  others_by_stages is not_other = record { other_language = λ other. absurd (not_other other); other_stages = λ _ none. inl is }
+  others_by_stages is not_other = record {
+    other_language = λ other. absurd (not_other other);
+    other_stages =
+        λ _ none. inl is;
+  }
 
   pub no_others : ¬ NamesOther language v → HasStages v stages → RefusesOthers language stages v r
-  no_others not_other has = record { other_language = λ other. absurd (not_other other); other_stages = λ _ none. absurd (none has) }
+  no_others not_other has = record {
+    other_language = λ other. absurd (not_other other);
+    other_stages = λ _ none. absurd
+        (none has);
+  }

@@ -1,10 +1,12 @@
 -- A value without fractions, and the parts of an index in it.
-use Rattle.std.proofs.Common.{◌≡◌, List, [], ◌∷◌, ◌++◌, Bool, true, false, ◌||◌, true≢false, Option, None, Some, Ordering, Less, Equal, Greater, codes, refl, sym, ap, subst, ◌∙◌}
+use Rattle.std.proofs.Common.{◌≡◌, List, [], ◌∷◌, ◌++◌, Bool, true, false, ◌||◌, true≢false, Option, None, Some}
+use Rattle.std.proofs.Common.{Ordering, Less, Equal, Greater, codes, refl, sym, ap, subst, ◌∙◌}
 use Rattle.std.specs.Prelude.{ℕ, IsSomeAnd}
 use Rattle.std.specs.List.{AllZip}
 use Rattle.std.specs.Ordering.{match_ordering, nat_cmp}
 use Rattle.std.specs.Cmp.Lexicographic.{slice_cmp}
-use Rattle.serde_json.specs.Data.{Data, null, boolean, number, unsigned, negative, float, string, array, object, Items, no_items, item, Members, no_members, member, put}
+use Rattle.serde_json.specs.Data.{Data, null, boolean, number, unsigned, negative, float, string, array, object, Items}
+use Rattle.serde_json.specs.Data.{no_items, item, Members, no_members, member, put}
 use Rattle.serde_json.specs.Find.{get, get_member}
 use Rattle.serde_json.specs.View.{view, items_view}
 use Rattle.serde_json.specs.Written.{has_float, items_have_float, members_have_float}
@@ -54,13 +56,15 @@ mutual
       λ i. member k (with_ones_same d none.0 i) (members_same ms none.1 i)
 
 -- what stands in a value without fractions has none
-no_float_member : (k : List ℕ) (ms : Members) (d : Data) → get_member k ms ≡ Some d → members_have_float ms ≡ false → has_float d ≡ false
+no_float_member : (k : List ℕ) (ms : Members) (d : Data) → get_member k ms ≡ Some d → members_have_float ms ≡ false
+    → has_float d ≡ false
 no_float_member k no_members d at none = absurd (cc (at))
 no_float_member k (member l e ms) d at none =
     let parts = neither (has_float e) (members_have_float ms) none in
     by (slice_cmp nat_cmp k l) at parts.0 (λ is. no_float_member k ms d is parts.1)
   where
-    by : (o : Ordering) → match_ordering o (get_member k ms) (Some e) (get_member k ms) ≡ Some d → has_float e ≡ false → (get_member k ms ≡ Some d → has_float d ≡ false) → has_float d ≡ false
+    by : (o : Ordering) → match_ordering o (get_member k ms) (Some e) (get_member k ms) ≡ Some d → has_float e ≡ false
+        → (get_member k ms ≡ Some d → has_float d ≡ false) → has_float d ≡ false
     by Less is here later = later is
     by Equal is here later = let same : e ≡ d = cc (is) in ap has_float (sym same) ∙ here
     by Greater is here later = later is
@@ -74,7 +78,8 @@ no_float_at k (array ds) d at none = absurd (cc (at))
 no_float_at k (object ms) d at none = no_float_member k ms d at none
 
 -- one item more
-pub items_more : (xs vs : List Value) (x v : Value) → items_view xs ≡ items_with_ones (items_view vs) → view x ≡ with_ones (view v)
+pub items_more : (xs vs : List Value) (x v : Value) → items_view xs ≡ items_with_ones (items_view vs) → view x
+    ≡ with_ones (view v)
     → items_view (xs ++ x ∷ []) ≡ items_with_ones (items_view (vs ++ v ∷ []))
 items_more [] [] x v so_far here = ap (λ d. item d no_items) here
 items_more [] (w ∷ vs) x v so_far here = absurd (cc (so_far))
@@ -86,25 +91,34 @@ items_more (y ∷ xs) (w ∷ vs) x v so_far here =
     λ i. item (first i) (more i)
 
 -- one member more
-pub put_with_ones : (k : List ℕ) (d : Data) (ms : Members) → put k (with_ones d) (members_with_ones ms) ≡ members_with_ones (put k d ms)
+pub put_with_ones : (k : List ℕ) (d : Data) (ms : Members) → put k (with_ones d) (members_with_ones ms)
+    ≡ members_with_ones (put k d ms)
 put_with_ones k d no_members = refl
 put_with_ones k d (member l e ms) = by (slice_cmp nat_cmp k l) (put_with_ones k d ms) where
   by : (o : Ordering) → put k (with_ones d) (members_with_ones ms) ≡ members_with_ones (put k d ms)
-      → match_ordering o (member k (with_ones d) (member l (with_ones e) (members_with_ones ms))) (member l (with_ones d) (members_with_ones ms)) (member l (with_ones e) (put k (with_ones d) (members_with_ones ms)))
+      → match_ordering o (member k (with_ones d) (member l (with_ones e) (members_with_ones ms)))
+      (member l (with_ones d) (members_with_ones ms))
+      (member l (with_ones e) (put k (with_ones d) (members_with_ones ms)))
       ≡ members_with_ones (match_ordering o (member k d (member l e ms)) (member l d ms) (member l e (put k d ms)))
   by Less later = refl
   by Equal later = refl
   by Greater later = ap (member l (with_ones e)) later
 
 -- the trie under a name
-pub rounded_trie : (index d : Data) (name : Bytes) (T : Table) → Some d ≡ get name index → IsTable T → IsTrieValue T (with_ones d) → HasWholeTrie index name T
-rounded_trie index d name T at is_table is = (is_table, subst (λ o. IsSomeAnd o (λ trie. IsTrieValue T (with_ones trie))) at is)
+pub rounded_trie : (index d : Data) (name : Bytes) (T : Table) → Some d ≡ get name index → IsTable T
+    → IsTrieValue T (with_ones d) → HasWholeTrie index name T
+rounded_trie index d name T at is_table is =
+    (is_table, subst (λ o. IsSomeAnd o (λ trie. IsTrieValue T (with_ones trie))) at is)
 
-pub trie_read : (index d : Data) (name : Bytes) (T : Table) → Some d ≡ get name index → IsTable T → IsTrieValue T d → HasWholeTrie index name T
-trie_read index d name T at is_table is = rounded_trie index d name T at is_table (subst (IsTrieValue T) (sym (with_ones_same d (one.no_float T d is))) is)
+pub trie_read : (index d : Data) (name : Bytes) (T : Table) → Some d ≡ get name index → IsTable T → IsTrieValue T d
+    → HasWholeTrie index name T
+trie_read index d name T at is_table is = rounded_trie index d name T at is_table
+    (subst (IsTrieValue T) (sym (with_ones_same d (one.no_float T d is))) is)
 
-pub no_trie_read : (index d : Data) (name : Bytes) → Some d ≡ get name index → ((T : Table) → IsTable T → ¬ IsTrieValue T (with_ones d)) → (T : Table) → ¬ HasWholeTrie index name T
-no_trie_read index d name at none T has = none T has.0 (subst (λ o. IsSomeAnd o (λ trie. IsTrieValue T (with_ones trie))) (sym at) has.1)
+pub no_trie_read : (index d : Data) (name : Bytes) → Some d ≡ get name index
+    → ((T : Table) → IsTable T → ¬ IsTrieValue T (with_ones d)) → (T : Table) → ¬ HasWholeTrie index name T
+no_trie_read index d name at none T has =
+    none T has.0 (subst (λ o. IsSomeAnd o (λ trie. IsTrieValue T (with_ones trie))) (sym at) has.1)
 
 -- tries without fractions are tries of the same tables
 whole_trie : (index : Data) (name : Bytes) (T : Table) → HasTrie index name T → HasWholeTrie index name T
@@ -113,33 +127,47 @@ whole_trie index name T has = (has.0, at (get name index) has.1) where
   at None is = absurd is
   at (Some d) is = subst (IsTrieValue T) (sym (with_ones_same d (one.no_float T d is))) is
 
-exact_trie : (index : Data) → has_float index ≡ false → (name : Bytes) (T : Table) → HasWholeTrie index name T → HasTrie index name T
+exact_trie : (index : Data) → has_float index ≡ false → (name : Bytes) (T : Table) → HasWholeTrie index name T
+    → HasTrie index name T
 exact_trie index none name T has = (has.0, at (get name index) refl has.1) where
-  at : (o : Option Data) → get name index ≡ o → IsSomeAnd o (λ trie. IsTrieValue T (with_ones trie)) → IsSomeAnd o (IsTrieValue T)
+  at : (o : Option Data) → get name index ≡ o → IsSomeAnd o (λ trie. IsTrieValue T (with_ones trie))
+      → IsSomeAnd o (IsTrieValue T)
   at None there is = absurd is
   at (Some d) there is = subst (IsTrieValue T) (with_ones_same d (no_float_at name index d there none)) is
 
-whole_tries : (v : Data) (names : List Bytes) (tables : List Table) → HasTries v names tables → HasWholeTries v names tables
+whole_tries : (v : Data) (names : List Bytes) (tables : List Table) → HasTries v names tables
+    → HasWholeTries v names tables
 whole_tries v names tables has = at (get (codes "index") v) has where
-  at : (o : Option Data) → IsSomeAnd o (λ index. AllZip (HasTrie index) names tables) → IsSomeAnd o (λ index. AllZip (HasWholeTrie index) names tables)
+  at : (o : Option Data) → IsSomeAnd o (λ index. AllZip (HasTrie index) names tables)
+      → IsSomeAnd o (λ index. AllZip (HasWholeTrie index) names tables)
   at None is = absurd is
   at (Some index) is = each_weaker (HasTrie index) (HasWholeTrie index) (whole_trie index) names tables is
 
-exact_tries : (v : Data) (names : List Bytes) (tables : List Table) → has_float v ≡ false → HasWholeTries v names tables → HasTries v names tables
+exact_tries : (v : Data) (names : List Bytes) (tables : List Table) → has_float v ≡ false → HasWholeTries v names tables
+    → HasTries v names tables
 exact_tries v names tables none has = at (get (codes "index") v) refl has where
-  at : (o : Option Data) → get (codes "index") v ≡ o → IsSomeAnd o (λ index. AllZip (HasWholeTrie index) names tables) → IsSomeAnd o (λ index. AllZip (HasTrie index) names tables)
+  at : (o : Option Data) → get (codes "index") v ≡ o → IsSomeAnd o (λ index. AllZip (HasWholeTrie index) names tables)
+      → IsSomeAnd o (λ index. AllZip (HasTrie index) names tables)
   at None there is = absurd is
-  at (Some index) there is = each_weaker (HasWholeTrie index) (HasTrie index) (exact_trie index (no_float_at (codes "index") v index there none)) names tables is
+  at (Some index) there is = each_weaker (HasWholeTrie index) (HasTrie index)
+      (exact_trie index (no_float_at (codes "index") v index there none)) names tables is
 
 -- what has its parts is of an index, and where nothing is a fraction, the other way round
-pub of_parts : (v : Data) (names : List Bytes) (tables : List Table) (contents : Contents) → HasParts v names tables contents → IsConsistent contents → IsIndexOf v names tables contents
-of_parts v names tables contents has are = record { fields = has.fields; tries = whole_tries v names tables has.tries; store = has.store; consistent = are }
+pub of_parts : (v : Data) (names : List Bytes) (tables : List Table) (contents : Contents)
+    → HasParts v names tables contents → IsConsistent contents → IsIndexOf v names tables contents
+of_parts v names tables contents has are =
+    record { fields = has.fields; tries = whole_tries v names tables has.tries; store = has.store; consistent = are }
 
-pub parts_of : (v : Data) (names : List Bytes) (tables : List Table) (contents : Contents) → has_float v ≡ false → IsIndexOf v names tables contents → HasParts v names tables contents
-parts_of v names tables contents none is = record { fields = is.fields; tries = exact_tries v names tables none is.tries; store = is.store }
+pub parts_of : (v : Data) (names : List Bytes) (tables : List Table) (contents : Contents) → has_float v ≡ false
+    → IsIndexOf v names tables contents → HasParts v names tables contents
+parts_of v names tables contents none is =
+    record { fields = is.fields; tries = exact_tries v names tables none is.tries; store = is.store }
 
 -- so it is of a printed text, whose value has none
-pub print_parts : (plan : Plan) (commands : Commands) (text : List ℕ) (v : Data) (names : List Bytes) (tables : List Table) (contents : Contents) → IsPrintOf plan commands text → ReadsAs text v → IsIndexOf v names tables contents → HasParts v names tables contents
+pub print_parts : (plan : Plan) (commands : Commands) (text : List ℕ) (v : Data) (names : List Bytes)
+    (tables : List Table) (contents : Contents) → IsPrintOf plan commands text → ReadsAs text v
+    → IsIndexOf v names tables contents → HasParts v names tables contents
 print_parts plan commands text v names tables contents print reads is =
     let none = no_float print.value (value_plain plan print.tables print.contents print.value print.printed) in
-    parts_of v names tables contents (subst (λ d. has_float d ≡ false) (sym (print.read_as.no_other_within reads.0 v reads.1)) none) is
+    parts_of v names tables contents (subst (λ d. has_float d ≡ false)
+    (sym (print.read_as.no_other_within reads.0 v reads.1)) none) is

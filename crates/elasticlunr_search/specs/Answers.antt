@@ -23,12 +23,16 @@ use Rattle.serde_json.specs.Data.{Data, string}
 use Rattle.serde_json.specs.Find.{get}
 use Rattle.serde_json.specs.Read.{read}
 
--- whatever printed text the value is of, these references are found of the query in the field, where this language read the documents
+-- whatever printed text the value is of, these references are found of the query in the field,
+-- where this language read the documents
 abbrev pub AreFoundBy : AnyLanguage → Data → Request → List Bytes → Type 0
-AreFoundBy language v request found = (plan : Plan) (commands : Commands) (text : List ℕ) → ReadsAs text v → IsPrintOf plan commands text
-    → FindsInField (KeptReads language) request.join plan commands request.field.now request.query.now found
+AreFoundBy language v request found = (plan : Plan) (commands : Commands) (text : List ℕ)
+    → ReadsAs text v → IsPrintOf plan commands text
+    → FindsInField (KeptReads language) request.join plan commands request.field.now
+    request.query.now found
 
--- the value is that of an index with the field, and these references are found in the field's trie by the language that the value names
+-- the value is that of an index with the field, and these references are found in the field's trie
+-- by the language that the value names
 pub record AreFoundOf (v : Data) (request : Request) (found : List Bytes) : Type 0 where
   pub fields : List Bytes
   pub tables : List Table
@@ -37,16 +41,23 @@ pub record AreFoundOf (v : Data) (request : Request) (found : List Bytes) : Type
   pub is_there : IsTrue (has_name request.field.now fields)
   pub language : AnyLanguage
   pub named : get (codes "lang") v ≡ Some (string (language_name language))
-  pub in_trie : FindsInTrie (KeptReads language) fields tables request.join request.field.now request.query.now found
+  pub in_trie : FindsInTrie (KeptReads language) fields tables request.join request.field.now
+      request.query.now found
   pub are_found : AreFoundBy language v request found
 
--- whatever printed text the value is of, these references have in one or more of the fields a token of the query, or each, where this language read the documents
-abbrev pub AreFoundWithinBy : AnyLanguage → Data → Join → (fields : List Bytes) → (query : Bytes) → (found : List Bytes) → Type 0
-AreFoundWithinBy language v join fields query found = (plan : Plan) (commands : Commands) (text : List ℕ) → ReadsAs text v → IsPrintOf plan commands text
+-- whatever printed text the value is of, these references have in one or more of the fields a token
+-- of the query, or each, where this language read the documents
+abbrev pub AreFoundWithinBy : AnyLanguage → Data → Join → (fields : List Bytes) → (query : Bytes)
+    → (found : List Bytes) → Type 0
+AreFoundWithinBy language v join fields query found = (plan : Plan) (commands : Commands)
+    (text : List ℕ) → ReadsAs text v → IsPrintOf plan commands text
     → FindsWithinFields (KeptReads language) join plan commands fields query found
 
--- the value is that of an index, and the text has the lines of those that have, by the language that it names, a token of the query, or each, in the field of this name or else in one or more of all
-pub record AreLinesFound (v : Data) (join : Join) (field : Option Bytes) (query text : Bytes) : Type 0 where
+-- the value is that of an index, and the text has the lines of those that have, by the language
+-- that it names, a token of the query, or each, in the field of this name or else in one or more of
+-- all
+pub record AreLinesFound (v : Data) (join : Join) (field : Option Bytes) (query text : Bytes) : Type
+    0 where
   pub fields : List Bytes
   pub tables : List Table
   pub contents : Contents
@@ -55,7 +66,8 @@ pub record AreLinesFound (v : Data) (join : Join) (field : Option Bytes) (query 
   pub language : AnyLanguage
   pub named : get (codes "lang") v ≡ Some (string (language_name language))
   pub found : List Bytes
-  pub in_tries : FindsWithin (KeptReads language) fields tables join (asked_fields field fields) query found
+  pub in_tries : FindsWithin (KeptReads language) fields tables join (asked_fields field fields)
+      query found
   pub are_found : AreFoundWithinBy language v join (asked_fields field fields) query found
   pub are_lines : text ≡ lines found
 
@@ -64,13 +76,15 @@ is_line_feed byte = byte == 10
 
 -- the first line is the request
 abbrev pub Asks : Bytes → Request → Type 0
-Asks input request = (asked : Data) × (read (before_first is_line_feed input) ≡ Some asked) × IsRequest asked request.field.now request.query.now request.join
+Asks input request = (asked : Data) × (read (before_first is_line_feed input) ≡ Some asked)
+    × IsRequest asked request.field.now request.query.now request.join
 
 -- what stands below the first line has this value
 abbrev pub HasBelow : Bytes → Data → Type 0
 HasBelow input index = ReadsAs (after_first is_line_feed input) index
 
--- the first line is a request, and what stands below it the text of an index, of which these lines are found
+-- the first line is a request, and what stands below it the text of an index, of which these lines
+-- are found
 pub record IsFoundBelow (input text : Bytes) : Type 0 where
   pub request : Request
   pub index : Data

@@ -18,14 +18,18 @@ HasStages v stages = get (codes "pipeline") v ≡ Some (array (texts stages))
 
 -- under this name it has, with 1 instead of each fraction, the trie value of this table
 abbrev pub HasWholeTrie : Data → Bytes → Table → Type 0
-HasWholeTrie index name table = IsTable table × IsSomeAnd (get name index) (λ trie. IsTrieValue table (with_ones trie))
+HasWholeTrie index name table = IsTable table
+    × IsSomeAnd (get name index) (λ trie. IsTrieValue table (with_ones trie))
 
 -- under `index` it has so, under each name, the table at the same place
 abbrev pub HasWholeTries : Data → List Bytes → List Table → Type 0
-HasWholeTries v names tables = IsSomeAnd (get (codes "index") v) (λ index. AllZip (HasWholeTrie index) names tables)
+HasWholeTries v names tables = IsSomeAnd (get (codes "index") v)
+    (λ index. AllZip (HasWholeTrie index) names tables)
 
--- the value is that of an index: it has these names, tables and contents, and the contents are consistent
-pub record IsIndexOf (v : Data) (names : List Bytes) (tables : List Table) (contents : Contents) : Type 0 where
+-- the value is that of an index: it has these names, tables and contents, and the contents are
+-- consistent
+pub record IsIndexOf (v : Data) (names : List Bytes) (tables : List Table) (contents : Contents) :
+    Type 0 where
   pub fields : HasFields v names
   pub tries : HasWholeTries v names tables
   pub store : HasStore v contents
@@ -33,7 +37,8 @@ pub record IsIndexOf (v : Data) (names : List Bytes) (tables : List Table) (cont
 
 -- the value is that of an index with fields of these names
 abbrev pub IsIndexWith : Data → List Bytes → Type 0
-IsIndexWith v names = (tables : List Table) × (contents : Contents) × IsIndexOf v names tables contents
+IsIndexWith v names = (tables : List Table) × (contents : Contents)
+    × IsIndexOf v names tables contents
 
 -- the value is that of an index with no field of this name
 abbrev pub HasNoField : Data → Bytes → Type 0

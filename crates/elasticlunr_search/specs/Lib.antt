@@ -11,6 +11,6 @@ pub mod Answers
 pub mod Unanswered
 pub mod SameText
 pub mod Source
-pub mod Anew
+pub mod RebuiltIndex
 pub mod AfterCalls
 pub mod Reading

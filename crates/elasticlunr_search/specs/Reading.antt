@@ -3,6 +3,7 @@ use Rattle.std.specs.Prelude.{◌≡◌, ℕ, List, Some}
 use Rattle.elasticlunr.specs.Printed.{read_within}
 use Rattle.serde_json.specs.Data.{Data}
 
--- a JSON reader reads the text as this value: `serde_json`, which goes 127 steps deep, or one that goes deeper. All that read the text read one value.
+-- a JSON reader reads the text as this value: `serde_json`, which goes 127 steps deep, or one that
+-- goes deeper. All that read the text read one value.
 abbrev pub ReadsAs : (text : List ℕ) → Data → Type 0
 ReadsAs text v = (limit : ℕ) × (read_within limit text ≡ Some v)

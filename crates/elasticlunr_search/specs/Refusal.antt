@@ -12,7 +12,11 @@ use Rattle.elasticlunr_search.specs.Reading.{ReadsAs}
 use Rattle.serde_json.specs.Data.{Data, depth}
 use Rattle.serde_json.specs.Read.{read, max_depth}
 use Rattle.elasticlunr_search.specs.declared.error.SearchError.{SearchError}
-use Rattle.elasticlunr_search.specs.declared.error.SearchError.TheVariants.{NotRead, OtherLanguage, OtherPipeline, BadFields, BadTries, BadStore, NoSuchField, Memory}
+use Rattle.elasticlunr_search.specs.declared.error.SearchError.TheVariants.{NotRead, OtherLanguage}
+use Rattle.elasticlunr_search.specs.declared.error.SearchError.TheVariants.{OtherPipeline}
+use Rattle.elasticlunr_search.specs.declared.error.SearchError.TheVariants.{BadFields, BadTries}
+use Rattle.elasticlunr_search.specs.declared.error.SearchError.TheVariants.{BadStore, NoSuchField}
+use Rattle.elasticlunr_search.specs.declared.error.SearchError.TheVariants.{Memory}
 
 -- it is out of memory, or this refusal, for this reason
 abbrev pub StopsBy : SearchError → Type 0 → SearchError → Type 0
@@ -28,29 +32,40 @@ Lacks v NotRead = ⊥
 Lacks v OtherLanguage = ⊥
 Lacks v OtherPipeline = ⊥
 Lacks v BadFields = (names : List Bytes) → ¬ HasFields v names
-Lacks v BadTries = (names : List Bytes) × HasFields v names × ((tables : List Table) → ¬ HasWholeTries v names tables)
+Lacks v BadTries = (names : List Bytes) × HasFields v names
+    × ((tables : List Table) → ¬ HasWholeTries v names tables)
 Lacks v BadStore = (contents : Contents) → IsConsistent contents → ¬ HasStore v contents
 Lacks v NoSuchField = ⊥
 Lacks v Memory = Unit {0}
 
--- why a searcher of the language of this name and of stages of these names refuses the value: it names another language, or has not these names of stages, or lacks a part
+-- why a searcher of the language of this name and of stages of these names refuses the value: it
+-- names another language, or has not these names of stages, or lacks a part
 abbrev pub RefusesValue : (language : Bytes) → (stages : List Bytes) → Data → SearchError → Type 0
-RefusesValue language stages v e = ((e ≡ OtherLanguage) × NamesOther language v) ⊎ (((e ≡ OtherPipeline) × ¬ HasStages v stages) ⊎ Lacks v e)
+RefusesValue language stages v e = ((e ≡ OtherLanguage) × NamesOther language v)
+    ⊎ (((e ≡ OtherPipeline) × ¬ HasStages v stages) ⊎ Lacks v e)
 
 -- why it refuses the text: `serde_json` does not read it, or its value is refused
 abbrev pub Refuses : (language : Bytes) → (stages : List Bytes) → List ℕ → SearchError → Type 0
-Refuses language stages text e = ((e ≡ NotRead) × (read text ≡ None)) ⊎ (((v : Data) × ReadsAs text v × RefusesValue language stages v e) ⊎ (e ≡ Memory))
+Refuses language stages text e = ((e ≡ NotRead) × (read text ≡ None))
+    ⊎ (((v : Data) × ReadsAs text v × RefusesValue language stages v e) ⊎ (e ≡ Memory))
 
--- why it refuses a text that was printed of an index: out of memory, as one that is not read, for its depth, or since the index has another language or other stages
+-- why it refuses a text that was printed of an index: out of memory, as one that is not read, for
+-- its depth, or since the index has another language or other stages
 abbrev pub RefusesPrint : (language : Bytes) → (stages : List Bytes) → List ℕ → SearchError → Type 0
-RefusesPrint language stages text e = (plan : Plan) (commands : Commands) (print : IsPrintOf plan commands text)
-    → (e ≡ Memory) ⊎ (((e ≡ NotRead) × (max_depth < depth print.value)) ⊎ (((e ≡ OtherLanguage) × (plan.language ≢ language)) ⊎ ((e ≡ OtherPipeline) × (plan.stages ≢ stages))))
+RefusesPrint language stages text e = (plan : Plan) (commands : Commands)
+    (print : IsPrintOf plan commands text)
+    → (e ≡ Memory) ⊎ (((e ≡ NotRead) × (max_depth < depth print.value))
+    ⊎ (((e ≡ OtherLanguage) × (plan.language ≢ language))
+    ⊎ ((e ≡ OtherPipeline) × (plan.stages ≢ stages))))
 
 -- it answers this refusal, or is out of memory
 abbrev pub IsRefusedBy : {T : Type 0} → Result T SearchError → SearchError → Type 0
 IsRefusedBy result refusal = (result ≡ Err refusal) ⊎ (result ≡ Err Memory)
 
--- a value of another language is refused as such, and one of this language, or of none, for other stages
-pub record RefusesOthers {T : Type 0} (language : Bytes) (stages : List Bytes) (v : Data) (result : Result T SearchError) : Type 0 where
+-- a value of another language is refused as such, and one of this language, or of none, for other
+-- stages
+pub record RefusesOthers {T : Type 0} (language : Bytes) (stages : List Bytes) (v : Data)
+    (result : Result T SearchError) : Type 0 where
   pub other_language : NamesOther language v → IsRefusedBy result OtherLanguage
-  pub other_stages : ¬ NamesOther language v → ¬ HasStages v stages → IsRefusedBy result OtherPipeline
+  pub other_stages : ¬ NamesOther language v → ¬ HasStages v stages
+      → IsRefusedBy result OtherPipeline

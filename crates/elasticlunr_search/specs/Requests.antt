@@ -11,7 +11,8 @@ join_text All = codes "all"
 
 -- the value is the array of this field, this query and this join
 abbrev pub IsRequest : Data → List ℕ → List ℕ → Join → Type 0
-IsRequest v field query join = v ≡ array (item (string field) (item (string query) (item (string (join_text join)) no_items)))
+IsRequest v field query join = v ≡ array
+    (item (string field) (item (string query) (item (string (join_text join)) no_items)))
 
 -- the value is no request
 abbrev pub IsNoRequest : Data → Type 0

@@ -10,7 +10,11 @@ use Rattle.elasticlunr_search.specs.Reading.{ReadsAs}
 use Rattle.elasticlunr_search.specs.Refusal.{Lacks}
 use Rattle.elasticlunr_search.specs.Requests.{IsNoRequest}
 use Rattle.elasticlunr_search.specs.declared.answer.Refusal.{Refusal}
-use Rattle.elasticlunr_search.specs.declared.answer.Refusal.TheVariants.{NotARequest, NotRead, UnknownLanguage, OtherPipeline, NoFields, NoTries, NoStore, NoSuchField, Memory}
+use Rattle.elasticlunr_search.specs.declared.answer.Refusal.TheVariants.{NotARequest, NotRead}
+use Rattle.elasticlunr_search.specs.declared.answer.Refusal.TheVariants.{UnknownLanguage}
+use Rattle.elasticlunr_search.specs.declared.answer.Refusal.TheVariants.{OtherPipeline, NoFields}
+use Rattle.elasticlunr_search.specs.declared.answer.Refusal.TheVariants.{NoTries, NoStore}
+use Rattle.elasticlunr_search.specs.declared.answer.Refusal.TheVariants.{NoSuchField, Memory}
 use Rattle.elasticlunr_search.specs.declared.error.SearchError.{SearchError}
 use Rattle.elasticlunr_search.specs.declared.error.SearchError.TheVariants as error
 use Rattle.elasticlunr_search.specs.declared.request.Request.{Request}
@@ -47,15 +51,19 @@ IsOneLine input = before_first is_line_feed input ≡ input
 
 -- the first line is no request
 abbrev pub AsksNothing : Bytes → Type 0
-AsksNothing input = (asked : Data) → read (before_first is_line_feed input) ≡ Some asked → IsNoRequest asked
+AsksNothing input = (asked : Data) → read (before_first is_line_feed input) ≡ Some asked
+    → IsNoRequest asked
 
 -- the value names no language
 abbrev pub NamesNone : Data → Type 0
-NamesNone v = All (λ language. get (codes "lang") v ≢ Some (string (language_name language))) all_languages
+NamesNone v = All (λ language. get (codes "lang") v ≢ Some (string (language_name language)))
+    all_languages
 
 -- its stages are not those of the language that it names
 abbrev pub HasOtherStages : Data → Type 0
-HasOtherStages v = (language : AnyLanguage) × (get (codes "lang") v ≡ Some (string (language_name language))) × ¬ HasStages v (language_stages language)
+HasOtherStages v = (language : AnyLanguage)
+    × (get (codes "lang") v ≡ Some (string (language_name language)))
+    × ¬ HasStages v (language_stages language)
 
 -- why the value is not searched in the field of this name, or else in all, out of memory aside
 abbrev pub IsNotSearched : Data → Option Bytes → Refusal → Type 0
@@ -75,9 +83,12 @@ IsTextNotSearched text field NotRead = read text ≡ None
 IsTextNotSearched text field Memory = Unit {0}
 IsTextNotSearched text field refusal = (v : Data) × ReadsAs text v × IsNotSearched v field refusal
 
--- why nothing is searched for the text: there is no request above a line feed; what stands below it is not JSON; or its value is not searched
+-- why nothing is searched for the text: there is no request above a line feed; what stands below it
+-- is not JSON; or its value is not searched
 abbrev pub IsRefusedBelow : Bytes → Refusal → Type 0
 IsRefusedBelow input NotARequest = IsOneLine input ⊎ AsksNothing input
-IsRefusedBelow input NotRead = (request : Request) × Asks input request × (read (after_first is_line_feed input) ≡ None)
+IsRefusedBelow input NotRead = (request : Request) × Asks input request
+    × (read (after_first is_line_feed input) ≡ None)
 IsRefusedBelow input Memory = Unit {0}
-IsRefusedBelow input refusal = (request : Request) × Asks input request × (v : Data) × HasBelow input v × IsNotSearched v (Some request.field.now) refusal
+IsRefusedBelow input refusal = (request : Request) × Asks input request × (v : Data)
+    × HasBelow input v × IsNotSearched v (Some request.field.now) refusal

@@ -1,13 +1,17 @@
 //! What is found for a text that has a request and an index, and in the value of an index.
-ghost use Rattle.std.specs.Prelude.{◌≡◌, ◌⊎◌, Some, None, IfOk, IfErr, IfSome, codes, option_map, string_bytes};
+ghost use Rattle.std.specs.Prelude.{◌≡◌, ◌⊎◌, Some, None, IfOk, IfErr, IfSome, codes, option_map};
+ghost use Rattle.std.specs.Prelude.{string_bytes};
 ghost use Rattle.elasticlunr_text.specs.Text.{bytes_of};
 ghost use Rattle.elasticlunr_lang.specs.Known.{language_name};
 ghost use Rattle.elasticlunr_search.specs.Answers.{AreFoundOf, AreLinesFound, IsFoundBelow};
 ghost use Rattle.elasticlunr_search.specs.Lines.{lines};
 ghost use Rattle.elasticlunr_search.specs.Reading.{ReadsAs};
 ghost use Rattle.elasticlunr_search.specs.Source.{IsSource};
-ghost use Rattle.elasticlunr_search.specs.Unanswered.{IsNotSearched, IsRefusedBelow, IsTextNotSearched, NamesNone, refusal_text};
-ghost use Rattle.elasticlunr_search.specs.declared.answer.Refusal.TheVariants.{NotARequest, UnknownLanguage, Memory};
+ghost use Rattle.elasticlunr_search.specs.Unanswered.{IsNotSearched, IsRefusedBelow};
+ghost use Rattle.elasticlunr_search.specs.Unanswered.{IsTextNotSearched, NamesNone, refusal_text};
+ghost use Rattle.elasticlunr_search.specs.declared.answer.Refusal.TheVariants.{NotARequest};
+ghost use Rattle.elasticlunr_search.specs.declared.answer.Refusal.TheVariants.{UnknownLanguage};
+ghost use Rattle.elasticlunr_search.specs.declared.answer.Refusal.TheVariants.{Memory};
 ghost use Rattle.serde_json.specs.Data.{Data, string};
 ghost use Rattle.serde_json.specs.Find.{get};
 ghost use Rattle.serde_json.specs.Read.{read};
@@ -96,7 +100,8 @@ pub fn reason(refusal: Refusal) -> &'static str
     }
 }
 
-/// The lines of the references that are found: of a text whose first line is a request, with the text
+/// The lines of the references that are found: of a text whose first line is a request, with the
+/// text
 /// of an index below it.
 pub fn answer(alloc: Global, input: &str) -> Result<String, Refusal>
     ensures found { IfOk result (λ text. IsFoundBelow input.now (string_bytes text)) }
@@ -128,7 +133,8 @@ fn json(alloc: Global, line: &str) -> Result<Value, Refusal>
 
 /// The references that are found in an index, by the language that it names.
 fn find_in(alloc: Global, request: &Request<'_>, source: Source) -> Result<Vec<String>, Refusal>
-    ensures found { IfOk result (λ found. (v : Data) → IsSource source v → AreFoundOf v request.now (bytes_of found.items)) }
+    ensures found { IfOk result (λ found. (v : Data) → IsSource source v
+        → AreFoundOf v request.now (bytes_of found.items)) }
     ensures refused { IfErr result (λ e. (v : Data) → IsSource source v
         → IsNotSearched v (Some request.now.field.now) e) }
 {
@@ -140,7 +146,8 @@ fn find_in(alloc: Global, request: &Request<'_>, source: Source) -> Result<Vec<S
 }
 
 /// The lines of the references that are found in the text of an index, by the language that it
-/// names: that have one of the query's tokens, or each, in the field of this name, or else in one or
+/// names: that have one of the query's tokens, or each, in the field of this name, or else in one
+/// or
 /// more of all.
 pub fn lines_found(
     alloc: Global,
@@ -150,8 +157,10 @@ pub fn lines_found(
     query: &str,
 ) -> Result<String, Refusal>
     ensures found { IfOk result (λ lines. (v : Data) × ReadsAs text.now v
-        × AreLinesFound v join (option_map (λ f. f.now) field.entry) query.now (string_bytes lines)) }
-    ensures refused { IfErr result (IsTextNotSearched text.now (option_map (λ f. f.now) field.entry)) }
+        × AreLinesFound v join (option_map (λ f. f.now) field.entry) query.now
+        (string_bytes lines)) }
+    ensures refused { IfErr result (IsTextNotSearched text.now
+        (option_map (λ f. f.now) field.entry)) }
 {
     printed_texts_have_their_parts();
     let source = Source::of_text(alloc, text)?;
@@ -165,7 +174,8 @@ pub fn lines_found(
 fn language_of(source: &Source) -> Result<AnyLanguage, Refusal>
     ensures named { IfOk result (λ language. (v : Data) → IsSource source.now v
         → get (codes "lang") v ≡ Some (string (language_name language))) }
-    ensures none { IfErr result (λ e. (e ≡ UnknownLanguage) × ((v : Data) → IsSource source.now v → NamesNone v)) }
+    ensures none { IfErr result (λ e. (e ≡ UnknownLanguage)
+        × ((v : Data) → IsSource source.now v → NamesNone v)) }
 {
     let Some(name) = source.language() else {
         return Err(Refusal::UnknownLanguage);

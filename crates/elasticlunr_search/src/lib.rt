@@ -6,13 +6,13 @@
 //! reads a request and an index from one text, [`answer::lines_found`] finds in an index's value.
 #![tactic(auto)]
 
-mod anew;
 pub mod answer;
 mod error;
 pub mod laws;
 mod parts;
 mod printed;
 mod rebuild;
+mod rebuilt_index;
 mod request;
 mod rounding;
 mod same_text;

@@ -1,5 +1,6 @@
 //! The parts of a printed index, out of its value.
-ghost use Rattle.std.specs.Prelude.{◌≡◌, ◌≢◌, ◌↔◌, List, IsTrue, Some, None, IfOk, IfErr, IfSome, IsNone};
+ghost use Rattle.std.specs.Prelude.{◌≡◌, ◌≢◌, ◌↔◌, List, IsTrue, Some, None, IfOk, IfErr, IfSome};
+ghost use Rattle.std.specs.Prelude.{IsNone};
 ghost use Rattle.elasticlunr_text.specs.Text.{Bytes, bytes_of};
 ghost use Rattle.elasticlunr_trie.specs.Table.{Table, IsTable};
 ghost use Rattle.elasticlunr_trie.specs.Tree.{IsTrieValue};
@@ -9,7 +10,10 @@ ghost use Rattle.elasticlunr.specs.Shape.{HasFields, HasLanguage, HasStore};
 ghost use Rattle.elasticlunr_search.specs.Fields.{HasStages, HasWholeTrie, HasWholeTries};
 ghost use Rattle.elasticlunr_search.specs.Refusal.{NamesOther, StopsBy};
 ghost use Rattle.elasticlunr_search.specs.Whole.{with_ones};
-ghost use Rattle.elasticlunr_search.specs.declared.error.SearchError.TheVariants.{NotRead, BadFields, BadTries, BadStore};
+ghost use Rattle.elasticlunr_search.specs.declared.error.SearchError.TheVariants.{NotRead};
+ghost use Rattle.elasticlunr_search.specs.declared.error.SearchError.TheVariants.{BadFields};
+ghost use Rattle.elasticlunr_search.specs.declared.error.SearchError.TheVariants.{BadTries};
+ghost use Rattle.elasticlunr_search.specs.declared.error.SearchError.TheVariants.{BadStore};
 ghost use Rattle.serde_json.specs.Data.{array};
 ghost use Rattle.serde_json.specs.Read.{read};
 ghost use Rattle.serde_json.specs.View.{view};
@@ -80,7 +84,8 @@ pub(crate) fn are_same(names: &[String], others: &[String]) -> bool
 /// The names of the fields, in order.
 pub(crate) fn fields_of(alloc: Global, value: &Value) -> Result<Vec<String>, SearchError>
     ensures ok { IfOk result (λ names. HasFields (view value.now) (bytes_of names.items)) }
-    ensures err { IfErr result (StopsBy BadFields ((names : List Bytes) → ¬ HasFields (view value.now) names)) }
+    ensures err { IfErr result (StopsBy BadFields ((names : List Bytes)
+        → ¬ HasFields (view value.now) names)) }
 {
     match value.get("fields") {
         Some(fields) => names_of(alloc, fields),
@@ -91,7 +96,8 @@ pub(crate) fn fields_of(alloc: Global, value: &Value) -> Result<Vec<String>, Sea
 /// The names in an array of names.
 fn names_of(alloc: Global, value: &Value) -> Result<Vec<String>, SearchError>
     ensures ok { IfOk result (λ names. view value.now ≡ array (texts (bytes_of names.items))) }
-    ensures err { IfErr result (StopsBy BadFields ((names : List Bytes) → view value.now ≢ array (texts names))) }
+    ensures err { IfErr result (StopsBy BadFields ((names : List Bytes)
+        → view value.now ≢ array (texts names))) }
 {
     let Some(items) = value.as_array() else {
         return Err(SearchError::BadFields);
@@ -112,7 +118,8 @@ pub(crate) fn tries_of(
     names: &[String],
     value: &Value,
 ) -> Result<Vec<InvertedIndex>, SearchError>
-    ensures ok { IfOk result (λ tries. HasWholeTries (view value.now) (bytes_of names.now) tries.items) }
+    ensures ok { IfOk result (λ tries. HasWholeTries (view value.now) (bytes_of names.now)
+        tries.items) }
     ensures err { IfErr result (StopsBy BadTries ((tables : List Table)
         → ¬ HasWholeTries (view value.now) (bytes_of names.now) tables)) }
 {
@@ -129,7 +136,8 @@ pub(crate) fn tries_of(
 /// The trie under a name.
 fn trie_of(alloc: Global, name: &str, index: &Value) -> Result<InvertedIndex, SearchError>
     ensures ok { IfOk result (HasWholeTrie (view index.now) name.now) }
-    ensures err { IfErr result (StopsBy BadTries ((table : Table) → ¬ HasWholeTrie (view index.now) name.now table)) }
+    ensures err { IfErr result (StopsBy BadTries ((table : Table)
+        → ¬ HasWholeTrie (view index.now) name.now table)) }
 {
     let Some(value) = index.get(name) else {
         return Err(SearchError::BadTries);

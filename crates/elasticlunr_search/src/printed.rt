@@ -24,7 +24,8 @@ pub(crate) struct Printed {
 impl Printed {
     /// The parts of the value of an index.
     pub(crate) fn of_value(alloc: Global, value: &Value) -> Result<Printed, SearchError>
-        ensures parts { IfOk result (λ s. IsIndexOf (view value.now) (bytes_of s.fields.items) s.tries.items s.store) }
+        ensures parts { IfOk result (λ s. IsIndexOf (view value.now) (bytes_of s.fields.items)
+            s.tries.items s.store) }
         ensures lacks { IfErr result (Lacks (view value.now)) }
     {
         let fields = fields_of(alloc, value)?;

@@ -16,7 +16,8 @@ pub struct Request<'a> {
 
 /// The request that an array of a field, a query and `any` or `all` is.
 pub fn request_of(value: &Value) -> Option<Request<'_>>
-    ensures some { IfSome result (λ request. IsRequest (view value.now) request.field.now request.query.now request.join) }
+    ensures some { IfSome result (λ request. IsRequest (view value.now) request.field.now
+        request.query.now request.join) }
     ensures none { IsNone result → IsNoRequest (view value.now) }
 {
     let items = value.as_array()?;

@@ -1,5 +1,6 @@
 //! Tokens that are compared with those of a text.
-ghost use Rattle.std.specs.Prelude.{◌≡◌, ◌++◌, ◌∷◌, [], ⊤, true, false, Some, All, IfOk, option_map, decimal};
+ghost use Rattle.std.specs.Prelude.{◌≡◌, ◌++◌, ◌∷◌, [], ⊤, true, false, Some, All, IfOk};
+ghost use Rattle.std.specs.Prelude.{option_map, decimal};
 ghost use Rattle.json.specs.Lex.{tokens};
 ghost use Rattle.json.specs.Reads.{token_of as json_token_of};
 ghost use Rattle.json.specs.Token.{number};
@@ -59,7 +60,8 @@ impl<'a> SameText<'a> {
 
     /// Whether the tokens that were taken are all of this text.
     pub(crate) fn is_all_of(self, text: &str) -> bool
-        ensures { result ≡ true → (tokens text.now ≡ taken self.entry.0 self.entry.1) × All IsSmallToken (tokens text.now) }
+        ensures { result ≡ true → (tokens text.now ≡ taken self.entry.0 self.entry.1)
+            × All IsSmallToken (tokens text.now) }
     {
         let SameText {
             text: of,

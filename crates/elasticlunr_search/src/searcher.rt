@@ -1,5 +1,6 @@
 //! Searches of a printed index, by a query in its language.
-ghost use Rattle.std.specs.Prelude.{◌≡◌, ◌<◌, ◌⊎◌, ◌↔◌, ℕ, List, false, Some, Err, IfOk, IfErr, OnOk, IfSome, IsSome, IsTrue, length, option_map, slice_get};
+ghost use Rattle.std.specs.Prelude.{◌≡◌, ◌<◌, ◌⊎◌, ◌↔◌, ℕ, List, false, Some, Err, IfOk, IfErr};
+ghost use Rattle.std.specs.Prelude.{OnOk, IfSome, IsSome, IsTrue, length, option_map, slice_get};
 ghost use Rattle.elasticlunr_text.specs.Stages.{IsRunBy, LeavesBy, names_by};
 ghost use Rattle.elasticlunr_text.specs.Text.{bytes_of, texts_of};
 ghost use Rattle.elasticlunr_store.specs.Contents.{text_map};
@@ -13,9 +14,11 @@ ghost use Rattle.elasticlunr_search.specs.Query.{AreTokensOf, RunReads};
 ghost use Rattle.elasticlunr_search.specs.Tries.{tables_of};
 ghost use Rattle.elasticlunr_search.specs.Words.{asked_fields};
 ghost use Rattle.elasticlunr_search.specs.Reading.{ReadsAs};
-ghost use Rattle.elasticlunr_search.specs.Refusal.{Refuses, RefusesOthers, RefusesPrint, RefusesValue};
+ghost use Rattle.elasticlunr_search.specs.Refusal.{Refuses, RefusesOthers, RefusesPrint};
+ghost use Rattle.elasticlunr_search.specs.Refusal.{RefusesValue};
 ghost use Rattle.elasticlunr_search.specs.Source.{IsSource};
-ghost use Rattle.elasticlunr_search.specs.declared.error.SearchError.TheVariants.{NoSuchField, Memory};
+ghost use Rattle.elasticlunr_search.specs.declared.error.SearchError.TheVariants.{NoSuchField};
+ghost use Rattle.elasticlunr_search.specs.declared.error.SearchError.TheVariants.{Memory};
 ghost use Rattle.serde_json.specs.Data.{Data};
 ghost use Rattle.serde_json.specs.Read.{read};
 ghost use Rattle.serde_json.specs.View.{view};
@@ -51,11 +54,21 @@ pub struct Searcher<L> {
 }
 
 impl<L: Language> Searcher<L> {
-    ghost use Rattle.elasticlunr_search.specs.Standing.{fields_of, kept_texts, AreFound, AreFoundAsChosen, AreFoundInFields, AreFoundInTexts, AreFoundInTrie, AreFoundInTries, AreFoundOfTokens, AreFoundWithinFields, AreFoundWithinTries, AreTriesOf, FindsTokens, HasFieldsOf, HasPartsOf, IsChosen, LacksFieldOf, Searches, Speaks, StandsFor};
+    ghost use Rattle.elasticlunr_search.specs.Standing.{fields_of, kept_texts, AreFound};
+    ghost use Rattle.elasticlunr_search.specs.Standing.{AreFoundAsChosen, AreFoundInFields};
+    ghost use Rattle.elasticlunr_search.specs.Standing.{AreFoundInTexts, AreFoundInTrie};
+    ghost use Rattle.elasticlunr_search.specs.Standing.{AreFoundInTries, AreFoundOfTokens};
+    ghost use Rattle.elasticlunr_search.specs.Standing.{AreFoundWithinFields, AreFoundWithinTries};
+    ghost use Rattle.elasticlunr_search.specs.Standing.{AreTriesOf, FindsTokens, HasFieldsOf};
+    ghost use Rattle.elasticlunr_search.specs.Standing.{HasPartsOf, IsChosen, LacksFieldOf};
+    ghost use Rattle.elasticlunr_search.specs.Standing.{Searches, Speaks, StandsFor};
 
-    /// Reads the printed text of an index, in any layout, once. The index must have been built with
-    /// this language and its pipeline: a text that names another language or other stages is refused,
-    /// and one that names no language is read. It may nest as deep as it likes, if an index printed it;
+    /// Reads the printed text of an index, in any layout, once. The index must have been built
+    /// with
+    /// this language and its pipeline: a text that names another language or other stages is
+    /// refused,
+    /// and one that names no language is read. It may nest as deep as it likes, if an index
+    /// printed it;
     /// if others wrote it, or with more than a thousand fields, no deeper than `serde_json` reads.
     pub fn read(alloc: Global, language: L, text: &str) -> Result<Searcher<L>, SearchError>
         ensures stands { IfOk result (λ s. (plan : Plan) (commands : Commands)
@@ -63,8 +76,10 @@ impl<L: Language> Searcher<L> {
             → StandsFor L.leaves_of leaves s language plan commands) }
         ensures speaks { IfOk result (λ s. Speaks L.leaves_of leaves s language) }
         ensures parts { IfOk result (λ s. (v : Data) × ReadsAs text.now v × HasPartsOf v s) }
-        ensures refused { IfErr result (Refuses (L.name_of language) (L.stages_of language) text.now) }
-        ensures accepted { IfErr result (RefusesPrint (L.name_of language) (L.stages_of language) text.now) }
+        ensures refused { IfErr result (Refuses (L.name_of language) (L.stages_of language)
+            text.now) }
+        ensures accepted { IfErr result (RefusesPrint (L.name_of language) (L.stages_of language)
+            text.now) }
         ensures other { (v : Data) → read text.now ≡ Some v
             → RefusesOthers (L.name_of language) (L.stages_of language) v result }
     {
@@ -87,8 +102,10 @@ impl<L: Language> Searcher<L> {
             → IsPrintOf plan commands text.now → Searches s plan commands) }
         ensures chosen { IfOk result (λ s. IsChosen s language pipeline) }
         ensures parts { IfOk result (λ s. (v : Data) × ReadsAs text.now v × HasPartsOf v s) }
-        ensures refused { IfErr result (Refuses (L.name_of language) (names_by name_text pipeline) text.now) }
-        ensures accepted { IfErr result (RefusesPrint (L.name_of language) (names_by name_text pipeline) text.now) }
+        ensures refused { IfErr result (Refuses (L.name_of language) (names_by name_text pipeline)
+            text.now) }
+        ensures accepted { IfErr result
+            (RefusesPrint (L.name_of language) (names_by name_text pipeline) text.now) }
         ensures other { (v : Data) → read text.now ≡ Some v
             → RefusesOthers (L.name_of language) (names_by name_text pipeline) v result }
     {
@@ -105,8 +122,10 @@ impl<L: Language> Searcher<L> {
             → StandsFor L.leaves_of leaves s language plan commands) }
         ensures speaks { IfOk result (λ s. Speaks L.leaves_of leaves s language) }
         ensures parts { IfOk result (HasPartsOf (view value.now)) }
-        ensures refused { IfErr result (RefusesValue (L.name_of language) (L.stages_of language) (view value.now)) }
-        ensures other { RefusesOthers (L.name_of language) (L.stages_of language) (view value.now) result }
+        ensures refused { IfErr result (RefusesValue (L.name_of language) (L.stages_of language)
+            (view value.now)) }
+        ensures other { RefusesOthers (L.name_of language) (L.stages_of language) (view value.now)
+            result }
     {
         printed_texts_have_their_parts();
         let name = language.name(alloc)?;
@@ -186,16 +205,21 @@ impl<L: Language> Searcher<L> {
         &self.printed.fields
     }
 
-    /// `find_any` or `find_all`, as the join says: the references whose current document has in the
+    /// `find_any` or `find_all`, as the join says: the references whose current document has in
+    /// the
     /// field a token, or each token, that the query has.
     pub fn find(&self, join: Join, field: &str, query: &str) -> Result<Vec<String>, SearchError>
-        ensures no_field { (result ≡ Err NoSuchField) ↔ (has_name field.now (fields_of self.now) ≡ false) }
+        ensures no_field { (result ≡ Err NoSuchField)
+            ↔ (has_name field.now (fields_of self.now) ≡ false) }
         ensures errors { IfErr result (λ e. (e ≡ NoSuchField) ⊎ (e ≡ Memory)) }
-        ensures found { IfOk result (λ found. AreFoundInTexts L.tokens_of L.leaves_of leaves self.now
+        ensures found { IfOk result (λ found. AreFoundInTexts L.tokens_of L.leaves_of leaves
+            self.now
             join field.now query.now (bytes_of found.items)) }
-        ensures in_trie { IfOk result (λ found. AreFoundInTrie L.tokens_of L.leaves_of leaves self.now
+        ensures in_trie { IfOk result (λ found. AreFoundInTrie L.tokens_of L.leaves_of leaves
+            self.now
             join field.now query.now (bytes_of found.items)) }
-        ensures as_chosen { IfOk result (λ found. AreFoundAsChosen L.tokens_of L.leaves_of leaves self.now
+        ensures as_chosen { IfOk result (λ found. AreFoundAsChosen L.tokens_of L.leaves_of leaves
+            self.now
             join field.now query.now (bytes_of found.items)) }
     {
         documents_have_the_tokens_of_their_values::<L>();
@@ -205,7 +229,8 @@ impl<L: Language> Searcher<L> {
         }
     }
 
-    /// What `find` finds in one or more of these fields: each reference once, in the order of their
+    /// What `find` finds in one or more of these fields: each reference once, in the order of
+    /// their
     /// bytes. It costs what `find` costs in each of them.
     pub fn find_in(
         &self,
@@ -216,9 +241,11 @@ impl<L: Language> Searcher<L> {
         ensures no_field { result ≡ Err NoSuchField → LacksFieldOf self.now (borrowed fields.now) }
         ensures has_fields { OnOk result (HasFieldsOf self.now (borrowed fields.now)) }
         ensures errors { IfErr result (λ e. (e ≡ NoSuchField) ⊎ (e ≡ Memory)) }
-        ensures found { IfOk result (λ found. AreFoundInFields L.tokens_of L.leaves_of leaves self.now
+        ensures found { IfOk result (λ found. AreFoundInFields L.tokens_of L.leaves_of leaves
+            self.now
             join (borrowed fields.now) query.now (bytes_of found.items)) }
-        ensures in_tries { IfOk result (λ found. AreFoundInTries L.tokens_of L.leaves_of leaves self.now
+        ensures in_tries { IfOk result (λ found. AreFoundInTries L.tokens_of L.leaves_of leaves
+            self.now
             join (borrowed fields.now) query.now (bytes_of found.items)) }
     {
         let mut found = BTreeSet::new(self.alloc);
@@ -231,16 +258,19 @@ impl<L: Language> Searcher<L> {
     }
 
     /// The references whose current document has each of the query's tokens, of which there is one
-    /// at least, in one or more of these fields: one token in a title and another one in a body, too.
+    /// at least, in one or more of these fields: one token in a title and another one in a body,
+    /// too.
     /// Each once, in the order of their bytes. It costs the postings of the first token in each of
     /// the fields, and for each of these the look-ups of the others.
     pub fn find_across(&self, fields: &[&str], query: &str) -> Result<Vec<String>, SearchError>
         ensures no_field { result ≡ Err NoSuchField → LacksFieldOf self.now (borrowed fields.now) }
         ensures has_fields { OnOk result (HasFieldsOf self.now (borrowed fields.now)) }
         ensures errors { IfErr result (λ e. (e ≡ NoSuchField) ⊎ (e ≡ Memory)) }
-        ensures found { IfOk result (λ found. AreFoundWithinFields L.tokens_of L.leaves_of leaves self.now
+        ensures found { IfOk result (λ found. AreFoundWithinFields L.tokens_of L.leaves_of leaves
+            self.now
             Join.All (borrowed fields.now) query.now (bytes_of found.items)) }
-        ensures in_tries { IfOk result (λ found. AreFoundWithinTries L.tokens_of L.leaves_of leaves self.now
+        ensures in_tries { IfOk result (λ found. AreFoundWithinTries L.tokens_of L.leaves_of leaves
+            self.now
             Join.All (borrowed fields.now) query.now (bytes_of found.items)) }
     {
         postings_tell_tokens();
@@ -260,14 +290,17 @@ impl<L: Language> Searcher<L> {
         query: &str,
     ) -> Result<Vec<String>, SearchError>
         ensures no_field { result ≡ Err NoSuchField
-            → LacksFieldOf self.now (asked_fields (option_map (λ f. f.now) field.entry) (fields_of self.now)) }
+            → LacksFieldOf self.now (asked_fields (option_map (λ f. f.now) field.entry)
+            (fields_of self.now)) }
         ensures has_fields { OnOk result
             (HasFieldsOf self.now (asked_fields (option_map (λ f. f.now) field.entry) (fields_of self.now))) }
         ensures errors { IfErr result (λ e. (e ≡ NoSuchField) ⊎ (e ≡ Memory)) }
-        ensures found { IfOk result (λ found. AreFoundWithinFields L.tokens_of L.leaves_of leaves self.now
+        ensures found { IfOk result (λ found. AreFoundWithinFields L.tokens_of L.leaves_of leaves
+            self.now
             join (asked_fields (option_map (λ f. f.now) field.entry) (fields_of self.now)) query.now
             (bytes_of found.items)) }
-        ensures in_tries { IfOk result (λ found. AreFoundWithinTries L.tokens_of L.leaves_of leaves self.now
+        ensures in_tries { IfOk result (λ found. AreFoundWithinTries L.tokens_of L.leaves_of leaves
+            self.now
             join (asked_fields (option_map (λ f. f.now) field.entry) (fields_of self.now)) query.now
             (bytes_of found.items)) }
     {
@@ -290,9 +323,11 @@ impl<L: Language> Searcher<L> {
         ensures no_field { result ≡ Err NoSuchField → LacksFieldOf self.now (borrowed fields.now) }
         ensures has_fields { OnOk result (HasFieldsOf self.now (borrowed fields.now)) }
         ensures errors { IfErr result (λ e. (e ≡ NoSuchField) ⊎ (e ≡ Memory)) }
-        ensures found { IfOk result (λ found. AreFoundWithinFields L.tokens_of L.leaves_of leaves self.now
+        ensures found { IfOk result (λ found. AreFoundWithinFields L.tokens_of L.leaves_of leaves
+            self.now
             join (borrowed fields.now) query.now (bytes_of found.items)) }
-        ensures in_tries { IfOk result (λ found. AreFoundWithinTries L.tokens_of L.leaves_of leaves self.now
+        ensures in_tries { IfOk result (λ found. AreFoundWithinTries L.tokens_of L.leaves_of leaves
+            self.now
             join (borrowed fields.now) query.now (bytes_of found.items)) }
     {
         match join {
@@ -304,13 +339,17 @@ impl<L: Language> Searcher<L> {
     /// The references whose current document has, in the field, one of the query's tokens, in the
     /// order of their bytes. It costs the look-ups of the tokens and their postings.
     pub fn find_any(&self, field: &str, query: &str) -> Result<Vec<String>, SearchError>
-        ensures no_field { (result ≡ Err NoSuchField) ↔ (has_name field.now (fields_of self.now) ≡ false) }
+        ensures no_field { (result ≡ Err NoSuchField)
+            ↔ (has_name field.now (fields_of self.now) ≡ false) }
         ensures errors { IfErr result (λ e. (e ≡ NoSuchField) ⊎ (e ≡ Memory)) }
-        ensures found { IfOk result (λ found. AreFound L.tokens_of L.leaves_of leaves self.now FindsAny
+        ensures found { IfOk result (λ found. AreFound L.tokens_of L.leaves_of leaves self.now
+            FindsAny
             field.now query.now (bytes_of found.items)) }
-        ensures in_trie { IfOk result (λ found. AreFoundInTrie L.tokens_of L.leaves_of leaves self.now Join.Any
+        ensures in_trie { IfOk result (λ found. AreFoundInTrie L.tokens_of L.leaves_of leaves
+            self.now Join.Any
             field.now query.now (bytes_of found.items)) }
-        ensures as_chosen { IfOk result (λ found. AreFoundAsChosen L.tokens_of L.leaves_of leaves self.now Join.Any
+        ensures as_chosen { IfOk result (λ found. AreFoundAsChosen L.tokens_of L.leaves_of leaves
+            self.now Join.Any
             field.now query.now (bytes_of found.items)) }
     {
         postings_tell_tokens();
@@ -323,16 +362,21 @@ impl<L: Language> Searcher<L> {
     }
 
     /// The references whose current document has, in the field, each of the query's tokens, of
-    /// which there is one at least, in the order of their bytes. It costs the postings of the first
+    /// which there is one at least, in the order of their bytes. It costs the postings of the
+    /// first
     /// token, and for each of these the look-ups of the others.
     pub fn find_all(&self, field: &str, query: &str) -> Result<Vec<String>, SearchError>
-        ensures no_field { (result ≡ Err NoSuchField) ↔ (has_name field.now (fields_of self.now) ≡ false) }
+        ensures no_field { (result ≡ Err NoSuchField)
+            ↔ (has_name field.now (fields_of self.now) ≡ false) }
         ensures errors { IfErr result (λ e. (e ≡ NoSuchField) ⊎ (e ≡ Memory)) }
-        ensures found { IfOk result (λ found. AreFound L.tokens_of L.leaves_of leaves self.now FindsAll
+        ensures found { IfOk result (λ found. AreFound L.tokens_of L.leaves_of leaves self.now
+            FindsAll
             field.now query.now (bytes_of found.items)) }
-        ensures in_trie { IfOk result (λ found. AreFoundInTrie L.tokens_of L.leaves_of leaves self.now Join.All
+        ensures in_trie { IfOk result (λ found. AreFoundInTrie L.tokens_of L.leaves_of leaves
+            self.now Join.All
             field.now query.now (bytes_of found.items)) }
-        ensures as_chosen { IfOk result (λ found. AreFoundAsChosen L.tokens_of L.leaves_of leaves self.now Join.All
+        ensures as_chosen { IfOk result (λ found. AreFoundAsChosen L.tokens_of L.leaves_of leaves
+            self.now Join.All
             field.now query.now (bytes_of found.items)) }
     {
         postings_tell_tokens();
@@ -344,7 +388,8 @@ impl<L: Language> Searcher<L> {
         Ok(found)
     }
 
-    /// What `find` finds of tokens that the caller made of a query, by the tokenizer and the pipeline
+    /// What `find` finds of tokens that the caller made of a query, by the tokenizer and the
+    /// pipeline
     /// that the field was built with. They are looked up as they stand. An empty token has no
     /// posting, so with one `All` finds nothing.
     pub fn find_tokens(
@@ -353,11 +398,14 @@ impl<L: Language> Searcher<L> {
         field: &str,
         tokens: &[String],
     ) -> Result<Vec<String>, SearchError>
-        ensures no_field { (result ≡ Err NoSuchField) ↔ (has_name field.now (fields_of self.now) ≡ false) }
+        ensures no_field { (result ≡ Err NoSuchField)
+            ↔ (has_name field.now (fields_of self.now) ≡ false) }
         ensures errors { IfErr result (λ e. (e ≡ NoSuchField) ⊎ (e ≡ Memory)) }
-        ensures found { IfOk result (λ found. AreFoundOfTokens self.now join field.now (texts_of tokens.now)
+        ensures found { IfOk result (λ found. AreFoundOfTokens self.now join field.now
+            (texts_of tokens.now)
             (bytes_of found.items)) }
-        ensures in_trie { IfOk result (λ found. FindsTokens self.now join field.now (texts_of tokens.now)
+        ensures in_trie { IfOk result (λ found. FindsTokens self.now join field.now
+            (texts_of tokens.now)
             (bytes_of found.items)) }
     {
         postings_tell_tokens();
@@ -378,7 +426,8 @@ impl<L: Language> Searcher<L> {
             option_map (λ t. text_map t.entries) texts ≡ kept_texts self.now reference.now) }
         ensures texts { IfOk result (λ texts. (language : L) (plan : Plan) (commands : Commands)
             → StandsFor L.leaves_of leaves self.now language plan commands
-            → option_map (λ t. text_map t.entries) texts ≡ option_map (stored plan) (now commands reference.now)) }
+            → option_map (λ t. text_map t.entries) texts
+            ≡ option_map (stored plan) (now commands reference.now)) }
     {
         match self.printed.store.get_doc(reference) {
             Ok(texts) => Ok(texts),
@@ -391,7 +440,8 @@ impl<L: Language> Searcher<L> {
         ensures no_field { result ≡ Err NoSuchField → LacksFieldOf self.now (borrowed fields.now) }
         ensures has_fields { OnOk result (HasFieldsOf self.now (borrowed fields.now)) }
         ensures errors { IfErr result (λ e. (e ≡ NoSuchField) ⊎ (e ≡ Memory)) }
-        ensures tries { IfOk result (λ tries. AreTriesOf self.now (borrowed fields.now) (tables_of tries.items)) }
+        ensures tries { IfOk result (λ tries. AreTriesOf self.now (borrowed fields.now)
+            (tables_of tries.items)) }
     {
         let mut tries = Vec::new(self.alloc);
         for field in fields {
@@ -406,7 +456,8 @@ impl<L: Language> Searcher<L> {
     /// The trie of a field.
     fn trie(&self, field: &str) -> Option<&InvertedIndex>
         ensures there { IsSome result ↔ IsTrue (has_name field.now (fields_of self.now)) }
-        ensures trie { IfSome result (λ trie. (i : ℕ) × (slice_get (fields_of self.now) i ≡ Some field.now)
+        ensures trie { IfSome result (λ trie. (i : ℕ)
+            × (slice_get (fields_of self.now) i ≡ Some field.now)
             × (slice_get self.now.printed.tries.items i ≡ Some trie.now)) }
     {
         match place_of(&self.printed.fields, field) {
@@ -419,10 +470,12 @@ impl<L: Language> Searcher<L> {
     fn tokens(&self, query: &str) -> Result<Vec<String>, AllocError>
         ensures read { IfOk result (λ tokens. (i : ℕ)
             → LeavesBy leaves self.now.pipeline (L.leaves_of self.now.language)
-            → AreTokensOf (LanguageReads (L.tokens_of self.now.language) (L.leaves_of self.now.language))
+            → AreTokensOf (LanguageReads (L.tokens_of self.now.language)
+            (L.leaves_of self.now.language))
             i query.now (texts_of tokens.items)) }
         ensures run { IfOk result (λ tokens. (i : ℕ)
-            → AreTokensOf (RunReads (L.tokens_of self.now.language) (IsRunBy leaves self.now.pipeline))
+            → AreTokensOf (RunReads (L.tokens_of self.now.language)
+            (IsRunBy leaves self.now.pipeline))
             i query.now (texts_of tokens.items)) }
     {
         a_language_reads_what_its_pipeline_leaves(&self.language, &self.pipeline);

@@ -10,17 +10,17 @@ ghost use Rattle.elasticlunr_search.specs.declared.error.SearchError.TheVariants
 ghost use Rattle.serde_json.specs.Data.{Data};
 ghost use Rattle.serde_json.specs.Read.{read};
 
-use crate::anew::{Anew, make_anew};
 use crate::error::SearchError;
 use crate::parts::{are_same, has_stages, language_of, names_other, value_of};
 use crate::printed::Printed;
+use crate::rebuilt_index::{RebuiltIndex, rebuild_and_compare};
 use serde_json::Value;
 use std::alloc::{AllocError, Global};
 
 /// An index that was rebuilt from its text, or else the JSON value that the text is.
 #[derive(Drop)]
 pub(crate) enum Source {
-    Anew(Anew),
+    RebuiltIndex(RebuiltIndex),
     Value(Value),
 }
 
@@ -30,8 +30,8 @@ impl Source {
         ensures ok { IfOk result (λ source. (v : Data) × ReadsAs text.now v × IsSource source v) }
         ensures err { IfErr result (StopsBy NotRead (read text.now ≡ None)) }
     {
-        if let Some(index) = make_anew(alloc, text)? {
-            return Ok(Source::Anew(index));
+        if let Some(index) = rebuild_and_compare(alloc, text)? {
+            return Ok(Source::RebuiltIndex(index));
         }
         let value = value_of(alloc, text)?;
         Ok(Source::Value(value))
@@ -39,11 +39,13 @@ impl Source {
 
     /// The name of the language that the index names, if it names one.
     pub(crate) fn language(&self) -> Option<&str>
-        ensures named { IfSome result (λ name. (v : Data) → IsSource self.now v → HasLanguage v name.now) }
-        ensures none { IsNone result → (v : Data) (name : Bytes) → IsSource self.now v → ¬ HasLanguage v name }
+        ensures named { IfSome result (λ name. (v : Data) → IsSource self.now v
+            → HasLanguage v name.now) }
+        ensures none { IsNone result → (v : Data) (name : Bytes) → IsSource self.now v
+            → ¬ HasLanguage v name }
     {
         match self {
-            Source::Anew(index) => Some(index.language.as_str()),
+            Source::RebuiltIndex(index) => Some(index.language.as_str()),
             Source::Value(value) => language_of(value),
         }
     }
@@ -53,17 +55,18 @@ impl Source {
         ensures { (v : Data) → IsSource self.now v → IsTrue result ↔ NamesOther language.now v }
     {
         match self {
-            Source::Anew(index) => index.language.as_str() != language,
+            Source::RebuiltIndex(index) => index.language.as_str() != language,
             Source::Value(value) => names_other(language, value),
         }
     }
 
     /// Whether these are the names of the index's stages, in order.
     pub(crate) fn has_stages(&self, alloc: Global, stages: &[String]) -> Result<bool, AllocError>
-        ensures { IfOk result (λ has. (v : Data) → IsSource self.now v → IsTrue has ↔ HasStages v (bytes_of stages.now)) }
+        ensures { IfOk result (λ has. (v : Data) → IsSource self.now v → IsTrue has
+            ↔ HasStages v (bytes_of stages.now)) }
     {
         match self {
-            Source::Anew(index) => Ok(are_same(&index.stages, stages)),
+            Source::RebuiltIndex(index) => Ok(are_same(&index.stages, stages)),
             Source::Value(value) => has_stages(alloc, stages, value),
         }
     }
@@ -75,7 +78,7 @@ impl Source {
         ensures lacks { IfErr result (λ e. (v : Data) → IsSource self v → Lacks v e) }
     {
         match self {
-            Source::Anew(index) => Ok(index.printed),
+            Source::RebuiltIndex(index) => Ok(index.printed),
             Source::Value(value) => Printed::of_value(alloc, &value),
         }
     }

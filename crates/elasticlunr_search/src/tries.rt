@@ -5,13 +5,15 @@ ghost use Rattle.std.specs.Str.{chars};
 ghost use Rattle.elasticlunr_text.specs.Text.{Bytes, texts_of, bytes_of, text_cmp, is_listed};
 ghost use Rattle.elasticlunr_trie.specs.References.{texts_in};
 ghost use Rattle.elasticlunr_trie.specs.Table.{posting};
-ghost use Rattle.elasticlunr_search.specs.Tries.{HaveAny, HaveAll, HaveAllAmong, has_among, tables_of};
+ghost use Rattle.elasticlunr_search.specs.Tries.{HaveAny, HaveAll, HaveAllAmong, has_among};
+ghost use Rattle.elasticlunr_search.specs.Tries.{tables_of};
 
 use elasticlunr_trie::{InvertedIndex, copied};
 use std::alloc::{AllocError, Global};
 use std::collections::BTreeSet;
 
-/// The references that have a posting at one of the tokens, in the order of their bytes, each once.
+/// The references that have a posting at one of the tokens, in the order of their bytes, each
+/// once.
 pub(crate) fn find_any_in(
     alloc: Global,
     trie: &InvertedIndex,
@@ -48,14 +50,16 @@ pub(crate) fn find_all_in(
     }
 }
 
-/// The references that have, at each token, of which there is one at least, a posting in one of the
+/// The references that have, at each token, of which there is one at least, a posting in one of
+/// the
 /// tries. Only those of the first token are copied.
 pub(crate) fn find_all_among(
     alloc: Global,
     tries: &[&InvertedIndex],
     tokens: &[String],
 ) -> Result<Vec<String>, AllocError>
-    ensures { IfOk result (λ found. HaveAllAmong (tables_of tries.now) (texts_of tokens.now) (bytes_of found.items)) }
+    ensures { IfOk result (λ found. HaveAllAmong (tables_of tries.now) (texts_of tokens.now)
+        (bytes_of found.items)) }
 {
     match tokens.split_first() {
         Some((first, others)) => {

@@ -1,5 +1,6 @@
 -- Tokens with how often they stand, and the postings that these make.
-use Rattle.std.specs.Prelude.{◌≡◌, ◌≢◌, ℕ, List, [], ◌∷◌, ⊤, map, Some, IsSomeAnd, IsTrue, slice_get, unwrap_or, count_by, ◌↔◌, ◌⊎◌, String, string_bytes}
+use Rattle.std.specs.Prelude.{◌≡◌, ◌≢◌, ℕ, List, [], ◌∷◌, ⊤, map, Some, IsSomeAnd, IsTrue}
+use Rattle.std.specs.Prelude.{slice_get, unwrap_or, count_by, ◌↔◌, ◌⊎◌, String, string_bytes}
 use Rattle.std.specs.HashMap.{HashMap, get_by_text}
 use Rattle.std.specs.Str.{bytes_eq}
 use Rattle.std.specs.declared.alloc.Global.{Global}
@@ -23,8 +24,10 @@ AreRooted (n ∷ ns) [] = ⊥
 AreRooted (n ∷ ns) (m ∷ ms) = (m.0 ≡ n.0) × IsRoot n.1 m.1 × AreRooted ns ms
 
 -- the map has how often each text stands among the tokens
-pub record AreCounts {S : Type 0} (tokens : List (String Global)) (counts : HashMap (String Global) ℕ S) : Type 0 where
-  pub counted : (text : Bytes) → unwrap_or (get_by_text counts text) 0 ≡ count_by (λ token. bytes_eq text (string_bytes token)) tokens
+pub record AreCounts {S : Type 0} (tokens : List (String Global))
+    (counts : HashMap (String Global) ℕ S) : Type 0 where
+  pub counted : (text : Bytes) → unwrap_or (get_by_text counts text) 0
+      ≡ count_by (λ token. bytes_eq text (string_bytes token)) tokens
   pub positive : (text : Bytes) → get_by_text counts text ≢ Some 0
 
 -- the text begins a counted token that is not empty
@@ -36,19 +39,25 @@ pub record BeginsCounted (counts : List (Text × ℕ)) (text : Text) : Type 0 wh
   pub begins : IsPrefix text token
 
 -- the token is counted, and posted with the root of a count of it
-pub record IsPosted (counts : List (Text × ℕ)) (new : Table) (reference : Bytes) (token : Text) : Type 0 where
+pub record IsPosted (counts : List (Text × ℕ)) (new : Table) (reference : Bytes) (token : Text) :
+    Type 0 where
   pub count : ℕ
   pub among : StandsIn counts (token, count)
   pub rooted : IsSomeAnd (posting new token reference) (IsRoot count)
 
 -- the token is not counted, and posted as it was
-pub record IsLeft (counts : List (Text × ℕ)) (old new : Table) (reference : Bytes) (token : Text) : Type 0 where
+pub record IsLeft (counts : List (Text × ℕ)) (old new : Table) (reference : Bytes) (token : Text) :
+    Type 0 where
   pub absent : (count : ℕ) → ¬ StandsIn counts (token, count)
   pub as_before : posting new token reference ≡ posting old token reference
 
--- the counted tokens that are not empty are posted for the reference, and what begins one of them is known
+-- the counted tokens that are not empty are posted for the reference, and what begins one of them
+-- is known
 pub record Posts (old new : Table) (reference : Bytes) (counts : List (Text × ℕ)) : Type 0 where
-  pub known : (text : Text) → IsTrue (knows new text) ↔ (IsTrue (knows old text) ⊎ BeginsCounted counts text)
-  pub its_own : (token : Text) → token ≢ [] → IsPosted counts new reference token ⊎ IsLeft counts old new reference token
-  pub others : (token : Text) (other : Bytes) → other ≢ reference → posting new token other ≡ posting old token other
+  pub known : (text : Text) → IsTrue (knows new text)
+      ↔ (IsTrue (knows old text) ⊎ BeginsCounted counts text)
+  pub its_own : (token : Text) → token ≢ [] → IsPosted counts new reference token
+      ⊎ IsLeft counts old new reference token
+  pub others : (token : Text) (other : Bytes) → other ≢ reference → posting new token other
+      ≡ posting old token other
   pub no_empty : (r : Bytes) → posting new [] r ≡ posting old [] r

@@ -1,13 +1,17 @@
 //! What an index holds, and how each command changes it.
-ghost use Rattle.std.specs.Prelude.{◌≡◌, ◌≢◌, ◌<◌, ℕ, Option, length, None, OnOk, IfOk, IsOkUnless, ◌≤◌, Some, slice_get, vec_len, replicate};
+ghost use Rattle.std.specs.Prelude.{◌≡◌, ◌≢◌, ◌<◌, ℕ, Option, length, None, OnOk, IfOk};
+ghost use Rattle.std.specs.Prelude.{IsOkUnless, ◌≤◌, Some, slice_get, vec_len, replicate};
 ghost use Rattle.elasticlunr_error.specs.Text.{Text, bytes_of};
 ghost use Rattle.elasticlunr_error.specs.declared.error.IndexError.TheVariants.{Memory};
 ghost use Rattle.elasticlunr_trie.specs.Table.{Table, new_table, posting};
 ghost use Rattle.elasticlunr_store.specs.Contents.{new_contents, without};
 ghost use Rattle.elasticlunr_commands.specs.Fields.{borrowed};
-ghost use Rattle.elasticlunr_commands.specs.Entered.{HoldsOneMore, TakesOut, IsCompacted, ReplacesPostings, HasOnlyStored, MakesRoom, AddsTokens};
+ghost use Rattle.elasticlunr_commands.specs.Entered.{HoldsOneMore, TakesOut, IsCompacted};
+ghost use Rattle.elasticlunr_commands.specs.Entered.{ReplacesPostings, HasOnlyStored, MakesRoom};
+ghost use Rattle.elasticlunr_commands.specs.Entered.{AddsTokens};
 ghost use Rattle.elasticlunr_state.specs.Others.{OthersStay};
-ghost use Rattle.elasticlunr_state.specs.Texts.{texts_left, token_texts, with_tokens, with_all_tokens};
+ghost use Rattle.elasticlunr_state.specs.Texts.{texts_left, token_texts, with_tokens};
+ghost use Rattle.elasticlunr_state.specs.Texts.{with_all_tokens};
 
 use crate::counts::{add_postings, count_tokens};
 use crate::documents::document_of;
@@ -40,10 +44,11 @@ impl IndexContents {
         })
     }
 
-    /// Puts a document in, which replaces what its reference had. The tokens are those of the values,
+    /// Puts a document in, which replaces what its reference had. The tokens are those of the
+    /// values,
     /// in their order, none for the field that holds the reference. What other references have
     /// stays; after an error, what this one has may be anything between the old and the new.
-    pub fn enter(
+    pub fn add_document(
         &mut self,
         alloc: Global,
         fields: &[String],
@@ -73,17 +78,19 @@ impl IndexContents {
         self.store.add_doc(doc_ref, document)
     }
 
-    /// Takes out what the reference has, if it is there. A new reference is not searched for in any
+    /// Takes out what the reference has, if it is there. A new reference is not searched for in
+    /// any
     /// trie.
     fn make_room(&mut self, doc_ref: &str)
         ensures as_many { vec_len self.new.tries ≡ vec_len self.old.tries }
         ensures room { HasOnlyStored self.old.tries.items self.old.store doc_ref.now
-            → MakesRoom doc_ref.now self.old.tries.items self.new.tries.items self.old.store self.new.store }
+            → MakesRoom doc_ref.now self.old.tries.items self.new.tries.items self.old.store
+            self.new.store }
         ensures others_stay { OthersStay doc_ref.now self.old.tries.items self.new.tries.items
             self.old.store self.new.store }
     {
         if self.store.has_doc(doc_ref) {
-            self.take_out(doc_ref);
+            self.remove_document(doc_ref);
         }
     }
 
@@ -102,7 +109,8 @@ impl IndexContents {
         ensures tables { OnOk result (AddsTokens doc_ref.now (token_texts tokens.items)
             self.old.tries.items self.new.tries.items) }
         ensures store { OnOk result (self.new.store
-            ≡ with_all_tokens self.old.store doc_ref.now (bytes_of fields.now) (token_texts tokens.items)) }
+            ≡ with_all_tokens self.old.store doc_ref.now (bytes_of fields.now)
+            (token_texts tokens.items)) }
         ensures others_stay { OthersStay doc_ref.now self.old.tries.items self.new.tries.items
             self.old.store self.new.store }
     {
@@ -125,7 +133,8 @@ impl IndexContents {
         ensures as_many { vec_len self.new.tries ≡ vec_len self.old.tries }
         ensures memory { IsOkUnless result Memory }
         ensures table { OnOk result ((before after : Table)
-            → slice_get self.old.tries.items i ≡ Some before → slice_get self.new.tries.items i ≡ Some after
+            → slice_get self.old.tries.items i ≡ Some before → slice_get self.new.tries.items i
+            ≡ Some after
             → ((token : Text) → posting before token doc_ref.now ≡ None)
             → ReplacesPostings before after doc_ref.now (texts_left tokens)) }
         ensures others { OnOk result ((j : ℕ) → j ≢ i
@@ -144,9 +153,10 @@ impl IndexContents {
     }
 
     /// Takes out what the reference has.
-    pub fn take_out(&mut self, doc_ref: &str)
+    pub fn remove_document(&mut self, doc_ref: &str)
         ensures as_many { vec_len self.new.tries ≡ vec_len self.old.tries }
-        ensures tries { (i : ℕ) (before after : Table) → slice_get self.old.tries.items i ≡ Some before
+        ensures tries { (i : ℕ) (before after : Table) → slice_get self.old.tries.items i
+            ≡ Some before
             → slice_get self.new.tries.items i ≡ Some after → TakesOut before after doc_ref.now }
         ensures store { self.new.store ≡ without self.old.store doc_ref.now }
     {

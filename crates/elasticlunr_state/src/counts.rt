@@ -30,7 +30,8 @@ fn rooted_counts<'a>(
     counts: &'a HashMap<String, u64>,
 ) -> Result<Vec<(&'a str, u64)>, AllocError>
     ensures unique { IsUnique string_eq counts.now }
-    ensures rooted { IfOk result (λ v. AreRooted (counted_texts counts.now.entries) (told_tokens v.items)) }
+    ensures rooted { IfOk result (λ v. AreRooted (counted_texts counts.now.entries)
+        (told_tokens v.items)) }
 {
     let mut rooted = Vec::with_capacity(alloc, counts.len())?;
     for (token, count) in counts.iter() {
@@ -49,7 +50,8 @@ pub fn add_postings(
 ) -> Result<(), IndexError>
     ensures memory { IsOkUnless result Memory }
     ensures unique { IsUnique string_eq counts.now }
-    ensures posted { OnOk result (Posts trie.old trie.new doc_ref.now (counted_texts counts.now.entries)) }
+    ensures posted { OnOk result (Posts trie.old trie.new doc_ref.now
+        (counted_texts counts.now.entries)) }
     ensures others_stay { OthersStayIn doc_ref.now trie.old trie.new }
 {
     let rooted = rooted_counts(alloc, counts)?;

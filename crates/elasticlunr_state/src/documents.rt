@@ -22,7 +22,8 @@ pub fn document_of(
     requires { length values.now ≤ length fields.now }
     ensures memory { IsOkUnless result Memory }
     ensures texts { IfOk result (λ document. text_map document.entries
-        ≡ with_texts (reference_alone ref_field.now doc_ref.now) (bytes_of fields.now) (borrowed values.now)) }
+        ≡ with_texts (reference_alone ref_field.now doc_ref.now) (bytes_of fields.now)
+        (borrowed values.now)) }
 {
     let mut document = BTreeMap::new(alloc);
     document.insert(

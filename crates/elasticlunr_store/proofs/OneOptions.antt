@@ -4,7 +4,8 @@ use Rattle.std.specs.FinMap as map
 use Rattle.serde_json.specs.Data.{Data, null, boolean, object}
 use Rattle.serde_json.specs.Find.{get_member}
 use Rattle.elasticlunr_json.specs.Maps.{count}
-use Rattle.elasticlunr_store.specs.Options.{Options, FieldMap, bool_value, IsPart, ReadsAt, ReadsField, ReadsFields, ReadsOptions}
+use Rattle.elasticlunr_store.specs.Options.{Options, FieldMap, bool_value, IsPart, ReadsAt, ReadsField, ReadsFields}
+use Rattle.elasticlunr_store.specs.Options.{ReadsOptions}
 use Rattle.elasticlunr_store.specs.declared.config.SearchBool.{SearchBool}
 use Rattle.elasticlunr_store.specs.declared.config.SearchBool.TheVariants.{Or, And}
 use Rattle.elasticlunr_store.specs.declared.config.SearchOptionsField.{SearchOptionsField}
@@ -12,7 +13,8 @@ use Rattle.elasticlunr_json.proofs.Seen.{same}
 use Rattle.elasticlunr_store.specs.EqualOptions.{one_field}
 use Rattle.elasticlunr_store_maps.proofs.Values.{same_count}
 
-module _ {X : Type 0} (value : X → Data) (one : (x y : X) → value x ≡ value y → x ≡ y) (there : (x : X) → value x ≢ null) where
+module _ {X : Type 0} (value : X → Data) (one : (x y : X) → value x ≡ value y → x ≡ y) (there : (x : X)
+    → value x ≢ null) where
   one_part : (found : Option Data) (a b : Option X) → IsPart value found a → IsPart value found b → a ≡ b
   one_part found None None p q = refl
   one_part found None (Some y) (inl p) q = let both : None ≡ Some (value y) = sym p ∙ q in absurd (cc)
@@ -55,7 +57,8 @@ one_map : (v : Data) (m n : FieldMap) → ReadsFields v m → ReadsFields v n �
 one_map v m n p q =
     let both : object p.members ≡ object q.members = sym p.is ∙ q.is in
     let members : p.members ≡ q.members = cc in
-    same m n (λ name. one_at (get_member name q.members) (map.get m name) (map.get n name) (subst (λ ms. ReadsAt (get_member name ms) (map.get m name)) members (p.each name)) (q.each name))
+    same m n (λ name. one_at (get_member name q.members) (map.get m name) (map.get n name)
+    (subst (λ ms. ReadsAt (get_member name ms) (map.get m name)) members (p.each name)) (q.each name))
 
 -- a value gives one search's options at most
 pub one_options : (v : Data) (a b : Options) → ReadsOptions v a → ReadsOptions v b → a ≡ b

@@ -1,5 +1,6 @@
 -- What is written for options gives them.
-use Rattle.std.proofs.Common.{◌≡◌, inl, ℕ, ◌<◌, ◌^◌, Bool, false, ◌||◌, List, [], ◌∷◌, Option, option_map, Some, None, IfSome, Less, Equal, Greater, refl, sym, ap, subst, ◌∙◌, cond}
+use Rattle.std.proofs.Common.{◌≡◌, inl, ℕ, ◌<◌, ◌^◌, Bool, false, ◌||◌, List, [], ◌∷◌, Option, option_map, Some, None}
+use Rattle.std.proofs.Common.{IfSome, Less, Equal, Greater, refl, sym, ap, subst, ◌∙◌, cond}
 use Rattle.std.specs.Ordering.{nat_cmp, match_ordering, is_eq}
 use Rattle.std.specs.Cmp.Lexicographic.{slice_cmp}
 use Rattle.std.specs.Option.{ForSome}
@@ -9,13 +10,17 @@ use Rattle.serde_json.specs.Find.{get_member}
 use Rattle.serde_json.specs.Written.{has_float}
 use Rattle.elasticlunr_error.specs.Text.{Bytes, text_cmp}
 use Rattle.elasticlunr_json.specs.Maps.{members, keyed}
-use Rattle.elasticlunr_store.specs.Options.{Options, HasSmallBoosts, bool_value, field_value, options_value, ReadsAt, ReadsField, ReadsOptions}
+use Rattle.elasticlunr_store.specs.Options.{Options, HasSmallBoosts, bool_value, field_value, options_value, ReadsAt}
+use Rattle.elasticlunr_store.specs.Options.{ReadsField, ReadsOptions}
 use Rattle.elasticlunr_store.specs.declared.config.SearchBool.{SearchBool}
 use Rattle.elasticlunr_store.specs.declared.config.SearchBool.TheVariants.{Or, And}
 use Rattle.elasticlunr_json.proofs.Keyed.{bare_keyed}
 use Rattle.elasticlunr_store.specs.declared.config.SearchOptionsField.{SearchOptionsField}
 
-field_written : (boost : Option ℕ) (bool : Option SearchBool) (expand : Option Bool) (small : ForSome boost (λ n. n < 2 ^ 8)) → ReadsField (field_value (record { boost = boost; bool = bool; expand = expand; small = small })) (record { boost = boost; bool = bool; expand = expand; small = small })
+field_written : (boost : Option ℕ) (bool : Option SearchBool) (expand : Option Bool)
+    (small : ForSome boost (λ n. n < 2 ^ 8))
+    → ReadsField (field_value (record { boost = boost; bool = bool; expand = expand; small = small }))
+    (record { boost = boost; bool = bool; expand = expand; small = small })
 field_written None None None small = record { is_object = refl; boost = inl refl; bool = inl refl; expand = inl refl }
 field_written None None (Some z) small = record { is_object = refl; boost = inl refl; bool = inl refl; expand = refl }
 field_written None (Some y) None small = record { is_object = refl; boost = inl refl; bool = refl; expand = inl refl }
@@ -26,11 +31,15 @@ field_written (Some x) (Some y) None small = record { is_object = refl; boost = 
 field_written (Some x) (Some y) (Some z) small = record { is_object = refl; boost = refl; bool = refl; expand = refl }
 
 -- what is found among the members of a map's object
-found : {X : Type 0} (value : X → Data) (name : Bytes) (es : List (Bytes × X)) → get_member name (members value es) ≡ option_map value (map.find text_cmp name es)
+found : {X : Type 0} (value : X → Data) (name : Bytes) (es : List (Bytes × X)) → get_member name (members value es)
+    ≡ option_map value (map.find text_cmp name es)
 found value name [] = refl
 found value name (e ∷ es) = by (slice_cmp nat_cmp name e.0) (found value name es)
   where
-    by : (o : _) → get_member name (members value es) ≡ option_map value (map.find text_cmp name es) → match_ordering o (get_member name (members value es)) (Some (value e.1)) (get_member name (members value es)) ≡ option_map value (cond (is_eq o) (Some e.1) (map.find text_cmp name es))
+    by : (o : _) → get_member name (members value es) ≡ option_map value (map.find text_cmp name es)
+        → match_ordering o (get_member name (members value es)) (Some (value e.1))
+        (get_member name (members value es)) ≡ option_map value
+        (cond (is_eq o) (Some e.1) (map.find text_cmp name es))
     by Less h = h
     by Equal h = refl
     by Greater h = h
@@ -56,7 +65,10 @@ written options = record {
   fields = record {
     members = members field_value (map.entries options.fields);
     is = refl;
-    each = λ name. subst (λ o. ReadsAt o (map.get options.fields name)) (sym (found field_value name (map.entries options.fields) ∙ ap (option_map field_value) (sym (map.get-entries options.fields name)))) (by (map.get options.fields name));
+    each = λ name. subst (λ o. ReadsAt o (map.get options.fields name))
+        (sym (found field_value name (map.entries options.fields)
+        ∙ ap (option_map field_value) (sym (map.get-entries options.fields name))))
+        (by (map.get options.fields name));
   };
 }
   where
@@ -68,7 +80,9 @@ bool_whole : (b : SearchBool) → has_float (bool_value b) ≡ false
 bool_whole Or = refl
 bool_whole And = refl
 
-field_whole : (boost : Option ℕ) (bool : Option SearchBool) (expand : Option Bool) (small : ForSome boost (λ n. n < 2 ^ 8)) → has_float (field_value (record { boost = boost; bool = bool; expand = expand; small = small })) ≡ false
+field_whole : (boost : Option ℕ) (bool : Option SearchBool) (expand : Option Bool)
+    (small : ForSome boost (λ n. n < 2 ^ 8))
+    → has_float (field_value (record { boost = boost; bool = bool; expand = expand; small = small })) ≡ false
 field_whole None None None small = refl
 field_whole None None (Some z) small = refl
 field_whole None (Some Or) None small = refl
@@ -84,4 +98,6 @@ field_whole (Some x) (Some And) (Some z) small = refl
 
 -- the value of options holds no float
 pub no_float : (options : Options) → has_float (options_value options) ≡ false
-no_float options = λ i. bool_whole options.bool i || (false || (bare_keyed field_value (λ field. field_whole field.boost field.bool field.expand field.small) options.fields i || false))
+no_float options = λ i. bool_whole options.bool i ||
+    (false || (bare_keyed field_value (λ field. field_whole field.boost field.bool field.expand field.small)
+    options.fields i || false))

@@ -1,5 +1,6 @@
 -- Search options, and the values that give them.
-use Rattle.std.specs.Prelude.{◌≡◌, ◌⊎◌, ◌&&◌, ◌<◌, ◌^◌, ℕ, nat_eq, Bool, true, false, List, Option, Some, None, IfSome, IsSome, codes, String}
+use Rattle.std.specs.Prelude.{◌≡◌, ◌⊎◌, ◌&&◌, ◌<◌, ◌^◌, ℕ, nat_eq, Bool, true, false, List, Option}
+use Rattle.std.specs.Prelude.{Some, None, IfSome, IsSome, codes, String}
 use mathlib.Core.Bool.{beq}
 use Rattle.std.specs.declared.alloc.Global.{Global}
 use Rattle.std.specs.FinMap as map
@@ -27,14 +28,20 @@ abbrev pub field_map : List (String Global × SearchOptionsField) → FieldMap
 field_map entries = seen (λ field. field) entries
 
 abbrev pub options_of : SearchOptions → Options
-options_of options = record { bool = options.bool; expand = options.expand; fields = field_map options.fields.entries }
+options_of options = record {
+  bool = options.bool;
+  expand = options.expand;
+  fields =
+      field_map options.fields.entries;
+}
 
 abbrev pub new_options : Options
 new_options = record { bool = Or; expand = false; fields = map.empty }
 
 -- boosts have 8 bits
 abbrev pub HasSmallBoosts : Options → Type 0
-HasSmallBoosts options = (name : Bytes) → IfSome (map.get options.fields name) (λ field. IfSome field.boost (λ n. n < 2 ^ 8))
+HasSmallBoosts options = (name : Bytes)
+    → IfSome (map.get options.fields name) (λ field. IfSome field.boost (λ n. n < 2 ^ 8))
 
 abbrev pub bool_value : SearchBool → Data
 bool_value Or = string (codes "OR")
@@ -47,14 +54,19 @@ optional_member key value (Some x) members = member key (value x) members
 
 -- the value of the options of one field: the members for what is set, in the order of their keys
 abbrev pub field_value : SearchOptionsField → Data
-field_value field = object (optional_member (codes "bool") bool_value field.bool (optional_member (codes "boost") count field.boost (optional_member (codes "expand") boolean field.expand no_members)))
+field_value field = object (optional_member (codes "bool") bool_value field.bool
+    (optional_member (codes "boost") count field.boost
+    (optional_member (codes "expand") boolean field.expand no_members)))
 
 abbrev pub options_object : Data → Data → Data → Data
-options_object bool expand fields = object (member (codes "bool") bool (member (codes "expand") expand (member (codes "fields") fields no_members)))
+options_object bool expand fields =
+    object (member (codes "bool") bool
+    (member (codes "expand") expand (member (codes "fields") fields no_members)))
 
 -- the value that is written for options
 abbrev pub options_value : Options → Data
-options_value options = options_object (bool_value options.bool) (boolean options.expand) (keyed field_value options.fields)
+options_value options = options_object (bool_value options.bool) (boolean options.expand)
+    (keyed field_value options.fields)
 
 -- what is found under a key gives a part: what is absent or null gives none
 abbrev pub IsPart : {X : Type 0} → (X → Data) → Option Data → Option X → Type 0
@@ -101,8 +113,10 @@ same_part same (Some x) None = false
 same_part same (Some x) (Some y) = same x y
 
 abbrev pub same_field : SearchOptionsField → SearchOptionsField → Bool
-same_field a b = same_part nat_eq a.boost b.boost && (same_part same_bool a.bool b.bool && same_part beq a.expand b.expand)
+same_field a b = same_part nat_eq a.boost b.boost &&
+    (same_part same_bool a.bool b.bool && same_part beq a.expand b.expand)
 
 -- two options are the same in each part
 abbrev pub same_options : Options → Options → Bool
-same_options a b = same_bool a.bool b.bool && (beq a.expand b.expand && same_map same_field a.fields b.fields)
+same_options a b = same_bool a.bool b.bool && (beq a.expand b.expand && same_map same_field a.fields
+    b.fields)

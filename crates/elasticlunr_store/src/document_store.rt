@@ -5,7 +5,11 @@ ghost use Rattle.std.specs.Option.{option_map};
 ghost use Rattle.std.specs.FinMap.{get, contains_key, len};
 ghost use Rattle.elasticlunr_error.specs.declared.error.IndexError.TheVariants.{Memory};
 ghost use Rattle.elasticlunr_json.specs.Refused.{IsRefused};
-ghost use Rattle.elasticlunr_store.specs.Contents.{Contents, IsContents, IsConsistent, new_contents, with_document, with_length, without_document, without, field_length, IsStoreValue, text_map, document_texts, document_lengths};
+ghost use Rattle.elasticlunr_store.specs.Contents.{Contents, IsContents, IsConsistent};
+ghost use Rattle.elasticlunr_store.specs.Contents.{new_contents, with_document, with_length};
+ghost use Rattle.elasticlunr_store.specs.Contents.{without_document, without, field_length};
+ghost use Rattle.elasticlunr_store.specs.Contents.{IsStoreValue, text_map, document_texts};
+ghost use Rattle.elasticlunr_store.specs.Contents.{document_lengths};
 ghost use Rattle.serde_json.specs.View.{view};
 ghost use Rattle.serde_json.specs.Written.{has_float};
 
@@ -29,7 +33,8 @@ use std::marker::Model;
 /// The texts of the documents of an index, where they are kept, and how many tokens their fields
 /// have.
 ///
-/// It represents its contents: whether texts are kept, a map from references to texts by field, and
+/// It represents its contents: whether texts are kept, a map from references to texts by field,
+/// and
 /// a map from references to lengths by field. A reference may have lengths and no texts. Where
 /// texts are not kept each map of texts is empty.
 #[derive(Debug, Drop)]
@@ -41,7 +46,8 @@ pub struct DocumentStore {
 }
 
 impl Model for DocumentStore {
-    ghost use Rattle.elasticlunr_store.specs.Contents.{Contents, contents_code, contents_of, IsContents};
+    ghost use Rattle.elasticlunr_store.specs.Contents.{Contents, contents_code, contents_of};
+    ghost use Rattle.elasticlunr_store.specs.Contents.{IsContents};
 
     ghost Value = { Contents };
 
@@ -101,7 +107,8 @@ impl DocumentStore {
         doc_ref: &str,
         doc: BTreeMap<String, String>,
     ) -> Result<(), IndexError>
-        ensures ok { OnOk result (self.new ≡ with_document self.old doc_ref.now (text_map doc.entries)) }
+        ensures ok { OnOk result (self.new
+            ≡ with_document self.old doc_ref.now (text_map doc.entries)) }
         ensures err { OnErr result (self.new ≡ self.old) }
         ensures memory { IsOkUnless result Memory }
     {
@@ -195,7 +202,8 @@ impl DocumentStore {
         })
     }
 
-    /// The JSON value of the store: an object with the keys `docInfo`, `docs`, `length` and `save`.
+    /// The JSON value of the store: an object with the keys `docInfo`, `docs`, `length` and
+    /// `save`.
     pub fn to_value(&self) -> Result<Value, IndexError>
         ensures value { IfOk result (λ v. IsStoreValue self.now (view v)) }
         ensures only { IfOk result (λ v. (c : Contents) → IsStoreValue c (view v) → c ≡ self.now) }
@@ -209,7 +217,8 @@ impl DocumentStore {
         Ok(store_value(alloc, self.save, docs, doc_info, self.docs.len())?)
     }
 
-    /// The store whose JSON value this is. Refuses other keys, missing ones, a `length` that is not
+    /// The store whose JSON value this is. Refuses other keys, missing ones, a `length` that is
+    /// not
     /// the number of documents, an empty map of lengths (a reference without lengths is not in
     /// `docInfo`), and texts where `save` is false.
     pub fn from_value(alloc: Global, value: &Value) -> Result<Self, IndexError>

@@ -4,14 +4,18 @@ ghost use Rattle.std.specs.Bool.{Decides};
 ghost use Rattle.serde_json.specs.Data.{Data};
 ghost use Rattle.elasticlunr_error.specs.declared.error.IndexError.{IndexError};
 ghost use Rattle.elasticlunr_json.specs.Refused.{IsRefused, IsAnswer};
-ghost use Rattle.elasticlunr_store.specs.Contents.{Contents, IsConsistent, IsStoreValue, same_contents};
-ghost use Rattle.elasticlunr_store.specs.Options.{Options, HasSmallBoosts, ReadsOptions, options_value, same_bool, same_options, same_field};
+ghost use Rattle.elasticlunr_store.specs.Contents.{Contents, IsConsistent, IsStoreValue};
+ghost use Rattle.elasticlunr_store.specs.Contents.{same_contents};
+ghost use Rattle.elasticlunr_store.specs.Options.{Options, HasSmallBoosts, ReadsOptions};
+ghost use Rattle.elasticlunr_store.specs.Options.{options_value, same_bool, same_options};
+ghost use Rattle.elasticlunr_store.specs.Options.{same_field};
 ghost use Rattle.elasticlunr_store.specs.declared.config.SearchBool.{SearchBool};
 ghost use Rattle.elasticlunr_store.specs.declared.config.SearchOptionsField.{SearchOptionsField};
 
 /// A value is the one of one store's contents at most.
 pub fn one_contents_a_value()
-    ensures { (c : Contents) (d : Contents) (v : Data) → IsStoreValue c v → IsStoreValue d v → c ≡ d }
+    ensures { (c : Contents) (d : Contents) (v : Data) → IsStoreValue c v → IsStoreValue d v → c
+        ≡ d }
 {}
 
 /// Contents have one value at most.
@@ -41,7 +45,8 @@ pub fn written_options_are_read()
 
 /// A value gives one search's options at most.
 pub fn one_options_a_value()
-    ensures { (a : Options) (b : Options) (v : Data) → ReadsOptions v a → ReadsOptions v b → a ≡ b }
+    ensures { (a : Options) (b : Options) (v : Data) → ReadsOptions v a → ReadsOptions v b → a
+        ≡ b }
 {}
 
 /// An answer that keeps the contract of `SearchOptions::from_value` on what is written for options
@@ -49,7 +54,8 @@ pub fn one_options_a_value()
 pub fn written_options_are_read_back()
     ensures { (options : Options) (answer : Result Options IndexError)
         → IfOk answer (ReadsOptions (options_value options))
-        → IfErr answer (IsRefused ((other : Options) → ¬ (ReadsOptions (options_value options) other)))
+        → IfErr answer (IsRefused ((other : Options)
+        → ¬ (ReadsOptions (options_value options) other)))
         → IsAnswer options answer }
 {}
 
@@ -70,5 +76,6 @@ pub fn equal_options()
 
 /// The options of two fields are `==` exactly if their parts are equal.
 pub fn equal_fields()
-    ensures { (a : SearchOptionsField) (b : SearchOptionsField) → Decides (same_field a b) (a ≡ b) }
+    ensures { (a : SearchOptionsField) (b : SearchOptionsField)
+        → Decides (same_field a b) (a ≡ b) }
 {}

@@ -28,14 +28,22 @@ one_contents c d e =
 
 -- the value of contents holds no float
 pub no_float : (c : Contents) → has_float (store_value c) ≡ false
-no_float c = λ i. bare_keyed (keyed count) (bare_keyed count (λ n. refl)) c.lengths i || (bare_keyed (keyed string) (bare_keyed string (λ s. refl)) c.texts i || false)
+no_float c = λ i. bare_keyed (keyed count) (bare_keyed count (λ n. refl)) c.lengths i ||
+    (bare_keyed (keyed string) (bare_keyed string (λ s. refl)) c.texts i || false)
 
 -- a store's object tells its parts
-pub same_parts : (c : Contents) (save : Bool) (texts : finite.FinMap text_cmp TextMap) (lengths : finite.FinMap text_cmp LengthMap) (n : ℕ) → store_object save (keyed (keyed string) texts) (keyed (keyed count) lengths) n ≡ store_value c
+pub same_parts : (c : Contents) (save : Bool) (texts : finite.FinMap text_cmp TextMap)
+    (lengths : finite.FinMap text_cmp LengthMap) (n : ℕ) → store_object save (keyed (keyed string) texts)
+    (keyed (keyed count) lengths) n ≡ store_value c
     → (c.save ≡ save) × (c.texts ≡ texts) × (c.lengths ≡ lengths) × (finite.len c.texts ≡ n)
 same_parts c save texts lengths n e =
     let saves : c.save ≡ save = cc in
     let same_texts : keyed (keyed string) c.texts ≡ keyed (keyed string) texts = cc in
     let same_lengths : keyed (keyed count) c.lengths ≡ keyed (keyed count) lengths = cc in
-    let counts : finite.len c.texts ≡ n = cc in
-    (saves, same_keyed (keyed string) (same_keyed string same_string) c.texts texts same_texts, same_keyed (keyed count) (same_keyed count same_count) c.lengths lengths same_lengths, counts)
+    let counts : finite.len c.texts ≡ n = cc in (
+      saves,
+      same_keyed (keyed string) (same_keyed string same_string) c.texts texts same_texts,
+      same_keyed (keyed count)
+          (same_keyed count same_count) c.lengths lengths same_lengths,
+      counts,
+    )

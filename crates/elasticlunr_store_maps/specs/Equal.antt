@@ -22,10 +22,16 @@ contents_Decides c d = (
       let maps = both_true _ _ parts.1 in
       λ i. record {
         save = bool_one c.save d.save parts.0 i;
-        texts = (map_Decides (same_map bytes_eq) (map_Decides bytes_eq bytes_eq-Decides) c.texts d.texts).0 maps.0 i;
-        lengths = (map_Decides (same_map nat_eq) (map_Decides nat_eq nat_Decides) c.lengths d.lengths).0 maps.1 i;
+        texts = (map_Decides (same_map bytes_eq) (map_Decides bytes_eq bytes_eq-Decides) c.texts
+            d.texts).0 maps.0 i;
+        lengths = (map_Decides (same_map nat_eq) (map_Decides nat_eq nat_Decides) c.lengths
+            d.lengths).0 maps.1 i;
       },
-  λ p. subst (λ x. same_contents c x ≡ true) p (λ i. bool_eq_equiv.refl c.save i && ((map_Decides (same_map bytes_eq) (map_Decides bytes_eq bytes_eq-Decides) c.texts c.texts).1 refl i && (map_Decides (same_map nat_eq) (map_Decides nat_eq nat_Decides) c.lengths c.lengths).1 refl i)),
+  λ p. subst (λ x. same_contents c x ≡ true) p
+      (λ i. bool_eq_equiv.refl c.save i &&
+      ((map_Decides (same_map bytes_eq) (map_Decides bytes_eq bytes_eq-Decides) c.texts c.texts).1
+      refl i && (map_Decides (same_map nat_eq) (map_Decides nat_eq nat_Decides) c.lengths
+      c.lengths).1 refl i)),
 )
 
 pub contents_equivalence : IsEquivalence same_contents

@@ -1,7 +1,8 @@
 //! Setting what a store has of a reference.
 ghost use Rattle.std.specs.Prelude.{◌≡◌, OnOk, OnErr, IfOk};
 ghost use Rattle.std.specs.FinMap.{insert, empty};
-ghost use Rattle.elasticlunr_store_maps.specs.Contents.{text_map, length_map, document_texts, document_lengths, lengths_with};
+ghost use Rattle.elasticlunr_store_maps.specs.Contents.{text_map, length_map, document_texts};
+ghost use Rattle.elasticlunr_store_maps.specs.Contents.{document_lengths, lengths_with};
 
 use std::alloc::{AllocError, Global};
 use std::collections::BTreeMap;
@@ -30,7 +31,8 @@ pub fn put_lengths(
 ) -> Result<(), AllocError>
     ensures ok { OnOk result (document_lengths doc_info.new.entries
         ≡ insert (document_lengths doc_info.old.entries) doc_ref.now (length_map lengths.entries)) }
-    ensures err { OnErr result (document_lengths doc_info.new.entries ≡ document_lengths doc_info.old.entries) }
+    ensures err { OnErr result (document_lengths doc_info.new.entries
+        ≡ document_lengths doc_info.old.entries) }
 {
     doc_info.insert(String::from_str(alloc, doc_ref)?, lengths)?;
     Ok(())
@@ -74,7 +76,8 @@ pub fn set_length(
 ) -> Result<(), AllocError>
     ensures ok { OnOk result (document_lengths doc_info.new.entries
         ≡ lengths_with (document_lengths doc_info.old.entries) doc_ref.now field.now length) }
-    ensures err { OnErr result (document_lengths doc_info.new.entries ≡ document_lengths doc_info.old.entries) }
+    ensures err { OnErr result (document_lengths doc_info.new.entries
+        ≡ document_lengths doc_info.old.entries) }
 {
     match doc_info.get_mut(doc_ref) {
         Some(lengths) => put_length(alloc, lengths, field, length),

@@ -4,7 +4,8 @@ ghost use Rattle.std.specs.Bool.{OnTrue, OnFalse};
 ghost use Rattle.std.specs.FinMap.{FinMap, get, empty};
 ghost use Rattle.elasticlunr_error.specs.Text.{Bytes, text_cmp};
 ghost use Rattle.elasticlunr_json.specs.Refused.{IsRefused};
-ghost use Rattle.elasticlunr_store_maps.specs.Contents.{TextMap, LengthMap, text_map, length_map, document_texts, document_lengths};
+ghost use Rattle.elasticlunr_store_maps.specs.Contents.{TextMap, LengthMap, text_map, length_map};
+ghost use Rattle.elasticlunr_store_maps.specs.Contents.{document_texts, document_lengths};
 ghost use Rattle.elasticlunr_store_maps.specs.SmallLengths.{AreSmallLengths, HasSmallLengths};
 ghost use Rattle.elasticlunr_json.specs.Maps.{keyed, count};
 ghost use Rattle.serde_json.specs.Data.{string};
@@ -39,7 +40,8 @@ pub fn read_document_texts(
     alloc: Global,
     value: &Value,
 ) -> Result<BTreeMap<String, BTreeMap<String, String>>, IndexError>
-    ensures ok { IfOk result (λ docs. view value.now ≡ keyed (keyed string) (document_texts docs.entries)) }
+    ensures ok { IfOk result (λ docs. view value.now
+        ≡ keyed (keyed string) (document_texts docs.entries)) }
     ensures err { IfErr result (IsRefused ((m : FinMap text_cmp TextMap)
         → view value.now ≢ keyed (keyed string) m)) }
 {
@@ -97,8 +99,10 @@ pub fn read_document_lengths(
 
 /// Whether some reference has an empty map of lengths.
 pub fn has_empty(doc_info: &BTreeMap<String, BTreeMap<String, usize>>) -> bool
-    ensures yes { OnTrue result ((r : Bytes) × (get (document_lengths doc_info.now.entries) r ≡ Some empty)) }
-    ensures no { OnFalse result ((r : Bytes) → get (document_lengths doc_info.now.entries) r ≢ Some empty) }
+    ensures yes { OnTrue result ((r : Bytes) × (get (document_lengths doc_info.now.entries) r
+        ≡ Some empty)) }
+    ensures no { OnFalse result ((r : Bytes) → get (document_lengths doc_info.now.entries) r ≢ Some
+        empty) }
 {
     for (_doc_ref, lengths) in doc_info.iter() {
         if lengths.is_empty() {

@@ -2,7 +2,8 @@
 ghost use Rattle.std.specs.Prelude.{◌≡◌, nat_eq};
 ghost use Rattle.std.specs.Str.{bytes_eq};
 ghost use Rattle.elasticlunr_json.specs.Maps.{same_map};
-ghost use Rattle.elasticlunr_store_maps.specs.Contents.{text_map, length_map, document_texts, document_lengths};
+ghost use Rattle.elasticlunr_store_maps.specs.Contents.{text_map, length_map, document_texts};
+ghost use Rattle.elasticlunr_store_maps.specs.Contents.{document_lengths};
 
 use std::collections::BTreeMap;
 
@@ -31,7 +32,8 @@ pub fn same_document_texts(
     a: &BTreeMap<String, BTreeMap<String, String>>,
     b: &BTreeMap<String, BTreeMap<String, String>>,
 ) -> bool
-    ensures { result ≡ same_map (same_map bytes_eq) (document_texts a.now.entries) (document_texts b.now.entries) }
+    ensures { result ≡ same_map (same_map bytes_eq) (document_texts a.now.entries)
+        (document_texts b.now.entries) }
 {
     let mut others = b.iter();
     for (doc_ref, texts) in a.iter() {
@@ -55,7 +57,8 @@ pub fn same_document_lengths(
     a: &BTreeMap<String, BTreeMap<String, usize>>,
     b: &BTreeMap<String, BTreeMap<String, usize>>,
 ) -> bool
-    ensures { result ≡ same_map (same_map nat_eq) (document_lengths a.now.entries) (document_lengths b.now.entries) }
+    ensures { result ≡ same_map (same_map nat_eq) (document_lengths a.now.entries)
+        (document_lengths b.now.entries) }
 {
     let mut others = b.iter();
     for (doc_ref, lengths) in a.iter() {

@@ -1,6 +1,8 @@
-//! The JSON values of maps of texts and of lengths, and the object that a document store makes of them.
+//! The JSON values of maps of texts and of lengths, and the object that a document store makes of
+//! them.
 ghost use Rattle.std.specs.Prelude.{◌≡◌, IfOk};
-ghost use Rattle.elasticlunr_store_maps.specs.Contents.{store_object, text_map, length_map, document_texts, document_lengths};
+ghost use Rattle.elasticlunr_store_maps.specs.Contents.{store_object, text_map, length_map};
+ghost use Rattle.elasticlunr_store_maps.specs.Contents.{document_texts, document_lengths};
 ghost use Rattle.elasticlunr_json.specs.Maps.{keyed, count};
 ghost use Rattle.serde_json.specs.Data.{string};
 ghost use Rattle.serde_json.specs.View.{view};
@@ -51,7 +53,8 @@ pub fn document_lengths_value(
     alloc: Global,
     doc_info: &BTreeMap<String, BTreeMap<String, usize>>,
 ) -> Result<Value, AllocError>
-    ensures { IfOk result (λ v. view v ≡ keyed (keyed count) (document_lengths doc_info.now.entries)) }
+    ensures { IfOk result (λ v. view v
+        ≡ keyed (keyed count) (document_lengths doc_info.now.entries)) }
 {
     let mut members = Map::new(alloc);
     for (doc_ref, lengths) in doc_info.iter() {

@@ -4,7 +4,8 @@ ghost use Rattle.json.specs.Token.{key, number, boolean, end_object};
 ghost use Rattle.serde_json.specs.Data.{string};
 ghost use Rattle.elasticlunr_json.specs.Maps.{keyed, count};
 ghost use Rattle.elasticlunr_json.specs.Tokens.{WritesValue};
-ghost use Rattle.elasticlunr_store_maps.specs.Contents.{text_map, length_map, document_texts, document_lengths};
+ghost use Rattle.elasticlunr_store_maps.specs.Contents.{text_map, length_map, document_texts};
+ghost use Rattle.elasticlunr_store_maps.specs.Contents.{document_lengths};
 
 use elasticlunr_json::{Token, Tokens};
 use std::alloc::AllocError;

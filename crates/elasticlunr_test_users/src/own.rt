@@ -1,5 +1,6 @@
 //! Functions, stages and tokenizers of the user's own.
-ghost use Rattle.std.specs.Prelude.{◌≡◌, ◌++◌, ◌∷◌, [], IfOk, None, Some, codes, option_map, string_bytes, if◌then◌else◌};
+ghost use Rattle.std.specs.Prelude.{◌≡◌, ◌++◌, ◌∷◌, [], IfOk, None, Some, codes, option_map};
+ghost use Rattle.std.specs.Prelude.{string_bytes, if◌then◌else◌};
 ghost use Rattle.std.specs.Str.{bytes_eq, chars, encode_utf8_all};
 ghost use Rattle.elasticlunr_text.specs.Text.{bytes_of, text_of};
 ghost use Rattle.elasticlunr.specs.OneAnswer.{HasOneAnswer};
@@ -17,7 +18,8 @@ use std::test::Fail;
 /// What is left of a token: none of `x`, and else the token followed by `!`.
 fn marked(_alloc: Global, mut token: String) -> Result<Option<String>, AllocError>
     ensures { IfOk result (λ left. option_map string_bytes left
-        ≡ (if bytes_eq (string_bytes token) (codes "x") then None else Some (string_bytes token ++ codes "!"))) }
+        ≡ (if bytes_eq (string_bytes token) (codes "x") then None else Some
+        (string_bytes token ++ codes "!"))) }
 {
     if token.as_str() == "x" {
         return Ok(None);

@@ -18,7 +18,8 @@ impl Language for Commas {
 
     ghost code_of = { λ _. codes "cm" };
 
-    ghost tokens_of = { λ _ text. map chars (slice_split (λ b. nat_eq b 0x2C) (encode_utf8_all text)) };
+    ghost tokens_of = { λ _ text. map chars
+        (slice_split (λ b. nat_eq b 0x2C) (encode_utf8_all text)) };
 
     ghost stages_of = { λ _. codes "all" ∷ [] };
 

@@ -1,10 +1,11 @@
 //! Searches of what no index of the library's own languages prints: an index with a stage of the
-//! user's own, one with a tokenizer, and one that elasticlunr.js printed; and of an index that nests
+//! user's own, one with a tokenizer, and one that elasticlunr.js printed; and of an index that
+//! nests
 //! deeper than a JSON value is read.
 use crate::texts::repeated;
-use elasticlunr::{Index, IndexBuilder};
 use elasticlunr::lang::English;
 use elasticlunr::pipeline::{Pipeline, PipelineFn, Stage};
+use elasticlunr::{Index, IndexBuilder};
 use elasticlunr_own::{DropEmpty, Plain, Tokenize, index_of_words, index_with_tokenizer, whole};
 use elasticlunr_search::{Join, SearchError, Searcher};
 use std::test::Fail;

@@ -1,5 +1,6 @@
 -- On texts whose ends are cut, as bytes.
-use Rattle.std.proofs.Common.{◌≡◌, ℕ, ◌+◌, ◌-◌, ◌≤◌, Bool, List, ◌++◌, length, take, drop, sym, ap, ◌∙◌, subst, arith, length-append}
+use Rattle.std.proofs.Common.{◌≡◌, ℕ, ◌+◌, ◌-◌, ◌≤◌, Bool, List, ◌++◌, length, take, drop, sym, ap, ◌∙◌, subst, arith}
+use Rattle.std.proofs.Common.{length-append}
 use Rattle.std.proofs.Math.Seq.{take-append_seam, drop-append_seam}
 use Rattle.std.proofs.lemmas.Str.{encodes-chars, encodes-append, IsCharBoundary-from_take, IsCharBoundary-at_seam}
 use Rattle.std.specs.Str.{chars, IsUtf8, encode_utf8_all}
@@ -33,13 +34,15 @@ module _ (in_class : ℕ → Bool) (t u : List ℕ) (utf8 : IsUtf8 t) (left_utf8
       omega (arith, whole)
 
   -- the place up to which the beginning is cut
-  pub cut-place : (n : ℕ) → chars u ≡ from_first in_class (chars t) → n ≡ length t - length u → IsSplitPoint t n × (drop n t ≡ u)
+  pub cut-place : (n : ℕ) → chars u ≡ from_first in_class (chars t) → n ≡ length t - length u → IsSplitPoint t n
+      × (drop n t ≡ u)
   cut-place n same is =
       let (front, split) = from_first-bytes same in
       let whole : length t ≡ length front + length u = ap (λ xs. length xs) split ∙ length-append front u in
       let place : length front ≡ n = omega (arith, whole, is) in
       let seam = IsCharBoundary-at_seam t front u split left_utf8 in
-      subst (λ (m : ℕ). IsSplitPoint t m × (drop m t ≡ u)) place ((seam.0, λ some. seam.1), ap (λ xs. drop (length front) xs) split ∙ drop-append_seam front u)
+      subst (λ (m : ℕ). IsSplitPoint t m × (drop m t ≡ u)) place
+      ((seam.0, λ some. seam.1), ap (λ xs. drop (length front) xs) split ∙ drop-append_seam front u)
 
   -- the place from which the end is cut
   pub kept-place : (n : ℕ) → chars u ≡ up_to_last in_class (chars t) → n ≡ length u → IsSplitPoint t n × (take n t ≡ u)
@@ -47,5 +50,6 @@ module _ (in_class : ℕ → Bool) (t u : List ℕ) (utf8 : IsUtf8 t) (left_utf8
       let (rest, split) = up_to_last-bytes same in
       let whole : length t ≡ length u + length rest = ap (λ xs. length xs) split ∙ length-append u rest in
       let front : take (length u) t ≡ u = ap (λ xs. take (length u) xs) split ∙ take-append_seam u rest in
-      let seam = IsCharBoundary-from_take t (length u) utf8 (omega (arith, whole)) (subst (λ (xs : List ℕ). IsUtf8 xs) (sym front) left_utf8) in
+      let seam = IsCharBoundary-from_take t (length u) utf8 (omega (arith, whole))
+      (subst (λ (xs : List ℕ). IsUtf8 xs) (sym front) left_utf8) in
       subst (λ (m : ℕ). IsSplitPoint t m × (take m t ≡ u)) (sym is) ((seam.0, λ some. seam.1), front)

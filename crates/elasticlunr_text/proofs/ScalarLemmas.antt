@@ -30,7 +30,9 @@ scalars-back [] ys e = e
 scalars-back (x ∷ xs) ys e = scalars-back xs ys (and_second _ _ e)
 
 -- what is left of a text that was trimmed
-pub scalars-trimmed : (in_class : ℕ → Bool) (text : List ℕ) → all_scalars text ≡ true → all_scalars (trimmed in_class text) ≡ true
+pub scalars-trimmed : (in_class : ℕ → Bool) (text : List ℕ) → all_scalars text ≡ true
+    → all_scalars (trimmed in_class text) ≡ true
 scalars-trimmed in_class text e =
     let is = IsTrimmed-trimmed in_class text in
-    scalars-front (trimmed in_class text) is.after (scalars-back is.before (trimmed in_class text ++ is.after) (rw is.split at e))
+    scalars-front (trimmed in_class text) is.after (scalars-back is.before (trimmed in_class text ++ is.after)
+    (rw is.split at e))

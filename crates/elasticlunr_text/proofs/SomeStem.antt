@@ -1,5 +1,8 @@
 -- Each word has a stem: the tests, the cuts and the rules are decided.
-use Rattle.std.proofs.Common.{◌≡◌, ◌≢◌, ℕ, ◌-◌, ◌≤◌, Bool, true, false, not, List, [], ◌∷◌, ◌++◌, ◌⊎◌, ◌↔◌, inl, inr, ⊎_elim, refl, sym, ap, ◌∙◌, subst, arith, length, length-append, append_assoc, append-nil, take, drop, codes, true≢false, bytes_eq, le_of_lt, lt_of_not-le, nat_le, leb-true, le-leb, ◌==◌, fold, encode_utf8_all, eqb-true, eq-eqb, take-append-drop}
+use Rattle.std.proofs.Common.{◌≡◌, ◌≢◌, ℕ, ◌-◌, ◌≤◌, Bool, true, false, not, List, [], ◌∷◌, ◌++◌, ◌⊎◌, ◌↔◌, inl, inr}
+use Rattle.std.proofs.Common.{⊎_elim, refl, sym, ap, ◌∙◌, subst, arith, length, length-append, append_assoc, append-nil}
+use Rattle.std.proofs.Common.{take, drop, codes, true≢false, bytes_eq, le_of_lt, lt_of_not-le, nat_le, leb-true, le-leb}
+use Rattle.std.proofs.Common.{◌==◌, fold, encode_utf8_all, eqb-true, eq-eqb, take-append-drop}
 use Rattle.std.proofs.Math.Seq.{drop-append_seam}
 use Rattle.std.proofs.lemmas.List.{append_cancel_right}
 use Rattle.std.proofs.lemmas.Slice.Eq.{bytes_eq-Decides}
@@ -12,7 +15,11 @@ use Rattle.elasticlunr_text.specs.declared.lang.en.blocks.Reading.TheVariants.{S
 use Rattle.elasticlunr_text.specs.declared.lang.en.blocks.Short.{Short}
 use Rattle.elasticlunr_text.specs.declared.lang.en.blocks.Short.TheVariants.{Begun, Consonants, Vowel, Whole, Other}
 use Rattle.elasticlunr_text.specs.Suffixes.{Ending, step_2_endings, step_3_endings, step_4_endings}
-use Rattle.elasticlunr_text.specs.Stems.{IsStem, IsCut, HasNoCut, EndsWith, EndsAfterStem, EndsInDouble, Rule, FirstOf, Then, Stays, LosesEs, LosesS, EndsInEed, GetsE, LosesDouble, ShortGetsE, Mended, LosesAndMends, YBecomesI, Replaces, DropsEnding, DropsIon, StandsWithoutE, DropsE, DropsL, Step1a, Step1b, Step1c, Step2, Step3, Step4, Step5, Steps, WithFirstY, Stem}
+use Rattle.elasticlunr_text.specs.Stems.{IsStem, IsCut, HasNoCut, EndsWith, EndsAfterStem, EndsInDouble, Rule, FirstOf}
+use Rattle.elasticlunr_text.specs.Stems.{Then, Stays, LosesEs, LosesS, EndsInEed, GetsE, LosesDouble, ShortGetsE}
+use Rattle.elasticlunr_text.specs.Stems.{Mended, LosesAndMends, YBecomesI, Replaces, DropsEnding, DropsIon}
+use Rattle.elasticlunr_text.specs.Stems.{StandsWithoutE, DropsE, DropsL, Step1a, Step1b, Step1c, Step2, Step3, Step4}
+use Rattle.elasticlunr_text.specs.Stems.{Step5, Steps, WithFirstY, Stem}
 use Rattle.elasticlunr_text.proofs.BlockLemmas.{Is1, HasVowel-read, MAbove0-read, MAbove1-read, MIs1-read, reading}
 use Rattle.elasticlunr_text.proofs.ShortLemmas.{IsShort-read, read-IsShort}
 use Rattle.elasticlunr_text.proofs.EndingLemmas.{no_line_feed, line_feed_free}
@@ -25,7 +32,8 @@ pub last_of : (u : List ℕ) → (u ≡ []) ⊎ ((f : List ℕ) × (c : ℕ) × 
 last_of [] = inl refl
 last_of (d ∷ u) = last_of-cons d u (last_of u)
   where
-    last_of-cons : (d : ℕ) (u : List ℕ) → (u ≡ []) ⊎ ((f : List ℕ) × (c : ℕ) × (u ≡ f ++ c ∷ [])) → (d ∷ u ≡ []) ⊎ ((f : List ℕ) × (c : ℕ) × (d ∷ u ≡ f ++ c ∷ []))
+    last_of-cons : (d : ℕ) (u : List ℕ) → (u ≡ []) ⊎ ((f : List ℕ) × (c : ℕ) × (u ≡ f ++ c ∷ [])) → (d ∷ u ≡ [])
+        ⊎ ((f : List ℕ) × (c : ℕ) × (d ∷ u ≡ f ++ c ∷ []))
     last_of-cons d u (inl e) = inr ([], d, ap (λ t. d ∷ t) e)
     last_of-cons d u (inr (f, c, e)) = inr (d ∷ f, c, ap (λ t. d ∷ t) e)
 
@@ -96,13 +104,15 @@ dec-Whole Whole = inl refl
 dec-Whole Other = inr (λ e. cc)
 
 dec-IsShort : (w : List ℕ) → Decided (IsShort w)
-dec-IsShort w = dec-iff (fold short_after Begun w ≡ Whole) (IsShort w) (IsShort-read w, read-IsShort w) (dec-Whole (fold short_after Begun w))
+dec-IsShort w = dec-iff (fold short_after Begun w ≡ Whole) (IsShort w) (IsShort-read w, read-IsShort w)
+    (dec-Whole (fold short_after Begun w))
 
 -- ---- stems and suffixes
 dec-IsStem : (s : List ℕ) → Decided (IsStem s)
 dec-IsStem s =
     dec-both _ _ (dec-not _ (dec-same s []))
-    (dec-iff (list_all (λ c. not (c == 10)) s ≡ true) (AllByRecursion (λ c. c ≢ 10) s) (no_line_feed s, line_feed_free s) (dec-bool (list_all (λ c. not (c == 10)) s)))
+    (dec-iff (list_all (λ c. not (c == 10)) s ≡ true) (AllByRecursion (λ c. c ≢ 10) s)
+    (no_line_feed s, line_feed_free s) (dec-bool (list_all (λ c. not (c == 10)) s)))
 
 -- what stands before the suffix, where the word ends with it
 split-at : (x w : List ℕ) → Decided (EndsWith x w)
@@ -129,8 +139,16 @@ dec-EndsAfterStem x w = dec-stem_at x w (split-at x w)
 abbrev Letter : List ℕ → List ℕ → Type 0
 Letter x w = (s : List ℕ) × (c : ℕ) × IsStem s × (w ≡ s ++ c ∷ x)
 
-letter-at : (x w f : List ℕ) → w ≡ f ++ x → (f ≡ []) ⊎ ((g : List ℕ) × (c : ℕ) × (f ≡ g ++ c ∷ [])) → Decided (Letter x w)
-letter-at x w f e (inl z) = inr (λ h. omega (arith, ap (λ t. length t) e, ap (λ t. length t) z, length-append f x, ap (λ t. length t) h.3, length-append h.0 (h.1 ∷ x)))
+letter-at : (x w f : List ℕ) → w ≡ f ++ x → (f ≡ []) ⊎ ((g : List ℕ) × (c : ℕ) × (f ≡ g ++ c ∷ []))
+    → Decided (Letter x w)
+letter-at x w f e (inl z) = inr (λ h. omega (
+  arith,
+  ap (λ t. length t) e,
+  ap (λ t. length t) z,
+  length-append f x,
+  ap (λ t. length t) h.3,
+  length-append h.0 (h.1 ∷ x),
+))
 letter-at x w f e (inr (g, c, k)) =
     let whole : w ≡ g ++ c ∷ x = e ∙ ap (λ t. t ++ x) k ∙ append_assoc g (c ∷ []) x in
     elim (dec-IsStem g) [
@@ -149,7 +167,8 @@ dec-Letter x w = letter-end x w (split-at x w)
 abbrev CutOrNone : List Ending → List ℕ → Type 0
 CutOrNone T w = HasNoCut T w ⊎ ((s : List ℕ) × (x : List ℕ) × (y : List ℕ) × IsCut T w s x y)
 
-one-more : (T : List Ending) (w x y : List ℕ) → CutOrNone T w → Decided (EndsAfterStem x w) → CutOrNone (T ++ (x, y) ∷ []) w
+one-more : (T : List Ending) (w x y : List ℕ) → CutOrNone T w → Decided (EndsAfterStem x w)
+    → CutOrNone (T ++ (x, y) ∷ []) w
 one-more T w x y (inl h) (inr n) = inl (none-none T w x y h (λ s st e. n (s, st, e)))
 one-more T w x y (inl h) (inl k) = inr (k.0, x, y, none-some T w x y k.0 h k.1 k.2)
 one-more T w x y (inr (s, a, b, c)) (inr n) = inr (s, a, b, some-none T w x y s a b c (λ t st e. n (t, st, e)))
@@ -162,7 +181,8 @@ one-more T w x y (inr (s, a, b, c)) (inl k) =
 all-more : (T S : List Ending) (w : List ℕ) → CutOrNone T w → CutOrNone (T ++ S) w
 all-more T [] w h = subst (λ (t : List Ending). CutOrNone t w) (sym (append-nil T)) h
 all-more T ((x, y) ∷ S) w h =
-    subst (λ (t : List Ending). CutOrNone t w) (append_assoc T ((x, y) ∷ []) S) (all-more (T ++ (x, y) ∷ []) S w (one-more T w x y h (dec-EndsAfterStem x w)))
+    subst (λ (t : List Ending). CutOrNone t w) (append_assoc T ((x, y) ∷ []) S)
+    (all-more (T ++ (x, y) ∷ []) S w (one-more T w x y h (dec-EndsAfterStem x w)))
 
 cut-or-none : (T : List Ending) (w : List ℕ) → CutOrNone T w
 cut-or-none T w = all-more [] T w (inl (λ s x y st c e. absurd (omega (arith, c.1))))
@@ -175,7 +195,8 @@ Applies R = (w : List ℕ) → Decided ((v : List ℕ) × R w v)
 abbrev Some : Rule → Type 0
 Some R = (w : List ℕ) → (v : List ℕ) × R w v
 
-first-at : (R Q : Rule) (w : List ℕ) → Decided ((v : List ℕ) × R w v) → (v : List ℕ) × Q w v → (v : List ℕ) × FirstOf R Q w v
+first-at : (R Q : Rule) (w : List ℕ) → Decided ((v : List ℕ) × R w v) → (v : List ℕ) × Q w v → (v : List ℕ)
+    × FirstOf R Q w v
 first-at R Q w (inl r) q = (r.0, inl r.1)
 first-at R Q w (inr n) q = (q.0, inr (λ u h. n (u, h), q.1))
 
@@ -205,10 +226,29 @@ some-LosesS : Applies LosesS
 some-LosesS w =
     elim (dec-Letter (codes "s") w) [
       | inl h ↦ elim (dec-bool (h.1 == 115)) [
-        | inl e ↦ inr (λ k. k.1.3 ((same_parts k.1.0 h.0 (codes "s") k.1.1 h.1 (sym (append_assoc k.1.0 (k.1.1 ∷ []) (codes "s")) ∙ ap (λ t. t ++ codes "s") (sym k.1.4) ∙ sym k.1.5 ∙ h.3)).1 ∙ eqb-true h.1 115 e))
-        | inr n ↦ inl (h.0 ++ h.1 ∷ [], (h.0, h.1, h.2, (λ e. n (eq-eqb h.1 115 e)), refl, with-end (h.1 ∷ []) (codes "s") h.0 w h.3))
+        | inl e ↦ inr (λ k. k.1.3 ((same_parts k.1.0 h.0 (codes "s") k.1.1 h.1
+            (sym (append_assoc k.1.0 (k.1.1 ∷ []) (codes "s")) ∙ ap (λ t. t ++ codes "s") (sym k.1.4) ∙ sym k.1.5
+            ∙ h.3)).1 ∙ eqb-true h.1 115 e))
+        | inr n ↦ inl (
+          h.0 ++ h.1 ∷ [],
+          (
+            h.0,
+            h.1,
+            h.2,
+            (λ e. n (eq-eqb h.1 115 e)),
+            refl,
+            with-end (h.1 ∷ [])
+                (codes "s") h.0 w h.3,
+          ),
+        )
       ]
-      | inr n ↦ inr (λ k. n (k.1.0, k.1.1, k.1.2, k.1.5 ∙ ap (λ t. t ++ codes "s") k.1.4 ∙ append_assoc k.1.0 (k.1.1 ∷ []) (codes "s")))
+      | inr n ↦ inr (λ k. n (
+        k.1.0,
+        k.1.1,
+        k.1.2,
+        k.1.5 ∙ ap (λ t. t ++ codes "s") k.1.4
+            ∙ append_assoc k.1.0 (k.1.1 ∷ []) (codes "s"),
+      ))
     ]
 
 some-EndsInEed : Applies EndsInEed
@@ -236,9 +276,18 @@ double-at w f g last before e k =
       | inr n ↦ inr (λ d. let s = double-same w f g last before e k d in n (eq-eqb before last s.0, s.1))
     ]
 
-double-front : (w f : List ℕ) (last : ℕ) → w ≡ f ++ last ∷ [] → (f ≡ []) ⊎ ((g : List ℕ) × (c : ℕ) × (f ≡ g ++ c ∷ [])) → Decided (EndsInDouble w)
+double-front : (w f : List ℕ) (last : ℕ) → w ≡ f ++ last ∷ [] → (f ≡ []) ⊎ ((g : List ℕ) × (c : ℕ) × (f ≡ g ++ c ∷ []))
+    → Decided (EndsInDouble w)
 double-front w f last e (inl z) =
-    inr (λ d. omega (arith, ap (λ t. length t) e, ap (λ t. length t) z, length-append f (last ∷ []), ap (λ t. length t) d.3, length-append d.0 (d.1 ∷ d.1 ∷ [])))
+    inr (λ d. omega (
+      arith,
+      ap (λ t. length t) e,
+      ap (λ t. length t) z,
+      length-append f (last ∷ []),
+      ap (λ t. length t)
+          d.3,
+      length-append d.0 (d.1 ∷ d.1 ∷ []),
+    ))
 double-front w f last e (inr (g, c, k)) = double-at w f g last c e k
 
 double-end : (w : List ℕ) → (w ≡ []) ⊎ ((g : List ℕ) × (c : ℕ) × (w ≡ g ++ c ∷ [])) → Decided (EndsInDouble w)
@@ -249,7 +298,13 @@ some-LosesDouble : Applies LosesDouble
 some-LosesDouble w =
     elim (double-end w (last_of w)) [
       | inl d ↦ inl (d.0 ++ d.1 ∷ [], (d.0, d.1, d.2, refl, with-end (d.1 ∷ []) (d.1 ∷ []) d.0 w d.3))
-      | inr n ↦ inr (λ k. n (k.1.0, k.1.1, k.1.2, k.1.4 ∙ ap (λ t. t ++ k.1.1 ∷ []) k.1.3 ∙ append_assoc k.1.0 (k.1.1 ∷ []) (k.1.1 ∷ [])))
+      | inr n ↦ inr (λ k. n (
+        k.1.0,
+        k.1.1,
+        k.1.2,
+        k.1.4 ∙ ap (λ t. t ++ k.1.1 ∷ []) k.1.3
+            ∙ append_assoc k.1.0 (k.1.1 ∷ []) (k.1.1 ∷ []),
+      ))
     ]
 
 some-ShortGetsE : Applies ShortGetsE
@@ -266,7 +321,8 @@ some-LosesAndMends x w =
     elim (dec-EndsAfterStem x w) [
       | inl h ↦ elim (dec-HasVowel h.0) [
         | inl v ↦ (let m = some-Mended h.0 in inl (m.0, (h.0, h.1, h.2, v, m.1)))
-        | inr n ↦ inr (λ k. n (subst (λ (z : List ℕ). HasVowel z) (append_cancel_right k.1.0 h.0 x (sym k.1.2 ∙ h.2)) k.1.3))
+        | inr n ↦ inr (λ k. n (subst (λ (z : List ℕ). HasVowel z) (append_cancel_right k.1.0 h.0 x (sym k.1.2 ∙ h.2))
+            k.1.3))
       ]
       | inr n ↦ inr (λ k. n (k.1.0, k.1.1, k.1.2))
     ]
@@ -276,7 +332,8 @@ some-YBecomesI w =
     elim (dec-Letter (codes "y") w) [
       | inl h ↦ elim (dec-false (is_vowel h.1)) [
         | inl v ↦ inl (h.0 ++ h.1 ∷ codes "i", (h.0, h.1, h.2, v, h.3, refl))
-        | inr n ↦ inr (λ k. n (ap (λ d. is_vowel d) (same_parts h.0 k.1.0 (codes "y") h.1 k.1.1 (sym h.3 ∙ k.1.4)).1 ∙ k.1.3))
+        | inr n ↦ inr (λ k. n (ap (λ d. is_vowel d) (same_parts h.0 k.1.0 (codes "y") h.1 k.1.1 (sym h.3 ∙ k.1.4)).1
+            ∙ k.1.3))
       ]
       | inr n ↦ inr (λ k. n (k.1.0, k.1.1, k.1.2, k.1.4))
     ]
@@ -297,10 +354,15 @@ drops-at T w (inr (s, x, y, c)) =
 some-DropsIon : Applies DropsIon
 some-DropsIon w =
     elim (split-at (codes "ion") w) [
-      | inl f ↦ elim (dec-both _ _ (dec-or _ _ (dec-EndsAfterStem (codes "sion") w) (dec-EndsAfterStem (codes "tion") w)) (dec-MAbove1 f.0)) [
-        | inl h ↦ inl (f.0, (h.0, f.1, h.1))
-        | inr n ↦ inr (λ k. n (k.1.0, subst (λ (z : List ℕ). MAbove1 z) (append_cancel_right k.0 f.0 (codes "ion") (sym k.1.1 ∙ f.1)) k.1.2))
-      ]
+      | inl f ↦ elim (dec-both _ _ (dec-or _ _ (dec-EndsAfterStem (codes "sion") w)
+          (dec-EndsAfterStem (codes "tion") w)) (dec-MAbove1 f.0)) [
+            | inl h ↦ inl (f.0, (h.0, f.1, h.1))
+            | inr n ↦ inr (λ k. n (
+              k.1.0,
+              subst (λ (z : List ℕ). MAbove1 z)
+                  (append_cancel_right k.0 f.0 (codes "ion") (sym k.1.1 ∙ f.1)) k.1.2,
+            ))
+          ]
       | inr n ↦ inr (λ k. n (k.0, k.1.1))
     ]
 
@@ -312,7 +374,8 @@ some-DropsE w =
     elim (dec-EndsAfterStem (codes "e") w) [
       | inl h ↦ elim (dec-Stands h.0) [
         | inl m ↦ inl (h.0, (h.1, h.2, m))
-        | inr n ↦ inr (λ k. n (subst (λ (z : List ℕ). StandsWithoutE z) (append_cancel_right k.0 h.0 (codes "e") (sym k.1.1 ∙ h.2)) k.1.2))
+        | inr n ↦ inr (λ k. n (subst (λ (z : List ℕ). StandsWithoutE z)
+            (append_cancel_right k.0 h.0 (codes "e") (sym k.1.1 ∙ h.2)) k.1.2))
       ]
       | inr n ↦ inr (λ k. n (k.0, k.1.0, k.1.1))
     ]
@@ -330,24 +393,40 @@ some-DropsL w =
 some-Steps : Some Steps
 some-Steps =
     some-Then Step1a (Then Step1b (Then Step1c (Then Step2 (Then Step3 (Then Step4 Step5)))))
-    (some-Then (FirstOf LosesEs Stays) (FirstOf LosesS Stays) (some-or_stays LosesEs some-LosesEs) (some-or_stays LosesS some-LosesS))
+    (some-Then (FirstOf LosesEs Stays) (FirstOf LosesS Stays) (some-or_stays LosesEs some-LosesEs)
+    (some-or_stays LosesS some-LosesS))
     (some-Then Step1b (Then Step1c (Then Step2 (Then Step3 (Then Step4 Step5))))
-    (some-FirstOf EndsInEed (FirstOf (LosesAndMends (codes "ed")) (FirstOf (LosesAndMends (codes "ing")) Stays)) some-EndsInEed
-    (some-FirstOf (LosesAndMends (codes "ed")) (FirstOf (LosesAndMends (codes "ing")) Stays) (some-LosesAndMends (codes "ed"))
+    (some-FirstOf EndsInEed (FirstOf (LosesAndMends (codes "ed")) (FirstOf (LosesAndMends (codes "ing")) Stays))
+    some-EndsInEed
+    (some-FirstOf (LosesAndMends (codes "ed")) (FirstOf (LosesAndMends (codes "ing")) Stays)
+    (some-LosesAndMends (codes "ed"))
     (some-or_stays (LosesAndMends (codes "ing")) (some-LosesAndMends (codes "ing")))))
     (some-Then Step1c (Then Step2 (Then Step3 (Then Step4 Step5))) (some-or_stays YBecomesI some-YBecomesI)
-    (some-Then Step2 (Then Step3 (Then Step4 Step5)) (some-or_stays (Replaces step_2_endings) (λ w. replaces-at step_2_endings w (cut-or-none step_2_endings w)))
-    (some-Then Step3 (Then Step4 Step5) (some-or_stays (Replaces step_3_endings) (λ w. replaces-at step_3_endings w (cut-or-none step_3_endings w)))
+    (some-Then Step2 (Then Step3 (Then Step4 Step5))
+    (some-or_stays (Replaces step_2_endings) (λ w. replaces-at step_2_endings w (cut-or-none step_2_endings w)))
+    (some-Then Step3 (Then Step4 Step5) (some-or_stays (Replaces step_3_endings)
+    (λ w. replaces-at step_3_endings w (cut-or-none step_3_endings w)))
     (some-Then Step4 Step5
-    (some-FirstOf (DropsEnding step_4_endings) (FirstOf DropsIon Stays) (λ w. drops-at step_4_endings w (cut-or-none step_4_endings w)) (some-or_stays DropsIon some-DropsIon))
-    (some-Then (FirstOf DropsE Stays) (FirstOf DropsL Stays) (some-or_stays DropsE some-DropsE) (some-or_stays DropsL some-DropsL)))))))
+    (some-FirstOf (DropsEnding step_4_endings) (FirstOf DropsIon Stays)
+    (λ w. drops-at step_4_endings w (cut-or-none step_4_endings w)) (some-or_stays DropsIon some-DropsIon))
+    (some-Then (FirstOf DropsE Stays) (FirstOf DropsL Stays) (some-or_stays DropsE some-DropsE)
+    (some-or_stays DropsL some-DropsL)))))))
 
 with_y-at : (c : ℕ) (t : List ℕ) → Decided ((c == 121) ≡ true) → Decided ((v : List ℕ) × WithFirstY Steps (c ∷ t) v)
 with_y-at c t (inr n) = inr (λ k. let e = k.1.2 in let same : c ≡ 121 = cc in n (eq-eqb c 121 same))
 with_y-at c t (inl e) =
     let a = some-Steps (89 ∷ t) in
     let u = (Keeps-Steps (89 ∷ t) a.0 a.1).first 89 t refl in
-    inl (121 ∷ u.0, (t, u.0, ap (λ d. d ∷ t) (eqb-true c 121 e), subst (λ (z : List ℕ). Steps (89 ∷ t) z) u.1 a.1, refl))
+    inl (
+      121 ∷ u.0,
+      (
+        t,
+        u.0,
+        ap (λ d. d ∷ t) (eqb-true c 121 e),
+        subst (λ (z : List ℕ). Steps (89 ∷ t) z) u.1 a.1,
+        refl,
+      ),
+    )
 
 some-WithFirstY : Applies (WithFirstY Steps)
 some-WithFirstY [] = inr (λ k. let e = k.1.2 in absurd (cc))
@@ -356,6 +435,7 @@ some-WithFirstY (c ∷ t) = with_y-at c t (dec-bool (c == 121))
 pub some-Stem : (w : List ℕ) → (v : List ℕ) × Stem w v
 some-Stem w =
     elim (dec-le 3 (length (encode_utf8_all w))) [
-      | inl long ↦ (let a = some-FirstOf (WithFirstY Steps) Steps some-WithFirstY some-Steps w in (a.0, inr (long, a.1)))
+      | inl long ↦ (let a = some-FirstOf (WithFirstY Steps) Steps some-WithFirstY some-Steps w in
+          (a.0, inr (long, a.1)))
       | inr n ↦ (w, inl (lt_of_not-le n, refl))
     ]

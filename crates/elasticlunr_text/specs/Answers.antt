@@ -8,5 +8,6 @@ use Rattle.elasticlunr_text.specs.declared.pipeline.function.FnWrapper.{FnWrappe
 -- some call of the wrapper's function at a string with this text may give this
 abbrev pub MayAnswer : {f calls : _} → FnWrapper f calls → List ℕ → Option (List ℕ) → Type 0
 MayAnswer {calls = calls} wrapper token left =
-    (alloc : Global) × (s : String Global) × (answer : Option (String Global)) × (text_of s ≡ token) × (option_map text_of answer ≡ left)
+    (alloc : Global) × (s : String Global) × (answer : Option (String Global)) × (text_of s ≡ token)
+    × (option_map text_of answer ≡ left)
     × calls.post wrapper.function (alloc, (s, tt)) (Ok answer)

@@ -1,4 +1,5 @@
--- How the end or the first letter of a word changes, and its cut as the stemmer has it; for private clauses.
+-- How the end or the first letter of a word changes, and its cut as the stemmer has it; for private
+-- clauses.
 use Rattle.std.specs.Prelude.{◌≡◌, ℕ, List, [], ◌∷◌, ◌++◌, chars, string_len, string_capacity}
 use Rattle.std.specs.declared.string.String.{String}
 use Rattle.std.specs.declared.alloc.Global.{Global}
@@ -24,4 +25,5 @@ IsCutOf endings w cut = IsCut endings w (chars cut.stem.now) cut.suffix.now cut.
 
 -- the string is as long, and has room for as much
 abbrev pub KeepsLengthAndRoom : String Global → String Global → Type 0
-KeepsLengthAndRoom old new = (string_len new ≡ string_len old) × (string_capacity new ≡ string_capacity old)
+KeepsLengthAndRoom old new = (string_len new ≡ string_len old)
+    × (string_capacity new ≡ string_capacity old)

@@ -7,5 +7,6 @@ use Rattle.elasticlunr_text.specs.Stages.{MayLeaveAll}
 use Rattle.elasticlunr_text.specs.declared.pipeline.run.Pipeline.{Pipeline}
 
 -- the pipeline may leave this of the token, where `leaves` is what a boxed step leaves of a token
-abbrev pub MayFilterTo : {f x p calls : _} (leaves : DynBox x Global p → Text → Option Text) → Pipeline f x p calls → Text → Option Text → Type 0
+abbrev pub MayFilterTo : {f x p calls : _} (leaves : DynBox x Global p → Text → Option Text)
+    → Pipeline f x p calls → Text → Option Text → Type 0
 MayFilterTo leaves pipeline token left = MayLeaveAll leaves pipeline.queue.items token left

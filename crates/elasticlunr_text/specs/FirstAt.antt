@@ -1,4 +1,5 @@
--- For clauses of private functions: where the first character that passes a test begins, in the bytes of a text.
+-- For clauses of private functions: where the first character that passes a test begins, in the
+-- bytes of a text.
 use Rattle.std.specs.Prelude.{◌≡◌, ℕ, Bool, true, false, List, ◌++◌, take, drop, encode_utf8}
 use Rattle.std.specs.List.{list_any}
 use Rattle.std.specs.Str.{chars, IsCharBoundary}

@@ -21,4 +21,5 @@ only-prop : (word stem : Text) → IsProp (IsOnlyStem word stem)
 only-prop word stem = Prim.hlevel props
 
 pub HasStems-prop : IsProp HasStems
-HasStems-prop = Π_prop (λ word s t. Σ_prop_path (only-prop word) (∥∥₁_elim s.1.0 (texts_are_a_set s.0 t.0) (λ h. t.1.1 s.0 h)))
+HasStems-prop = Π_prop (λ word s t. Σ_prop_path (only-prop word)
+    (∥∥₁_elim s.1.0 (texts_are_a_set s.0 t.0) (λ h. t.1.1 s.0 h)))

@@ -1,5 +1,6 @@
 -- What a filter of stop words does.
-use Rattle.std.specs.Prelude.{◌≡◌, Bool, IsTrue, List, Option, Some, None, if◌then◌else◌, string_bytes}
+use Rattle.std.specs.Prelude.{◌≡◌, Bool, IsTrue, List, Option, Some, None, if◌then◌else◌}
+use Rattle.std.specs.Prelude.{string_bytes}
 use Rattle.std.specs.Str.{all_scalars}
 use Rattle.elasticlunr_text.specs.Text.{Text, Bytes, texts_of, is_listed}
 use Rattle.elasticlunr_text.specs.declared.lang.common.stop_words.StopWordFilter.{StopWordFilter}
@@ -14,7 +15,8 @@ has_word filter token = is_listed token (texts_of filter.stop_words.keys)
 
 -- the stop words of the filter are these
 abbrev pub HasWords : StopWordFilter → List Text → Type 0
-HasWords filter words = (token : Text) → IsTrue (all_scalars token) → has_word filter token ≡ is_listed token words
+HasWords filter words = (token : Text) → IsTrue (all_scalars token) → has_word filter token
+    ≡ is_listed token words
 
 -- the token, unless it is a stop word
 abbrev pub without : StopWordFilter → Text → Option Text

@@ -19,7 +19,12 @@ blank_index = record {
   trie = empty_trie;
   parents = λ k lt. absurd (omega arith);
   names_are = record { distinct = λ n r e. absurd (cc); texts = λ n r e. absurd (cc) };
-  listed = record { listed = λ k n f e. absurd (none k n f e); named = λ k n f e. absurd (none k n f e); small = λ k n f e. absurd (none k n f e) };
+  listed = record {
+    listed = λ k n f e. absurd (none k n f e);
+    named = λ k n f e. absurd (none k n f e);
+    small =
+        λ k n f e. absurd (none k n f e);
+  };
 }
 
 pub blank_table : table_of [] [] [] ≡ new_table

@@ -30,7 +30,8 @@ module _ (root : Children) (nodes : List Node) (trie : IsTrie root nodes) (names
       joined _ _ (trie.characters p c step.0 step.1) (walk_scalars t _ q step.2)
 
   -- the place of a posting
-  pub posted : (P : Type 0) (t : Text) (r : Bytes) (n : ℕ) → posting (table_of root nodes names) t r ≡ Some n → ((p : Place) → at names r (entries_at root nodes p) ≡ Some n → P) → P
+  pub posted : (P : Type 0) (t : Text) (r : Bytes) (n : ℕ) → posting (table_of root nodes names) t r ≡ Some n
+      → ((p : Place) → at names r (entries_at root nodes p) ≡ Some n → P) → P
   posted P t r n e f = by (walk (step_of root nodes) Root t) refl
     where
       by : (o : Option Place) → walk (step_of root nodes) Root t ≡ o → P

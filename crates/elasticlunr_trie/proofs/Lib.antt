@@ -24,5 +24,5 @@ pub mod Compact
 pub mod Changes
 pub mod Written
 pub mod Behind
-mod Ends
+mod TokenCache
 mod References

@@ -1,5 +1,7 @@
 -- On the texts in a set, and those of postings.
-use Rattle.std.proofs.Common.{◌≡◌, ℕ, zero, suc, ◌+◌, ◌<◌, Bool, true, false, true≢false, cond, List, [], ◌∷◌, ◌++◌, ◌||◌, length, take, get_or, map, is_some, Option, Some, Result, Ok, Err, OnErr, refl, sym, ap, ◌∙◌, bytes_eq, Less}
+use Rattle.std.proofs.Common.{◌≡◌, ℕ, zero, suc, ◌+◌, ◌<◌, Bool, true, false, true≢false, cond, List, [], ◌∷◌, ◌++◌}
+use Rattle.std.proofs.Common.{◌||◌, length, take, get_or, map, is_some, Option, Some, Result, Ok, Err, OnErr, refl, sym}
+use Rattle.std.proofs.Common.{ap, ◌∙◌, bytes_eq, Less}
 use Rattle.std.proofs.lemmas.List.{map-append}
 use Rattle.std.proofs.lemmas.Slice.Eq.{bytes_eq-Decides}
 use Rattle.std.specs.Borrow.{Bor}
@@ -22,15 +24,19 @@ abbrev pub by_text : Bor Bytes → Bor Bytes → Ordering
 by_text x y = slice_cmp nat_cmp x.now y.now
 
 -- a text is in a set where it is listed
-contained : (keys : List (Bor Bytes)) (q : Bor Bytes) → list_any (eq_by_cmp by_text q) keys ≡ is_listed q.now (map (λ k. k.now) keys)
+contained : (keys : List (Bor Bytes)) (q : Bor Bytes) → list_any (eq_by_cmp by_text q) keys
+    ≡ is_listed q.now (map (λ k. k.now) keys)
 contained [] q = refl
 contained (k ∷ keys) q = λ i. is_eq-slice_cmp q.now k.now i || contained keys q i
 
 -- one text more
-pub put_text : (old new : BTreeSet (Bor Bytes)) (name : Bor Bytes) → UpdatesBy by_text (by_text name) old new true → (r : Bytes) → is_listed r (texts_in new) ≡ (bytes_eq name.now r || is_listed r (texts_in old))
+pub put_text : (old new : BTreeSet (Bor Bytes)) (name : Bor Bytes) → UpdatesBy by_text (by_text name) old new true
+    → (r : Bytes) → is_listed r (texts_in new) ≡ (bytes_eq name.now r || is_listed r (texts_in old))
 put_text old new name updates r =
     let q : Bor Bytes = record { ref_ptr = (0, 0); now = r } in
-    sym (contained new.keys q) ∙ updates.0 q ∙ ap (λ b. cond b true (contains by_text old q)) (is_eq-slice_cmp name.now r) ∙ ap (cond (bytes_eq name.now r) true) (contained old.keys q) ∙ or (bytes_eq name.now r) _
+    sym (contained new.keys q) ∙ updates.0 q ∙ ap (λ b. cond b true (contains by_text old q))
+    (is_eq-slice_cmp name.now r) ∙ ap (cond (bytes_eq name.now r) true) (contained old.keys q)
+    ∙ or (bytes_eq name.now r) _
   where
     or : (a b : Bool) → cond a true b ≡ (a || b)
     or true b = refl
@@ -46,8 +52,10 @@ same_both_ways a b = by (bytes_eq a b) (bytes_eq b a) refl refl
     by : (x y : Bool) → bytes_eq a b ≡ x → bytes_eq b a ≡ y → bytes_eq a b ≡ bytes_eq b a
     by true true e f = e ∙ sym f
     by false false e f = e ∙ sym f
-    by true false e f = let is : a ≡ b = (bytes_eq-Decides a b).0 e in absurd (true≢false (sym ((bytes_eq-Decides b a).1 (sym is)) ∙ f))
-    by false true e f = let is : b ≡ a = (bytes_eq-Decides b a).0 f in absurd (true≢false (sym ((bytes_eq-Decides a b).1 (sym is)) ∙ e))
+    by true false e f = let is : a ≡ b = (bytes_eq-Decides a b).0 e in absurd
+        (true≢false (sym ((bytes_eq-Decides b a).1 (sym is)) ∙ f))
+    by false true e f = let is : b ≡ a = (bytes_eq-Decides b a).0 f in absurd
+        (true≢false (sym ((bytes_eq-Decides a b).1 (sym is)) ∙ e))
 
 behind : (r : Bytes) (xs : List Bytes) (x : Bytes) → is_listed r (xs ++ x ∷ []) ≡ (is_listed r xs || bytes_eq r x)
 behind r [] x = by (bytes_eq r x)
@@ -61,21 +69,29 @@ behind r (y ∷ xs) x = ap (λ b. bytes_eq r y || b) (behind r xs x) ∙ by (byt
     by true b c = refl
     by false b c = refl
 
-more_names : (names : Names) (pairs : Pairs) (i : ℕ) → i < length pairs → (r : Bytes) → is_listed r (names_among names (take (i + 1) pairs)) ≡ (is_listed r (names_among names (take i pairs)) || bytes_eq r (get_or names (key_at pairs i) []))
+more_names : (names : Names) (pairs : Pairs) (i : ℕ) → i < length pairs → (r : Bytes)
+    → is_listed r (names_among names (take (i + 1) pairs))
+    ≡ (is_listed r (names_among names (take i pairs)) || bytes_eq r (get_or names (key_at pairs i) []))
 more_names names pairs i lt r =
     ap (λ es. is_listed r (map (λ e. e.0) es)) (under_more names pairs i lt)
-    ∙ ap (is_listed r) (map-append (λ e. e.0) (under_names names (take i pairs)) ((get_or names (key_at pairs i) [], (get_or pairs i (0, 0)).1) ∷ []))
+    ∙ ap (is_listed r) (map-append (λ e. e.0) (under_names names (take i pairs))
+    ((get_or names (key_at pairs i) [], (get_or pairs i (0, 0)).1) ∷ []))
     ∙ behind r (names_among names (take i pairs)) (get_or names (key_at pairs i) [])
 
 -- the names so far, and one more
-pub put_one_more : (names : Names) (pairs : Pairs) (i : ℕ) → i < length pairs → (old new first : BTreeSet (Bor Bytes)) (name : Bor Bytes) → name.now ≡ get_or names (key_at pairs i) [] → UpdatesBy by_text (by_text name) old new true
-    → ((r : Bytes) → is_listed r (texts_in old) ≡ (is_listed r (texts_in first) || is_listed r (names_among names (take i pairs))))
-    → (r : Bytes) → is_listed r (texts_in new) ≡ (is_listed r (texts_in first) || is_listed r (names_among names (take (i + 1) pairs)))
+pub put_one_more : (names : Names) (pairs : Pairs) (i : ℕ) → i < length pairs
+    → (old new first : BTreeSet (Bor Bytes)) (name : Bor Bytes) → name.now ≡ get_or names (key_at pairs i) []
+    → UpdatesBy by_text (by_text name) old new true
+    → ((r : Bytes) → is_listed r (texts_in old)
+    ≡ (is_listed r (texts_in first) || is_listed r (names_among names (take i pairs))))
+    → (r : Bytes) → is_listed r (texts_in new)
+    ≡ (is_listed r (texts_in first) || is_listed r (names_among names (take (i + 1) pairs)))
 put_one_more names pairs i lt old new first name is updates before r =
     put_text old new name updates r
     ∙ ap (λ b. bytes_eq name.now r || b) (before r)
     ∙ turn (bytes_eq name.now r) _ _
-    ∙ ap (λ b. is_listed r (texts_in first) || (is_listed r (names_among names (take i pairs)) || b)) (same_both_ways name.now r ∙ ap (bytes_eq r) is)
+    ∙ ap (λ b. is_listed r (texts_in first) || (is_listed r (names_among names (take i pairs)) || b))
+    (same_both_ways name.now r ∙ ap (bytes_eq r) is)
     ∙ ap (λ b. is_listed r (texts_in first) || b) (sym (more_names names pairs i lt r))
   where
     turn : (x a b : Bool) → (x || (a || b)) ≡ (a || (b || x))
@@ -89,17 +105,22 @@ put_one_more names pairs i lt old new first name is updates before r =
 -- a name is among those of postings where it has one
 listed_found : (es : List (Bytes × ℕ)) (r : Bytes) → is_listed r (map (λ e. e.0) es) ≡ is_some (find text_cmp r es)
 listed_found [] r = refl
-listed_found (e ∷ es) r = ap (λ b. b || is_listed r (map (λ e. e.0) es)) (sym (is_eq-slice_cmp r e.0)) ∙ ap (λ b. eq_by_cmp (slice_cmp nat_cmp) r e.0 || b) (listed_found es r) ∙ by (eq_by_cmp (slice_cmp nat_cmp) r e.0) (find text_cmp r es)
+listed_found (e ∷ es) r = ap (λ b. b || is_listed r (map (λ e. e.0) es)) (sym (is_eq-slice_cmp r e.0))
+    ∙ ap (λ b. eq_by_cmp (slice_cmp nat_cmp) r e.0 || b) (listed_found es r)
+    ∙ by (eq_by_cmp (slice_cmp nat_cmp) r e.0) (find text_cmp r es)
   where
     by : (b : Bool) (o : Option ℕ) → (b || is_some o) ≡ is_some (cond b (Some e.1) o)
     by true o = refl
     by false o = refl
 
-pub names_posted : (names : Names) → AreNames names → (pairs : Pairs) → ArePostings names pairs → (r : Bytes) → is_listed r (names_among names pairs) ≡ is_some (get (named_pairs names pairs) r)
-names_posted names are pairs postings r = listed_found (under_names names pairs) r ∙ ap is_some (sym (get_pairs_named names are pairs postings r))
+pub names_posted : (names : Names) → AreNames names → (pairs : Pairs) → ArePostings names pairs → (r : Bytes)
+    → is_listed r (names_among names pairs) ≡ is_some (get (named_pairs names pairs) r)
+names_posted names are pairs postings r = listed_found (under_names names pairs) r
+    ∙ ap is_some (sym (get_pairs_named names are pairs postings r))
 
 -- the names of the first postings are among those of all
-pub among_all : (names : Names) (pairs : Pairs) (i : ℕ) (r : Bytes) → is_listed r (names_among names (take i pairs)) ≡ true → is_listed r (names_among names pairs) ≡ true
+pub among_all : (names : Names) (pairs : Pairs) (i : ℕ) (r : Bytes) → is_listed r (names_among names (take i pairs))
+    ≡ true → is_listed r (names_among names pairs) ≡ true
 among_all names pairs zero r h = absurd (true≢false (sym h))
 among_all names [] (suc i) r h = absurd (true≢false (sym h))
 among_all names (e ∷ pairs) (suc i) r h = by (bytes_eq r (get_or names e.0 [])) _ _ (among_all names pairs i r) h
@@ -129,16 +150,19 @@ or_none true = refl
 or_none false = refl
 
 -- a set has its texts in order
-all_below : (k : Bor Bytes) (ks : List (Bor Bytes)) → AllByRecursion (λ y. by_text k y ≡ Less) ks → AllByRecursion (λ y. text_cmp k.now y ≡ Less) (map (λ x. x.now) ks)
+all_below : (k : Bor Bytes) (ks : List (Bor Bytes)) → AllByRecursion (λ y. by_text k y ≡ Less) ks
+    → AllByRecursion (λ y. text_cmp k.now y ≡ Less) (map (λ x. x.now) ks)
 all_below k [] h = tt
 all_below k (x ∷ ks) h = (h.0, all_below k ks h.1)
 
-pub in_order : (ks : List (Bor Bytes)) → IsStrictlySortedBy by_text ks → IsStrictlySortedBy text_cmp (map (λ x. x.now) ks)
+pub in_order : (ks : List (Bor Bytes)) → IsStrictlySortedBy by_text ks
+    → IsStrictlySortedBy text_cmp (map (λ x. x.now) ks)
 unfolding IsStrictlySortedBy
 in_order [] h = tt
 in_order (k ∷ ks) h = (all_below k ks h.0, in_order ks h.1)
 
 -- one text more
-pub now_behind : (ks : List (Bor Bytes)) (k : Bor Bytes) → map (λ x. x.now) (ks ++ k ∷ []) ≡ map (λ x. x.now) ks ++ k.now ∷ []
+pub now_behind : (ks : List (Bor Bytes)) (k : Bor Bytes) → map (λ x. x.now) (ks ++ k ∷ [])
+    ≡ map (λ x. x.now) ks ++ k.now ∷ []
 now_behind [] k = refl
 now_behind (x ∷ ks) k = ap (λ bs. x.now ∷ bs) (now_behind ks k)

@@ -2,7 +2,9 @@
 use Rattle.elasticlunr_trie_nodes.specs.Names.{Names}
 use Rattle.elasticlunr_trie.specs.Children.{Children}
 use Rattle.elasticlunr_trie_nodes.specs.Trie.{IsTrie, table_of, step_of, walk}
-use Rattle.std.proofs.Common.{◌≡◌, inl, inr, ℕ, Bool, true, false, List, [], ◌∷◌, ◌++◌, Option, Some, None, IsTrue, is_some, unwrap_or, encode_utf8, refl, sym, ap, subst, ◌∙◌, arith, append_assoc, append-nil, Less, Equal, Greater}
+use Rattle.std.proofs.Common.{◌≡◌, inl, inr, ℕ, Bool, true, false, List, [], ◌∷◌, ◌++◌, Option, Some, None, IsTrue}
+use Rattle.std.proofs.Common.{is_some, unwrap_or, encode_utf8, refl, sym, ap, subst, ◌∙◌, arith, append_assoc}
+use Rattle.std.proofs.Common.{append-nil, Less, Equal, Greater}
 use mathlib.Core.Bool.{false≢true}
 use Rattle.std.specs.Ordering.{nat_cmp, match_ordering, is_eq}
 use Rattle.std.specs.Cmp.Lexicographic.{slice_cmp}
@@ -37,10 +39,13 @@ pub same_docs : (P Q : Postings) → object (frequencies (map.entries P)) ≡ ob
 same_docs P Q e = same_keyed frequency same_frequency P Q e
 
 -- under a character stands the tree of the longer text
-pub part_at : (T : Table) (p : Text) (ms : Members) (c : ℕ) (d : Data) → AreParts T p ms → get_member (encode_utf8 c) ms ≡ Some d → IsTree T (p ++ c ∷ []) d
+pub part_at : (T : Table) (p : Text) (ms : Members) (c : ℕ) (d : Data) → AreParts T p ms → get_member (encode_utf8 c) ms
+    ≡ Some d → IsTree T (p ++ c ∷ []) d
 part_at T p no_members c d parts found = absurd (cc)
 part_at T p (member k e ms) c d parts found =
-    elim (slice_cmp nat_cmp (encode_utf8 c) k) as (λ o. slice_cmp nat_cmp (encode_utf8 c) k ≡ o → match_ordering o (get_member (encode_utf8 c) ms) (Some e) (get_member (encode_utf8 c) ms) ≡ Some d → IsTree T (p ++ c ∷ []) d) [
+    elim (slice_cmp nat_cmp (encode_utf8 c) k) as (λ o. slice_cmp nat_cmp (encode_utf8 c) k ≡ o
+    → match_ordering o (get_member (encode_utf8 c) ms) (Some e) (get_member (encode_utf8 c) ms) ≡ Some d
+    → IsTree T (p ++ c ∷ []) d) [
       | Less ↦ λ is here. part_at T p ms c d parts.1 here
       | Equal ↦ λ is here.
           let key : encode_utf8 c ≡ k = text_tie (encode_utf8 c) k (ap is_eq is) in
@@ -81,24 +86,34 @@ not_known true h = absurd (h refl)
 not_known false h = refl
 
 module _ (T U : Table) (t_closed : IsClosed T) (u_closed : IsClosed U) where
-  agree : (t p : Text) (ms : Members) → IsTrue (knows T p) → IsTrue (knows U p) → IsTree T p (object ms) → IsTree U p (object ms) → map.get T (p ++ t) ≡ map.get U (p ++ t)
+  agree : (t p : Text) (ms : Members) → IsTrue (knows T p) → IsTrue (knows U p) → IsTree T p (object ms)
+      → IsTree U p (object ms) → map.get T (p ++ t) ≡ map.get U (p ++ t)
   agree [] p ms kt ku one two =
-      let both : Some (object (frequencies (map.entries (postings T p)))) ≡ Some (object (frequencies (map.entries (postings U p)))) = sym one.1 ∙ two.1 in
-      let docs : object (frequencies (map.entries (postings T p))) ≡ object (frequencies (map.entries (postings U p))) = cc in
-      ap (map.get T) (append-nil p) ∙ known_postings T p kt ∙ ap Some (same_docs _ _ docs) ∙ sym (known_postings U p ku) ∙ ap (map.get U) (sym (append-nil p))
+      let both : Some (object (frequencies (map.entries (postings T p))))
+      ≡ Some (object (frequencies (map.entries (postings U p)))) = sym one.1 ∙ two.1 in
+      let docs : object (frequencies (map.entries (postings T p))) ≡ object (frequencies (map.entries (postings U p))) =
+      cc in
+      ap (map.get T) (append-nil p) ∙ known_postings T p kt ∙ ap Some (same_docs _ _ docs) ∙ sym (known_postings U p ku)
+      ∙ ap (map.get U) (sym (append-nil p))
   agree (c ∷ t) p ms kt ku one two =
-      ap (map.get T) (sym (append_assoc p (c ∷ []) t)) ∙ below (λ q ns k l a b. agree t q ns k l a b) (get_member (encode_utf8 c) ms) refl ∙ ap (map.get U) (append_assoc p (c ∷ []) t)
+      ap (map.get T) (sym (append_assoc p (c ∷ []) t))
+      ∙ below (λ q ns k l a b. agree t q ns k l a b) (get_member (encode_utf8 c) ms) refl
+      ∙ ap (map.get U) (append_assoc p (c ∷ []) t)
     where
-      below : ((q : Text) (ns : Members) → IsTrue (knows T q) → IsTrue (knows U q) → IsTree T q (object ns) → IsTree U q (object ns) → map.get T (q ++ t) ≡ map.get U (q ++ t))
-          → (o : Option Data) → get_member (encode_utf8 c) ms ≡ o → map.get T ((p ++ c ∷ []) ++ t) ≡ map.get U ((p ++ c ∷ []) ++ t)
+      below : ((q : Text) (ns : Members) → IsTrue (knows T q) → IsTrue (knows U q) → IsTree T q (object ns)
+          → IsTree U q (object ns) → map.get T (q ++ t) ≡ map.get U (q ++ t))
+          → (o : Option Data) → get_member (encode_utf8 c) ms ≡ o → map.get T ((p ++ c ∷ []) ++ t)
+          ≡ map.get U ((p ++ c ∷ []) ++ t)
       below more None e =
           unknown_after T t_closed (p ++ c ∷ []) t (not_known _ (λ k. false≢true (sym (ap is_some e) ∙ (one.3 c).0 k)))
-          ∙ sym (unknown_after U u_closed (p ++ c ∷ []) t (not_known _ (λ k. false≢true (sym (ap is_some e) ∙ (two.3 c).0 k))))
+          ∙ sym (unknown_after U u_closed (p ++ c ∷ []) t
+          (not_known _ (λ k. false≢true (sym (ap is_some e) ∙ (two.3 c).0 k))))
       below more (Some d) e =
           let first = part_at T p ms c d one.4 e in
           let second = part_at U p ms c d two.4 e in
           let is = tree_members T (p ++ c ∷ []) d first in
-          more (p ++ c ∷ []) is.0 ((one.3 c).1 (ap is_some e)) ((two.3 c).1 (ap is_some e)) (subst (IsTree T (p ++ c ∷ [])) is.1 first) (subst (IsTree U (p ++ c ∷ [])) is.1 second)
+          more (p ++ c ∷ []) is.0 ((one.3 c).1 (ap is_some e)) ((two.3 c).1 (ap is_some e))
+          (subst (IsTree T (p ++ c ∷ [])) is.1 first) (subst (IsTree U (p ++ c ∷ [])) is.1 second)
 
 -- tables with one trie value are one
 pub one_table : (T U : Table) → IsClosed T → IsClosed U → (v : Data) → IsTrieValue T v → IsTrieValue U v → T ≡ U
@@ -106,14 +121,17 @@ one_table T U t_closed u_closed v one two =
     let root : one.0 ≡ two.0 = let both = sym one.1 ∙ two.1 in (cc) in
     let second = subst (IsTree U []) (sym root) two.2 in
     let is = tree_members T [] one.0 one.2 in
-    same_table T U (λ t. agree T U t_closed u_closed t [] is.0 t_closed.empty_known u_closed.empty_known (subst (IsTree T []) is.1 one.2) (subst (IsTree U []) is.1 second))
+    same_table T U (λ t. agree T U t_closed u_closed t [] is.0 t_closed.empty_known u_closed.empty_known
+    (subst (IsTree T []) is.1 one.2) (subst (IsTree U []) is.1 second))
 
 -- the table of nodes knows the beginnings of what it knows
-pub closed_nodes : (root : Children) (nodes : List Node) → IsTrie root nodes → (names : Names) → IsClosed (table_of root nodes names)
+pub closed_nodes : (root : Children) (nodes : List Node) → IsTrie root nodes → (names : Names)
+    → IsClosed (table_of root nodes names)
 closed_nodes root nodes trie names = record {
   empty_known = known_from root nodes trie names [] Root refl;
   beginnings = λ s t prefix known.
       let whole = known_to root nodes trie names t known in
-      let front = walk_front (step_of root nodes) s prefix.0 Root whole.0 (ap (walk (step_of root nodes) Root) prefix.1 ∙ whole.1) in
+      let front = walk_front (step_of root nodes) s prefix.0 Root whole.0 (ap (walk (step_of root nodes) Root) prefix.1
+      ∙ whole.1) in
       known_from root nodes trie names s front.0 front.1;
 }

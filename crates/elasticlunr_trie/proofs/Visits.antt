@@ -1,5 +1,7 @@
 -- The nodes below a place, in the order of their texts: each that is there, and no other.
-use Rattle.std.proofs.Common.{◌≡◌, ◌⊎◌, inl, inr, ℕ, zero, suc, ◌+◌, ◌<◌, ◌≤◌, Bool, true, false, cond, List, [], ◌∷◌, ◌++◌, length, Some, refl, sym, ap, subst, ◌∙◌, arith, append_assoc, append-nil, ne_eqb, Less}
+use Rattle.std.proofs.Common.{◌≡◌, ◌⊎◌, inl, inr, ℕ, zero, suc, ◌+◌, ◌<◌, ◌≤◌, Bool, true, false, cond, List, [], ◌∷◌}
+use Rattle.std.proofs.Common.{◌++◌, length, Some, refl, sym, ap, subst, ◌∙◌, arith, append_assoc, append-nil, ne_eqb}
+use Rattle.std.proofs.Common.{Less}
 use Rattle.std.proofs.lemmas.Bool.{cases_eq, eq-eqb}
 use Rattle.std.specs.List.{slice_get, AllByRecursion}
 use Rattle.std.specs.List.Sorted.{IsStrictlySortedBy}
@@ -49,7 +51,8 @@ unfolding goes_on
 less_apart t v w c d lt g h =
     let one = goes_on t v c g in
     let two = goes_on t w d h in
-    subst (λ x. IsLess x w) one.1 (subst (IsLess (t ++ c ∷ g.0)) two.1 (front_less t (c ∷ g.0) (d ∷ h.0) (less_first c d g.0 h.0 lt)))
+    subst (λ x. IsLess x w) one.1 (subst (IsLess (t ++ c ∷ g.0)) two.1
+    (front_less t (c ∷ g.0) (d ∷ h.0) (less_first c d g.0 h.0 lt)))
 
 -- ---- visits in order
 
@@ -57,7 +60,8 @@ abbrev Rises : Visits → Type 0
 Rises [] = Unit {0}
 Rises (v ∷ vs) = ((w : Text × ℕ) → In w vs → IsLess v.0 w.0) × Rises vs
 
-rises_append : (xs ys : Visits) → Rises xs → Rises ys → ((v w : Text × ℕ) → In v xs → In w ys → IsLess v.0 w.0) → Rises (xs ++ ys)
+rises_append : (xs ys : Visits) → Rises xs → Rises ys → ((v w : Text × ℕ) → In v xs → In w ys → IsLess v.0 w.0)
+    → Rises (xs ++ ys)
 rises_append [] ys a b h = b
 rises_append (x ∷ xs) ys a b h = (
   (λ w there. elim (in_either w xs ys there) [ inl l ↦ a.0 w l | inr r ↦ h x w (inl refl) r ]),
@@ -68,28 +72,34 @@ rises_append (x ∷ xs) ys a b h = (
 abbrev Begins : (Text → ℕ → Visits) → Type 0
 Begins f = (t : Text) (k : ℕ) (w : Text × ℕ) → In w (f t k) → IsPrefix t w.0
 
-begin_below : (f : Text → ℕ → Visits) → Begins f → (t : Text) (es : Children) (w : Text × ℕ) → In w (below f t es) → (c : ℕ) × (k : ℕ) × In (c, k) es × IsPrefix (t ++ c ∷ []) w.0
+begin_below : (f : Text → ℕ → Visits) → Begins f → (t : Text) (es : Children) (w : Text × ℕ) → In w (below f t es)
+    → (c : ℕ) × (k : ℕ) × In (c, k) es × IsPrefix (t ++ c ∷ []) w.0
 begin_below f begins t [] w h = elim h [ ]
 begin_below f begins t ((c, k) ∷ es) w h = elim (in_either w (f (t ++ c ∷ []) k) (below f t es) h) [
   | inl here ↦ (c, k, inl refl, begins (t ++ c ∷ []) k w here)
   | inr there ↦ let later = begin_below f begins t es w there in (later.0, later.1, inr later.2, later.3)
 ]
 
-below_rise : (f : Text → ℕ → Visits) → Begins f → ((t : Text) (k : ℕ) → Rises (f t k)) → (t : Text) (es : Children) → AreRising es → Rises (below f t es)
+below_rise : (f : Text → ℕ → Visits) → Begins f → ((t : Text) (k : ℕ) → Rises (f t k)) → (t : Text) (es : Children)
+    → AreRising es → Rises (below f t es)
 below_rise f begins each t [] rising = tt
-below_rise f begins each t ((c, k) ∷ es) rising = rises_append _ _ (each (t ++ c ∷ []) k) (below_rise f begins each t es rising.1) (λ v w here there.
+below_rise f begins each t ((c, k) ∷ es) rising = rises_append _ _ (each (t ++ c ∷ []) k)
+    (below_rise f begins each t es rising.1) (λ v w here there.
     let later = begin_below f begins t es w there in
-    less_apart t v.0 w.0 c later.0 (above_not c later.0 later.1 es rising.0 later.2) (begins (t ++ c ∷ []) k v here) later.3)
+    less_apart t v.0 w.0 c later.0 (above_not c later.0 later.1 es rising.0 later.2) (begins (t ++ c ∷ []) k v here)
+    later.3)
 
 -- ---- the visits of a child are among those below
 
-in_below : (f : Text → ℕ → Visits) (t : Text) (es : Children) (c k : ℕ) (v : Text × ℕ) → value_of es c ≡ Some k → In v (f (t ++ c ∷ []) k) → In v (below f t es)
+in_below : (f : Text → ℕ → Visits) (t : Text) (es : Children) (c k : ℕ) (v : Text × ℕ) → value_of es c ≡ Some k
+    → In v (f (t ++ c ∷ []) k) → In v (below f t es)
 in_below f t [] c k v e h = absurd (cc)
 in_below f t ((d, j) ∷ es) c k v e h = elim (cases_eq d c) [
   | inl same ↦
       let number : Some j ≡ Some k = sym (ap (λ b. cond b (Some j) (value_of es c)) (eq-eqb d c same)) ∙ e in
       let node : j ≡ k = cc in
-      in_left v _ _ (subst (λ x. In v (f (t ++ x ∷ []) j)) (sym same) (subst (λ x. In v (f (t ++ c ∷ []) x)) (sym node) h))
+      in_left v _ _ (subst (λ x. In v (f (t ++ x ∷ []) j)) (sym same)
+      (subst (λ x. In v (f (t ++ c ∷ []) x)) (sym node) h))
   | inr other ↦
       let later : value_of es c ≡ Some k = sym (ap (λ b. cond b (Some j) (value_of es c)) (ne_eqb d c other)) ∙ e in
       in_right v _ _ (in_below f t es c k v later h)
@@ -110,16 +120,24 @@ module _ (root : Children) (nodes : List Node) (trie : IsTrie root nodes) where
   none_below f t [] h = refl
   none_below f t ((c, k) ∷ es) h = absurd (h c k (inl refl))
 
-  same_below : (f g : Text → ℕ → Visits) (t : Text) (es : Children) → ((c k : ℕ) → In (c, k) es → (u : Text) → f u k ≡ g u k) → below f t es ≡ below g t es
+  same_below : (f g : Text → ℕ → Visits) (t : Text) (es : Children)
+      → ((c k : ℕ) → In (c, k) es → (u : Text) → f u k ≡ g u k) → below f t es ≡ below g t es
   same_below f g t [] h = refl
-  same_below f g t ((c, k) ∷ es) h = λ i. h c k (inl refl) (t ++ c ∷ []) i ++ same_below f g t es (λ d j there. h d j (inr there)) i
+  same_below f g t ((c, k) ∷ es) h = λ i. h c k (inl refl) (t ++ c ∷ []) i ++ same_below f g t es
+      (λ d j there. h d j (inr there)) i
 
   -- the depth makes no difference
-  deep_enough : (n m : ℕ) (t : Text) (k : ℕ) → length nodes ≤ n + suc k → length nodes ≤ m + suc k → visits nodes n t k ≡ visits nodes m t k
+  deep_enough : (n m : ℕ) (t : Text) (k : ℕ) → length nodes ≤ n + suc k → length nodes ≤ m + suc k → visits nodes n t k
+      ≡ visits nodes m t k
   deep_enough zero zero t k h g = refl
-  deep_enough zero (suc m) t k h g = ap (λ vs. (t, k) ∷ vs) (sym (none_below (visits nodes m) t (children_of (slice_get nodes k)) (λ c j there. no_child k c j (omega (arith, h)) there)))
-  deep_enough (suc n) zero t k h g = ap (λ vs. (t, k) ∷ vs) (none_below (visits nodes n) t (children_of (slice_get nodes k)) (λ c j there. no_child k c j (omega (arith, g)) there))
-  deep_enough (suc n) (suc m) t k h g = ap (λ vs. (t, k) ∷ vs) (same_below (visits nodes n) (visits nodes m) t (children_of (slice_get nodes k)) (λ c j there u.
+  deep_enough zero (suc m) t k h g = ap (λ vs. (t, k) ∷ vs)
+      (sym (none_below (visits nodes m) t (children_of (slice_get nodes k))
+      (λ c j there. no_child k c j (omega (arith, h)) there)))
+  deep_enough (suc n) zero t k h g = ap (λ vs. (t, k) ∷ vs)
+      (none_below (visits nodes n) t (children_of (slice_get nodes k))
+      (λ c j there. no_child k c j (omega (arith, g)) there))
+  deep_enough (suc n) (suc m) t k h g = ap (λ vs. (t, k) ∷ vs)
+      (same_below (visits nodes n) (visits nodes m) t (children_of (slice_get nodes k)) (λ c j there u.
       let up = trie.forest.higher (At k) c j (child_of (At k) c j there) in
       deep_enough n m u j (omega (arith, h, up)) (omega (arith, g, up))))
 
@@ -139,15 +157,19 @@ module _ (root : Children) (nodes : List Node) (trie : IsTrie root nodes) where
   rise : (n : ℕ) (t : Text) (k : ℕ) → Rises (visits nodes n t k)
   rise zero t k = ((λ w h. elim h [ ]), tt)
   rise (suc n) t k = (
-    (λ w h. let later = begin_below (visits nodes n) (begins n) t (children_of (slice_get nodes k)) w h in less_longer t w.0 later.0 later.3),
-    below_rise (visits nodes n) (begins n) (rise n) t (children_of (slice_get nodes k)) (are_rising _ (trie.in_order (At k))),
+    (λ w h. let later = begin_below (visits nodes n) (begins n) t (children_of (slice_get nodes k)) w h in less_longer t
+        w.0 later.0 later.3),
+    below_rise (visits nodes n) (begins n) (rise n) t (children_of (slice_get nodes k))
+        (are_rising _ (trie.in_order (At k))),
   )
 
   -- each text leads to its node
   abbrev Leads : (Text → ℕ → Visits) → Type 0
-  Leads f = (t : Text) (k : ℕ) → walk (step_of root nodes) Root t ≡ Some (At k) → (w : Text × ℕ) → In w (f t k) → walk (step_of root nodes) Root w.0 ≡ Some (At w.1)
+  Leads f = (t : Text) (k : ℕ) → walk (step_of root nodes) Root t ≡ Some (At k) → (w : Text × ℕ) → In w (f t k)
+      → walk (step_of root nodes) Root w.0 ≡ Some (At w.1)
 
-  lead_below : (f : Text → ℕ → Visits) → Leads f → (t : Text) (p : Place) → walk (step_of root nodes) Root t ≡ Some p → (es : Children) → ((c k : ℕ) → In (c, k) es → step_of root nodes p c ≡ Some k)
+  lead_below : (f : Text → ℕ → Visits) → Leads f → (t : Text) (p : Place) → walk (step_of root nodes) Root t ≡ Some p
+      → (es : Children) → ((c k : ℕ) → In (c, k) es → step_of root nodes p c ≡ Some k)
       → (w : Text × ℕ) → In w (below f t es) → walk (step_of root nodes) Root w.0 ≡ Some (At w.1)
   lead_below f leads t p to [] are w h = elim h [ ]
   lead_below f leads t p to ((c, k) ∷ es) are w h = elim (in_either w (f (t ++ c ∷ []) k) (below f t es) h) [
@@ -156,20 +178,25 @@ module _ (root : Children) (nodes : List Node) (trie : IsTrie root nodes) where
   ]
 
   lead : (n : ℕ) → Leads (visits nodes n)
-  lead zero t k to w (inl e) = ap (λ (v : Text × ℕ). walk (step_of root nodes) Root v.0) e ∙ to ∙ sym (ap (λ (v : Text × ℕ). Some (At v.1)) e)
+  lead zero t k to w (inl e) = ap (λ (v : Text × ℕ). walk (step_of root nodes) Root v.0) e ∙ to
+      ∙ sym (ap (λ (v : Text × ℕ). Some (At v.1)) e)
   lead zero t k to w (inr h) = elim h [ ]
-  lead (suc n) t k to w (inl e) = ap (λ (v : Text × ℕ). walk (step_of root nodes) Root v.0) e ∙ to ∙ sym (ap (λ (v : Text × ℕ). Some (At v.1)) e)
-  lead (suc n) t k to w (inr h) = lead_below (visits nodes n) (lead n) t (At k) to (children_of (slice_get nodes k)) (child_of (At k)) w h
+  lead (suc n) t k to w (inl e) = ap (λ (v : Text × ℕ). walk (step_of root nodes) Root v.0) e ∙ to
+      ∙ sym (ap (λ (v : Text × ℕ). Some (At v.1)) e)
+  lead (suc n) t k to w (inr h) = lead_below (visits nodes n) (lead n) t (At k) to (children_of (slice_get nodes k))
+      (child_of (At k)) w h
 
   -- and no node is left out
-  whole : (n : ℕ) (t : Text) (k : ℕ) (rest : Text) (j : ℕ) → walk (step_of root nodes) (At k) rest ≡ Some (At j) → length rest ≤ n → In (t ++ rest, j) (visits nodes n t k)
+  whole : (n : ℕ) (t : Text) (k : ℕ) (rest : Text) (j : ℕ) → walk (step_of root nodes) (At k) rest ≡ Some (At j)
+      → length rest ≤ n → In (t ++ rest, j) (visits nodes n t k)
   whole zero t k [] j e short = let same : j ≡ k = cc in inl (λ i. (append-nil t i, same i))
   whole (suc n) t k [] j e short = let same : j ≡ k = cc in inl (λ i. (append-nil t i, same i))
   whole zero t k (c ∷ rest) j e short = absurd (omega arith)
   whole (suc n) t k (c ∷ rest) j e short =
       let at = walk_cons (step_of root nodes) (At k) (At j) c rest e in
       inr (in_below (visits nodes n) t (children_of (slice_get nodes k)) c at.0 (t ++ c ∷ rest, j) at.1
-      (subst (λ u. In (u, j) (visits nodes n (t ++ c ∷ []) at.0)) (append_assoc t (c ∷ []) rest) (whole n (t ++ c ∷ []) at.0 rest j at.2 (omega arith))))
+      (subst (λ u. In (u, j) (visits nodes n (t ++ c ∷ []) at.0)) (append_assoc t (c ∷ []) rest)
+      (whole n (t ++ c ∷ []) at.0 rest j at.2 (omega arith))))
 
 -- ---- the texts with postings among visits
 
@@ -178,8 +205,10 @@ module _ (nodes : List Node) where
   posted_from [] t h = elim h [ ]
   posted_from (v ∷ vs) t h = by (posted_from vs t) (is_posted nodes v.1) refl h
     where
-      by : (In t (posted nodes vs) → (k : ℕ) × In (t, k) vs × (is_posted nodes k ≡ true)) → (b : Bool) → is_posted nodes v.1 ≡ b
-          → In t (cond b (v.0 ∷ posted nodes vs) (posted nodes vs)) → (k : ℕ) × In (t, k) (v ∷ vs) × (is_posted nodes k ≡ true)
+      by : (In t (posted nodes vs) → (k : ℕ) × In (t, k) vs × (is_posted nodes k ≡ true)) → (b : Bool)
+          → is_posted nodes v.1 ≡ b
+          → In t (cond b (v.0 ∷ posted nodes vs) (posted nodes vs)) → (k : ℕ) × In (t, k) (v ∷ vs)
+          × (is_posted nodes k ≡ true)
       by more true is (inl e) = (v.1, inl (λ i. (e i, v.1)), is)
       by more true is (inr later) = let there = more later in (there.0, inr there.1, there.2)
       by more false is later = let there = more later in (there.0, inr there.1, there.2)
@@ -188,19 +217,22 @@ module _ (nodes : List Node) where
   posted_to [] t k h is = elim h [ ]
   posted_to (v ∷ vs) t k (inl e) is =
       let here : is_posted nodes v.1 ≡ true = sym (ap (λ (w : Text × ℕ). is_posted nodes w.1) e) ∙ is in
-      subst (λ b. In t (cond b (v.0 ∷ posted nodes vs) (posted nodes vs))) (sym here) (inl (ap (λ (w : Text × ℕ). w.0) e))
+      subst (λ b. In t (cond b (v.0 ∷ posted nodes vs) (posted nodes vs))) (sym here)
+      (inl (ap (λ (w : Text × ℕ). w.0) e))
   posted_to (v ∷ vs) t k (inr h) is = either (is_posted nodes v.1) (posted_to vs t k h is)
     where
       either : (b : Bool) → In t (posted nodes vs) → In t (cond b (v.0 ∷ posted nodes vs) (posted nodes vs))
       either true more = inr more
       either false more = more
 
-  all_less : (t : Text) (vs : Visits) → ((w : Text × ℕ) → In w vs → IsLess t w.0) → AllByRecursion (λ y. text_cmp t y ≡ Less) (posted nodes vs)
+  all_less : (t : Text) (vs : Visits) → ((w : Text × ℕ) → In w vs → IsLess t w.0)
+      → AllByRecursion (λ y. text_cmp t y ≡ Less) (posted nodes vs)
   unfolding IsLess
   all_less t [] h = tt
   all_less t (v ∷ vs) h = by (is_posted nodes v.1) (h v (inl refl)) (all_less t vs (λ w there. h w (inr there)))
     where
-      by : (b : Bool) → text_cmp t v.0 ≡ Less → AllByRecursion (λ y. text_cmp t y ≡ Less) (posted nodes vs) → AllByRecursion (λ y. text_cmp t y ≡ Less) (cond b (v.0 ∷ posted nodes vs) (posted nodes vs))
+      by : (b : Bool) → text_cmp t v.0 ≡ Less → AllByRecursion (λ y. text_cmp t y ≡ Less) (posted nodes vs)
+          → AllByRecursion (λ y. text_cmp t y ≡ Less) (cond b (v.0 ∷ posted nodes vs) (posted nodes vs))
       by true first more = (first, more)
       by false first more = more
 
@@ -209,7 +241,9 @@ module _ (nodes : List Node) where
   posted_rise [] h = tt
   posted_rise (v ∷ vs) h = by (is_posted nodes v.1) (all_less v.0 vs h.0) (posted_rise vs h.1)
     where
-      by : (b : Bool) → AllByRecursion (λ y. text_cmp v.0 y ≡ Less) (posted nodes vs) → IsStrictlySortedBy text_cmp (posted nodes vs) → IsStrictlySortedBy text_cmp (cond b (v.0 ∷ posted nodes vs) (posted nodes vs))
+      by : (b : Bool) → AllByRecursion (λ y. text_cmp v.0 y ≡ Less) (posted nodes vs)
+          → IsStrictlySortedBy text_cmp (posted nodes vs)
+          → IsStrictlySortedBy text_cmp (cond b (v.0 ∷ posted nodes vs) (posted nodes vs))
       by true first more = (first, more)
       by false first more = more
 
@@ -217,7 +251,9 @@ module _ (nodes : List Node) where
   posted_append [] vs = refl
   posted_append (u ∷ us) vs = by (is_posted nodes u.1) (posted_append us vs)
     where
-      by : (b : Bool) → posted nodes (us ++ vs) ≡ posted nodes us ++ posted nodes vs → cond b (u.0 ∷ posted nodes (us ++ vs)) (posted nodes (us ++ vs)) ≡ cond b (u.0 ∷ posted nodes us) (posted nodes us) ++ posted nodes vs
+      by : (b : Bool) → posted nodes (us ++ vs) ≡ posted nodes us ++ posted nodes vs
+          → cond b (u.0 ∷ posted nodes (us ++ vs)) (posted nodes (us ++ vs))
+          ≡ cond b (u.0 ∷ posted nodes us) (posted nodes us) ++ posted nodes vs
       by true more = ap (λ ts. u.0 ∷ ts) more
       by false more = more
 
@@ -234,47 +270,69 @@ module _ (root : Children) (nodes : List Node) (trie : IsTrie root nodes) where
 
     pub root_rise : IsStrictlySortedBy text_cmp (posted nodes (below (node_visits nodes) t root))
     unfolding node_visits
-    root_rise = posted_rise nodes _ (below_rise _ (begins root nodes trie (length nodes)) (rise root nodes trie (length nodes)) t root (are_rising _ (trie.in_order Root)))
+    root_rise = posted_rise nodes _ (below_rise _ (begins root nodes trie (length nodes))
+        (rise root nodes trie (length nodes)) t root (are_rising _ (trie.in_order Root)))
 
-    pub at_from : (k : ℕ) → walk (step_of root nodes) Root t ≡ Some (At k) → (u : Text) → In u (posted nodes (node_visits nodes t k)) → IsPrefix t u × Posted u
+    pub at_from : (k : ℕ) → walk (step_of root nodes) Root t ≡ Some (At k) → (u : Text)
+        → In u (posted nodes (node_visits nodes t k)) → IsPrefix t u × Posted u
     unfolding node_visits
     at_from k to u h =
-        let at = posted_from nodes _ u h in
-        (begins root nodes trie (length nodes) t k (u, at.0) at.1, (at.0, lead root nodes trie (length nodes) t k to (u, at.0) at.1, at.2))
+        let at = posted_from nodes _ u h in (
+          begins root nodes trie (length nodes) t k (u, at.0) at.1,
+          (at.0, lead root nodes trie (length nodes) t k to (u, at.0) at.1, at.2),
+        )
 
-    pub root_from : walk (step_of root nodes) Root t ≡ Some Root → (u : Text) → In u (posted nodes (below (node_visits nodes) t root)) → IsPrefix t u × Posted u
+    pub root_from : walk (step_of root nodes) Root t ≡ Some Root → (u : Text)
+        → In u (posted nodes (below (node_visits nodes) t root)) → IsPrefix t u × Posted u
     unfolding node_visits
     root_from to u h =
         let at = posted_from nodes _ u h in
-        let first = begin_below (visits nodes (length nodes)) (begins root nodes trie (length nodes)) t root (u, at.0) at.1 in
-        (goes_on t u first.0 first.3, (at.0, lead_below root nodes trie (visits nodes (length nodes)) (lead root nodes trie (length nodes)) t Root to root (child_of root nodes trie Root) (u, at.0) at.1, at.2))
+        let first = begin_below (visits nodes (length nodes)) (begins root nodes trie (length nodes)) t root (u, at.0)
+        at.1 in (
+          goes_on t u first.0 first.3,
+          (
+            at.0,
+            lead_below root nodes trie (visits nodes (length nodes))
+                (lead root nodes trie (length nodes)) t Root to root (child_of root nodes trie Root) (u, at.0) at.1,
+            at.2,
+          ),
+        )
 
     -- the rest of a text that begins with this one
-    rest_from : (p : Place) → walk (step_of root nodes) Root t ≡ Some p → (u : Text) (j : ℕ) (starts : IsPrefix t u) → walk (step_of root nodes) Root u ≡ Some (At j)
+    rest_from : (p : Place) → walk (step_of root nodes) Root t ≡ Some p → (u : Text) (j : ℕ) (starts : IsPrefix t u)
+        → walk (step_of root nodes) Root u ≡ Some (At j)
         → (walk (step_of root nodes) p starts.0 ≡ Some (At j)) × (length starts.0 ≤ length nodes)
     rest_from p to u j starts e =
-        let on : walk (step_of root nodes) p starts.0 ≡ Some (At j) = sym (walk_after (step_of root nodes) t starts.0 Root p to) ∙ ap (walk (step_of root nodes) Root) starts.1 ∙ e in
+        let on : walk (step_of root nodes) p starts.0
+        ≡ Some (At j) = sym (walk_after (step_of root nodes) t starts.0 Root p to)
+        ∙ ap (walk (step_of root nodes) Root) starts.1 ∙ e in
         let up = rises (step_of root nodes) (length nodes) trie.forest starts.0 p (At j) on in
         let low = within (step_of root nodes) (length nodes) trie.forest u Root (At j) (omega arith) e in
         (on, omega (arith, up, low))
 
-    pub at_to : (k : ℕ) → walk (step_of root nodes) Root t ≡ Some (At k) → (u : Text) → IsPrefix t u → Posted u → In u (posted nodes (node_visits nodes t k))
+    pub at_to : (k : ℕ) → walk (step_of root nodes) Root t ≡ Some (At k) → (u : Text) → IsPrefix t u → Posted u
+        → In u (posted nodes (node_visits nodes t k))
     unfolding node_visits
     at_to k to u starts at =
         let rest = rest_from (At k) to u at.0 starts at.1 in
         subst (λ x. In x (posted nodes (visits nodes (length nodes) t k))) starts.1
-        (posted_to nodes _ (t ++ starts.0) at.0 (whole root nodes trie (length nodes) t k starts.0 at.0 rest.0 rest.1) at.2)
+        (posted_to nodes _ (t ++ starts.0) at.0 (whole root nodes trie (length nodes) t k starts.0 at.0 rest.0 rest.1)
+        at.2)
 
-    pub root_to : walk (step_of root nodes) Root t ≡ Some Root → (u : Text) → IsPrefix t u → Posted u → In u (posted nodes (below (node_visits nodes) t root))
+    pub root_to : walk (step_of root nodes) Root t ≡ Some Root → (u : Text) → IsPrefix t u → Posted u
+        → In u (posted nodes (below (node_visits nodes) t root))
     unfolding node_visits
     root_to to u starts at =
         let rest = rest_from Root to u at.0 starts at.1 in
-        subst (λ x. In x (posted nodes (below (visits nodes (length nodes)) t root))) starts.1 (by starts.0 at.0 rest.0 rest.1 at.2)
+        subst (λ x. In x (posted nodes (below (visits nodes (length nodes)) t root))) starts.1
+        (by starts.0 at.0 rest.0 rest.1 at.2)
       where
-        by : (rest : Text) (j : ℕ) → walk (step_of root nodes) Root rest ≡ Some (At j) → length rest ≤ length nodes → is_posted nodes j ≡ true → In (t ++ rest) (posted nodes (below (visits nodes (length nodes)) t root))
+        by : (rest : Text) (j : ℕ) → walk (step_of root nodes) Root rest ≡ Some (At j) → length rest ≤ length nodes
+            → is_posted nodes j ≡ true → In (t ++ rest) (posted nodes (below (visits nodes (length nodes)) t root))
         by [] j e short is = absurd (cc)
         by (c ∷ rest) j e short is =
             let first = walk_cons (step_of root nodes) Root (At j) c rest e in
-            posted_to nodes _ (t ++ c ∷ rest) j (in_below (visits nodes (length nodes)) t root c first.0 (t ++ c ∷ rest, j) first.1
+            posted_to nodes _ (t ++ c ∷ rest) j (in_below (visits nodes (length nodes)) t root c first.0
+            (t ++ c ∷ rest, j) first.1
             (subst (λ x. In (x, j) (visits nodes (length nodes) (t ++ c ∷ []) first.0)) (append_assoc t (c ∷ []) rest)
             (whole root nodes trie (length nodes) (t ++ c ∷ []) first.0 rest j first.2 (omega (arith, short))))) is

@@ -1,5 +1,7 @@
 -- Nodes that are read one after another, while the values of their children wait.
-use Rattle.std.proofs.Common.{◌≡◌, ◌≢◌, ◌⊎◌, inl, inr, ℕ, zero, suc, ◌+◌, ◌<◌, ◌≤◌, List, [], ◌∷◌, ◌++◌, length, Option, Some, None, option_map, option_and_then, encode_utf8, refl, sym, ap, subst, ◌∙◌, arith, length-append, string_bytes, String, Global}
+use Rattle.std.proofs.Common.{◌≡◌, ◌≢◌, ◌⊎◌, inl, inr, ℕ, zero, suc, ◌+◌, ◌<◌, ◌≤◌, List, [], ◌∷◌, ◌++◌, length, Option}
+use Rattle.std.proofs.Common.{Some, None, option_map, option_and_then, encode_utf8, refl, sym, ap, subst, ◌∙◌, arith}
+use Rattle.std.proofs.Common.{length-append, string_bytes, String, Global}
 use Rattle.std.proofs.lemmas.Bool.{cases_eq, cases_lt}
 use Rattle.std.proofs.lemmas.Cmp.{nat_list_cmp_total, tied_itself}
 use Rattle.std.specs.List.{slice_get}
@@ -15,7 +17,8 @@ use Rattle.elasticlunr_trie_nodes.specs.Pairs.{IsStrictlySorted, value_of}
 use Rattle.elasticlunr_trie_nodes.specs.Names.{Names}
 use Rattle.elasticlunr_trie.specs.Children.{Children, child}
 use Rattle.elasticlunr_trie_nodes.specs.Nodes.{children_of, entries_of}
-use Rattle.elasticlunr_trie_nodes.specs.Trie.{rank, walk, IsForest, children_at, entries_at, step_of, table_of, IsTrie, AreCharacters, named, HaveOneParent}
+use Rattle.elasticlunr_trie_nodes.specs.Trie.{rank, walk, IsForest, children_at, entries_at, step_of, table_of, IsTrie}
+use Rattle.elasticlunr_trie_nodes.specs.Trie.{AreCharacters, named, HaveOneParent}
 use Rattle.elasticlunr_trie.specs.Finished.{value_at, IsNode}
 use Rattle.elasticlunr_trie.specs.Reading.{ReadsNode}
 use Rattle.elasticlunr_trie_nodes.specs.declared.nodes.Node.{Node}
@@ -34,12 +37,16 @@ data_at d vs Root = Some d
 data_at d vs (At k) = value_at vs k
 
 -- a place has the children and the entries that its value tells
-pub record HasNode (names : Names) (root : Children) (nodes : List Node) (d : Data) (vs : List Value) (p : Place) : Type 0 where
+pub record HasNode (names : Names) (root : Children) (nodes : List Node) (d : Data) (vs : List Value) (p : Place) : Type
+    0 where
   pub members : Members
   pub is : data_at d vs p ≡ Some (object members)
-  pub node : IsNode (children_at root nodes p) vs (object (frequencies (map.entries (named names (entries_at root nodes p))))) (map.len (named names (entries_at root nodes p))) members
+  pub node : IsNode (children_at root nodes p) vs
+      (object (frequencies (map.entries (named names (entries_at root nodes p)))))
+      (map.len (named names (entries_at root nodes p))) members
 
--- The nodes are read from the first of the values. A table with the whole value has at some text what each of these values tells.
+-- The nodes are read from the first of the values. A table with the whole value has at some text what each of these
+-- values tells.
 pub record IsRead (names : Names) (root : Children) (nodes : List Node) (d : Data) (vs : List Value) : Type 0 where
   pub low : length nodes ≤ length vs
   pub in_order : (p : Place) → IsStrictlySorted (children_at root nodes p)
@@ -47,17 +54,24 @@ pub record IsRead (names : Names) (root : Children) (nodes : List Node) (d : Dat
   pub children : AreChildren (step_of root nodes) (length vs)
   pub characters : (p : Place) → AreCharacters (children_at root nodes p)
   pub read : (p : Place) → rank p ≤ length nodes → HasNode names root nodes d vs p
-  pub possible : (T : Table) → IsTable T → IsTree T [] d → (k : ℕ) (v : Value) → slice_get vs k ≡ Some v → (p : Text) × IsTree T p (view v)
+  pub possible : (T : Table) → IsTable T → IsTree T [] d → (k : ℕ) (v : Value) → slice_get vs k ≡ Some v → (p : Text)
+      × IsTree T p (view v)
 
 -- a node stays what it is when more values wait
-later_value : (kids : Children) (vs more : List Value) → ((c k : ℕ) → child kids c ≡ Some k → k < length vs) → (c : ℕ) → option_and_then (value_at vs) (child kids c) ≡ option_and_then (value_at (vs ++ more)) (child kids c)
+later_value : (kids : Children) (vs more : List Value) → ((c k : ℕ) → child kids c ≡ Some k → k < length vs) → (c : ℕ)
+    → option_and_then (value_at vs) (child kids c) ≡ option_and_then (value_at (vs ++ more)) (child kids c)
 later_value kids vs more there c = by (child kids c) refl
   where
-    by : (o : Option ℕ) → child kids c ≡ o → option_and_then (value_at vs) (child kids c) ≡ option_and_then (value_at (vs ++ more)) (child kids c)
+    by : (o : Option ℕ) → child kids c ≡ o → option_and_then (value_at vs) (child kids c)
+        ≡ option_and_then (value_at (vs ++ more)) (child kids c)
     by None e = ap (option_and_then (value_at vs)) e ∙ sym (ap (option_and_then (value_at (vs ++ more))) e)
-    by (Some k) e = ap (option_and_then (value_at vs)) e ∙ ap (option_map view) (sym (get_before vs more k (there c k e))) ∙ sym (ap (option_and_then (value_at (vs ++ more))) e)
+    by (Some k) e = ap (option_and_then (value_at vs)) e
+        ∙ ap (option_map view) (sym (get_before vs more k (there c k e)))
+        ∙ sym (ap (option_and_then (value_at (vs ++ more))) e)
 
-later_node : (kids : Children) (vs more : List Value) (docs : Data) (df : ℕ) (ms : Members) → ((c k : ℕ) → child kids c ≡ Some k → k < length vs) → IsNode kids vs docs df ms → IsNode kids (vs ++ more) docs df ms
+later_node : (kids : Children) (vs more : List Value) (docs : Data) (df : ℕ) (ms : Members)
+    → ((c k : ℕ) → child kids c ≡ Some k → k < length vs) → IsNode kids vs docs df ms
+    → IsNode kids (vs ++ more) docs df ms
 later_node kids vs more docs df ms there node = record {
   order = node.order;
   docs_there = node.docs_there;
@@ -73,11 +87,14 @@ get_inside xs k x e = elim (cases_lt k (length xs)) [
 ]
 
 -- what waits after a node is at some text of each table that has the node's value
-child_possible : (kids : Children) (es : Entries) (old new : List Value) (d : Data) → ReadsNode kids es old new d → (T : Table) (p : Text) → IsTree T p d → (k : ℕ) (v : Value) → length old ≤ k → slice_get new k ≡ Some v → (q : Text) × IsTree T q (view v)
+child_possible : (kids : Children) (es : Entries) (old new : List Value) (d : Data) → ReadsNode kids es old new d
+    → (T : Table) (p : Text) → IsTree T p d → (k : ℕ) (v : Value) → length old ≤ k → slice_get new k ≡ Some v
+    → (q : Text) × IsTree T q (view v)
 child_possible kids es old new d reads T p tree k v low there =
     let whole = subst (IsTree T p) reads.is tree in
     let c = reads.values.each k low (get_inside new k v there) in
-    let found : get_member (encode_utf8 c.0) reads.members ≡ Some (view v) = reads.node.present c.0 ∙ ap (option_and_then (value_at new)) c.1 ∙ ap (option_map view) there in
+    let found : get_member (encode_utf8 c.0) reads.members ≡ Some (view v) = reads.node.present c.0
+    ∙ ap (option_and_then (value_at new)) c.1 ∙ ap (option_map view) there in
     (p ++ c.0 ∷ [], part_at T p reads.members c.0 (view v) whole.4 found)
 
 no_node : (root : Children) (p : Place) → p ≢ Root → children_at root [] p ≡ []
@@ -88,7 +105,8 @@ none_of : postings_of [] ≡ map.empty
 none_of = refl
 
 -- the root is read
-pub root_read : (names : Names) (kids : Children) (es : Entries) (new : List Value) (d : Data) → ReadsNode kids es [] new d → es ≡ [] → IsRead names kids [] d new
+pub root_read : (names : Names) (kids : Children) (es : Entries) (new : List Value) (d : Data)
+    → ReadsNode kids es [] new d → es ≡ [] → IsRead names kids [] d new
 root_read names kids es new d reads bare = record {
   low = omega arith;
   in_order = order;
@@ -134,7 +152,8 @@ root_read names kids es new d reads bare = record {
     at_root Root low = record {
       members = reads.members;
       is = ap Some reads.is;
-      node = subst (λ P. IsNode kids new (object (frequencies (map.entries P))) (map.len P) reads.members) (ap postings_of bare ∙ none_of ∙ sym (no_names names)) reads.node;
+      node = subst (λ P. IsNode kids new (object (frequencies (map.entries P))) (map.len P) reads.members)
+          (ap postings_of bare ∙ none_of ∙ sym (no_names names)) reads.node;
     }
     at_root (At k) low = absurd (omega arith)
 
@@ -145,8 +164,11 @@ get_other [] x (suc k) other = refl
 get_other (y ∷ xs) x zero other = refl
 get_other (y ∷ xs) x (suc k) other = get_other xs x k (λ e. other (ap suc e))
 
-module _ (names names2 : Names) (root : Children) (nodes : List Node) (d : Data) (vs new : List Value) (before : IsRead names root nodes d vs) (v : Value) (there : slice_get vs (length nodes) ≡ Some v) (node : Node) (es : Entries) (reads : ReadsNode node.children.items es vs new (view v))
-    (told : named names2 node.postings ≡ postings_of es) (same_postings : (q : Place) → named names2 (entries_at root nodes q) ≡ named names (entries_at root nodes q)) where
+module _ (names names2 : Names) (root : Children) (nodes : List Node) (d : Data) (vs new : List Value)
+    (before : IsRead names root nodes d vs) (v : Value) (there : slice_get vs (length nodes) ≡ Some v) (node : Node)
+    (es : Entries) (reads : ReadsNode node.children.items es vs new (view v))
+    (told : named names2 node.postings ≡ postings_of es) (same_postings : (q : Place)
+    → named names2 (entries_at root nodes q) ≡ named names (entries_at root nodes q)) where
   abbrev pub after : List Node
   after = nodes ++ node ∷ []
 
@@ -177,7 +199,8 @@ module _ (names names2 : Names) (root : Children) (nodes : List Node) (d : Data)
   new_entries q is = ap (entries_at root after) is ∙ ap entries_of here
 
   -- each child is the new node's, or an old one
-  either : (q : Place) (c k : ℕ) → step_of root after q c ≡ Some k → ((q ≡ At (length nodes)) × (child node.children.items c ≡ Some k)) ⊎ (step_of root nodes q c ≡ Some k)
+  either : (q : Place) (c k : ℕ) → step_of root after q c ≡ Some k
+      → ((q ≡ At (length nodes)) × (child node.children.items c ≡ Some k)) ⊎ (step_of root nodes q c ≡ Some k)
   either q c k e = elim (same_place q (At (length nodes))) [
     | inl is ↦ inl (is, sym (ap (λ es. child es c) (new_children q is)) ∙ e)
     | inr apart ↦ inr (sym (ap (λ es. child es c) (other_children q apart)) ∙ e)
@@ -220,14 +243,16 @@ module _ (names names2 : Names) (root : Children) (nodes : List Node) (d : Data)
   more_children : AreChildren (step_of root after) (length new)
   more_children k lt = elim (cases_lt k (length vs)) [
     | inl old ↦ let child = before.children k old in (child.0, child.1, stays child.0 child.1 child.2)
-    | inr fresh ↦ let child = reads.values.each k fresh lt in (At (length nodes), child.0, ap (λ es. value_of es child.0) (new_children (At (length nodes)) refl) ∙ child.1)
+    | inr fresh ↦ let child = reads.values.each k fresh lt in
+        (At (length nodes), child.0, ap (λ es. value_of es child.0) (new_children (At (length nodes)) refl) ∙ child.1)
   ]
     where
       stays : (q : Place) (c : ℕ) → step_of root nodes q c ≡ Some k → step_of root after q c ≡ Some k
       stays q c e = elim (same_place q (At (length nodes))) [
         | inr apart ↦ ap (λ es. value_of es c) (other_children q apart) ∙ e
         | inl is ↦
-            let none : step_of root nodes q c ≡ None = ap (λ x. step_of root nodes x c) is ∙ ap (λ o. value_of (children_of o) c) (get_past nodes (length nodes) (omega arith)) in
+            let none : step_of root nodes q c ≡ None = ap (λ x. step_of root nodes x c) is
+            ∙ ap (λ o. value_of (children_of o) c) (get_past nodes (length nodes) (omega arith)) in
             absurd (cc)
       ]
 
@@ -243,8 +268,10 @@ module _ (names names2 : Names) (root : Children) (nodes : List Node) (d : Data)
   new_node q is = record {
     members = reads.members;
     is = ap (data_at d new) is ∙ ap (option_map view) (same_value (length nodes) in_range ∙ there) ∙ ap Some reads.is;
-    node = subst (λ kids. IsNode kids new (object (frequencies (map.entries (named names2 (entries_at root after q))))) (map.len (named names2 (entries_at root after q))) reads.members) (sym (new_children q is))
-        (subst (λ P. IsNode node.children.items new (object (frequencies (map.entries P))) (map.len P) reads.members) (sym (ap (named names2) (new_entries q is) ∙ told)) reads.node);
+    node = subst (λ kids. IsNode kids new (object (frequencies (map.entries (named names2 (entries_at root after q)))))
+        (map.len (named names2 (entries_at root after q))) reads.members) (sym (new_children q is))
+        (subst (λ P. IsNode node.children.items new (object (frequencies (map.entries P))) (map.len P) reads.members)
+        (sym (ap (named names2) (new_entries q is) ∙ told)) reads.node);
   }
 
   old_node : (q : Place) → q ≢ At (length nodes) → rank q ≤ length nodes → HasNode names2 root after d new q
@@ -253,15 +280,26 @@ module _ (names names2 : Names) (root : Children) (nodes : List Node) (d : Data)
       record {
         members = old.members;
         is = same_data q (omega (arith, before.low)) ∙ old.is;
-        node = subst (λ xs. IsNode (children_at root after q) xs (object (frequencies (map.entries (named names2 (entries_at root after q))))) (map.len (named names2 (entries_at root after q))) old.members) (sym reads.values.grown)
-            (subst (λ kids. IsNode kids (vs ++ reads.values.more) (object (frequencies (map.entries (named names2 (entries_at root after q))))) (map.len (named names2 (entries_at root after q))) old.members) (sym (other_children q apart))
-            (subst (λ P. IsNode (children_at root nodes q) (vs ++ reads.values.more) (object (frequencies (map.entries P))) (map.len P) old.members) (sym (ap (named names2) (other_entries q apart) ∙ same_postings q))
-            (later_node (children_at root nodes q) vs reads.values.more _ _ old.members (λ c k e. before.forest.is_node q c k e) old.node)));
+        node = subst (λ xs. IsNode (children_at root after q) xs
+            (object (frequencies (map.entries (named names2 (entries_at root after q)))))
+            (map.len (named names2 (entries_at root after q))) old.members) (sym reads.values.grown)
+            (subst (λ kids. IsNode kids (vs ++ reads.values.more)
+            (object (frequencies (map.entries (named names2 (entries_at root after q)))))
+            (map.len (named names2 (entries_at root after q))) old.members) (sym (other_children q apart))
+            (subst (λ P. IsNode (children_at root nodes q) (vs ++ reads.values.more)
+            (object (frequencies (map.entries P))) (map.len P) old.members)
+            (sym (ap (named names2) (other_entries q apart) ∙ same_postings q))
+            (later_node (children_at root nodes q) vs reads.values.more _ _ old.members
+            (λ c k e. before.forest.is_node q c k e) old.node)));
       }
 
   rank_other : (q : Place) → q ≢ At (length nodes) → rank q ≤ suc (length nodes) → rank q ≤ length nodes
   rank_other Root apart low = omega arith
-  rank_other (At k) apart low = elim (cases_eq k (length nodes)) [ inl same ↦ absurd (apart (ap At same)) | inr other ↦ omega arith ]
+  rank_other (At k) apart low = elim (cases_eq k (length nodes)) [
+    | inl same ↦ absurd (apart (ap At same))
+    | inr other ↦
+        omega arith
+  ]
 
   -- one more node is read
   pub node_read : IsRead names2 root after d new
@@ -290,26 +328,40 @@ module _ (names names2 : Names) (root : Children) (nodes : List Node) (d : Data)
   }
 
 -- all nodes are read
-module _ (names : Names) (root : Children) (nodes : List Node) (d : Data) (vs : List Value) (all : IsRead names root nodes d vs) (count : length vs ≡ length nodes) where
+module _ (names : Names) (root : Children) (nodes : List Node) (d : Data) (vs : List Value)
+    (all : IsRead names root nodes d vs) (count : length vs ≡ length nodes) where
   pub read_trie : IsTrie root nodes
-  read_trie = record { in_order = all.in_order; forest = subst (IsForest (step_of root nodes)) count all.forest; characters = all.characters }
+  read_trie = record {
+    in_order = all.in_order;
+    forest = subst (IsForest (step_of root nodes)) count all.forest;
+    characters = all.characters;
+  }
 
   pub read_parents : HaveOneParent (step_of root nodes) (length nodes)
-  read_parents = one_parent_each (step_of root nodes) (length nodes) (length vs) all.forest (λ k lt. all.children k (omega (arith, count)))
+  read_parents = one_parent_each (step_of root nodes) (length nodes) (length vs) all.forest
+      (λ k lt. all.children k (omega (arith, count)))
 
-  tree_from : (fuel : ℕ) (t : Text) (p : Place) → walk (step_of root nodes) Root t ≡ Some p → rank p ≤ length nodes → length nodes ≤ rank p + fuel → (x : Data) → data_at d vs p ≡ Some x → IsTree (table_of root nodes names) t x
+  tree_from : (fuel : ℕ) (t : Text) (p : Place) → walk (step_of root nodes) Root t ≡ Some p → rank p ≤ length nodes
+      → length nodes ≤ rank p + fuel → (x : Data) → data_at d vs p ≡ Some x → IsTree (table_of root nodes names) t x
   tree_from zero t p leads low far x is =
       let has = all.read p low in
       let same : object has.members ≡ x = let both = sym has.is ∙ is in (cc) in
       subst (IsTree (table_of root nodes names) t) same
       (node_tree root nodes read_trie names t p leads vs _ _ has.members has.node count refl refl
-      (λ c k v step there. absurd (omega (arith, read_trie.forest.higher p c k step, read_trie.forest.is_node p c k step, far))))
+      (λ c k v step there. absurd (omega (
+        arith,
+        read_trie.forest.higher p c k step,
+        read_trie.forest.is_node p c k
+            step,
+        far,
+      ))))
   tree_from (suc fuel) t p leads low far x is =
       let has = all.read p low in
       let same : object has.members ≡ x = let both = sym has.is ∙ is in (cc) in
       subst (IsTree (table_of root nodes names) t) same
       (node_tree root nodes read_trie names t p leads vs _ _ has.members has.node count refl refl
-      (λ c k v step there. tree_from fuel (t ++ c ∷ []) (At k) (walk_to (step_of root nodes) t c k Root p leads step) (read_trie.forest.is_node p c k step)
+      (λ c k v step there. tree_from fuel (t ++ c ∷ []) (At k) (walk_to (step_of root nodes) t c k Root p leads step)
+      (read_trie.forest.is_node p c k step)
       (omega (arith, read_trie.forest.higher p c k step, far)) (view v) (ap (option_map view) there)))
 
   pub read_tree : IsTree (table_of root nodes names) [] d
@@ -317,15 +369,20 @@ module _ (names : Names) (root : Children) (nodes : List Node) (d : Data) (vs : 
 
 -- the root of a table has no postings
 first_found : (e : String Global × ℕ) (es : Entries) → map.get (postings_of (e ∷ es)) (string_bytes e.0) ≡ Some e.1
-first_found e es = map.get-from_entries nat_list_cmp_total (bytes_of (e ∷ es)) (string_bytes e.0) ∙ rw (tied_itself nat_list_cmp_total (string_bytes e.0))
+first_found e es = map.get-from_entries nat_list_cmp_total (bytes_of (e ∷ es)) (string_bytes e.0)
+    ∙ rw (tied_itself nat_list_cmp_total (string_bytes e.0))
 
-pub root_refused : (kids : Children) (es : Entries) (old new : List Value) (d : Data) → ReadsNode kids es old new d → (length es ≡ 0 → ⊥) → (T : Table) → IsTable T → IsTree T [] d → ⊥
+pub root_refused : (kids : Children) (es : Entries) (old new : List Value) (d : Data) → ReadsNode kids es old new d
+    → (length es ≡ 0 → ⊥) → (T : Table) → IsTable T → IsTree T [] d → ⊥
 root_refused kids [] old new d reads more T table tree = more refl
 root_refused kids (e ∷ es) old new d reads more T table tree =
     let whole = subst (IsTree T []) reads.is tree in
-    let both : Some (object (frequencies (map.entries (postings T [])))) ≡ Some (object (frequencies (map.entries (postings_of (e ∷ es))))) = sym whole.1 ∙ reads.node.docs_there in
-    let docs : object (frequencies (map.entries (postings T []))) ≡ object (frequencies (map.entries (postings_of (e ∷ es)))) = cc in
+    let both : Some (object (frequencies (map.entries (postings T []))))
+    ≡ Some (object (frequencies (map.entries (postings_of (e ∷ es))))) = sym whole.1 ∙ reads.node.docs_there in
+    let docs : object (frequencies (map.entries (postings T [])))
+    ≡ object (frequencies (map.entries (postings_of (e ∷ es)))) = cc in
     let same = same_docs (postings T []) (postings_of (e ∷ es)) docs in
-    let there : posting T [] (string_bytes e.0) ≡ Some e.1 = ap (λ P. map.get P (string_bytes e.0)) same ∙ first_found e es in
+    let there : posting T [] (string_bytes e.0) ≡ Some e.1 = ap (λ P. map.get P (string_bytes e.0)) same
+    ∙ first_found e es in
     let none = table.bare_root (string_bytes e.0) in
     absurd (cc)

@@ -8,7 +8,8 @@ use Rattle.elasticlunr_trie_nodes.specs.Nodes.{children_of, entries_of, SameShap
 use Rattle.elasticlunr_trie_nodes.specs.declared.nodes.Node.{Node}
 use Rattle.elasticlunr_trie_nodes.proofs.Places.{get_set, get_set_other, get_there}
 
-module _ (nodes : List Node) (k : ℕ) (node : Node) (in_range : k < length nodes) (is : node ≡ get_or nodes k node) (P : Frequencies) where
+module _ (nodes : List Node) (k : ℕ) (node : Node) (in_range : k < length nodes) (is : node ≡ get_or nodes k node)
+    (P : Frequencies) where
   abbrev other : Node
   other = record { children = node.children; postings = P }
 
@@ -22,7 +23,8 @@ module _ (nodes : List Node) (k : ℕ) (node : Node) (in_range : k < length node
   shape = record {
     count = length-set nodes k other;
     children = λ j. elim (cases_eq j k) [
-      | inl same ↦ ap (λ x. children_of (slice_get (set nodes k other) x)) same ∙ ap children_of after ∙ sym (ap children_of before) ∙ ap (λ x. children_of (slice_get nodes x)) (sym same)
+      | inl same ↦ ap (λ x. children_of (slice_get (set nodes k other) x)) same ∙ ap children_of after
+          ∙ sym (ap children_of before) ∙ ap (λ x. children_of (slice_get nodes x)) (sym same)
       | inr apart ↦ ap children_of (get_set_other nodes j k other apart)
     ];
   }

@@ -1,5 +1,6 @@
 -- Which nodes lead to a posting, and the nodes that are kept; for private clauses.
-use Rattle.std.specs.Prelude.{◌≡◌, ◌↔◌, ℕ, zero, suc, ◌+◌, ◌<◌, Bool, false, IsTrue, List, [], ◌∷◌, length, slice_get, Some, unwrap_or, if◌then◌else◌}
+use Rattle.std.specs.Prelude.{◌≡◌, ◌↔◌, ℕ, zero, suc, ◌+◌, ◌<◌, Bool, false, IsTrue, List, [], ◌∷◌}
+use Rattle.std.specs.Prelude.{length, slice_get, Some, unwrap_or, if◌then◌else◌}
 use Rattle.elasticlunr_error.specs.Text.{Text}
 use Rattle.elasticlunr_trie_nodes.specs.Frequencies.{Frequencies}
 use Rattle.elasticlunr_trie_nodes.specs.Names.{Names}
@@ -30,7 +31,8 @@ MarksBearing nodes marks = (k : ℕ) → k < length nodes → IsTrue (is_marked 
 
 -- one of the children is marked
 abbrev pub HasMarked : List Bool → Children → Type 0
-HasMarked marks children = (c : ℕ) × (k : ℕ) × (child children c ≡ Some k) × IsTrue (is_marked marks k)
+HasMarked marks children = (c : ℕ) × (k : ℕ) × (child children c ≡ Some k)
+    × IsTrue (is_marked marks k)
 
 -- a reference has a frequency
 abbrev pub HasFrequency : Frequencies → Type 0
@@ -49,14 +51,23 @@ pub record AreNumbers (marks : List Bool) (numbers : List ℕ) : Type 0 where
 -- the marked children, under their new numbers
 abbrev pub kept_children : List Bool → Children → Children
 kept_children marks [] = []
-kept_children marks (e ∷ es) = if is_marked marks e.1 then (e.0, new_number marks e.1) ∷ kept_children marks es else kept_children marks es
+kept_children marks (e ∷ es) = if is_marked marks e.1 then (e.0, new_number marks e.1)
+    ∷ kept_children marks es else kept_children marks es
 
--- the nodes below i that are marked, in order, each with its marked children and its postings under their names
-pub record KeepsBelow (marks : List Bool) (names : Names) (nodes : List Node) (names2 : Names) (kept : List Node) (i : ℕ) : Type 0 where
+-- the nodes below i that are marked, in order, each with its marked children and its postings under
+-- their names
+pub record KeepsBelow (marks : List Bool) (names : Names) (nodes : List Node) (names2 : Names)
+    (kept : List Node) (i : ℕ) : Type 0 where
   pub count : length kept ≡ new_number marks i
-  pub children : (k : ℕ) → k < i → IsTrue (is_marked marks k) → children_of (slice_get kept (new_number marks k)) ≡ kept_children marks (children_of (slice_get nodes k))
-  pub entries : (k : ℕ) → k < i → IsTrue (is_marked marks k) → named names2 (entries_of (slice_get kept (new_number marks k))) ≡ named names (entries_of (slice_get nodes k))
+  pub children : (k : ℕ) → k < i → IsTrue (is_marked marks k)
+      → children_of (slice_get kept (new_number marks k))
+      ≡ kept_children marks (children_of (slice_get nodes k))
+  pub entries : (k : ℕ) → k < i → IsTrue (is_marked marks k)
+      → named names2 (entries_of (slice_get kept (new_number marks k)))
+      ≡ named names (entries_of (slice_get nodes k))
 
--- the marked ones of all nodes, in order, each with its marked children and its postings under their names
-abbrev pub KeepsMarked : (marks : List Bool) (names : Names) (nodes : List Node) (names2 : Names) (kept : List Node) → Type 0
+-- the marked ones of all nodes, in order, each with its marked children and its postings under
+-- their names
+abbrev pub KeepsMarked : (marks : List Bool) (names : Names) (nodes : List Node) (names2 : Names)
+    (kept : List Node) → Type 0
 KeepsMarked marks names nodes names2 kept = KeepsBelow marks names nodes names2 kept (length nodes)

@@ -1,6 +1,6 @@
 pub use Rattle.elasticlunr_trie_nodes.specs.Table
 pub mod Begun
-pub mod Ends
+pub mod TokenCache
 pub mod Compacted
 pub mod Tree
 pub mod EqualTables

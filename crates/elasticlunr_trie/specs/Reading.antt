@@ -1,5 +1,6 @@
 -- What a value tells of a node, when the values of its children are numbered; for private clauses.
-use Rattle.std.specs.Prelude.{◌≡◌, ◌≢◌, ◌⊎◌, ℕ, ◌<◌, ◌≤◌, List, [], ◌∷◌, ◌++◌, map, length, Some, IsSome, true, codes, encode_utf8, option_and_then}
+use Rattle.std.specs.Prelude.{◌≡◌, ◌≢◌, ◌⊎◌, ℕ, ◌<◌, ◌≤◌, List, [], ◌∷◌, ◌++◌, map, length, Some}
+use Rattle.std.specs.Prelude.{IsSome, true, codes, encode_utf8, option_and_then}
 use Rattle.std.specs.Borrow.{Bor}
 use Rattle.std.specs.Str.{all_scalars}
 use Rattle.std.specs.FinMap.{entries, len}
@@ -30,16 +31,21 @@ pub record HasNewValues (children : Children) (old new : List Value) : Type 0 wh
 -- each member is `docs`, `df` or the value of a child
 pub record ReadsChildren (children : Children) (old new : List Value) (ms : Members) : Type 0 where
   pub values : HasNewValues children old new
-  pub present : (c : ℕ) → get_member (encode_utf8 c) ms ≡ option_and_then (value_at new) (child children c)
-  pub only : (q : List ℕ) → IsSome (get_member q ms) → (q ≡ codes "docs") ⊎ (q ≡ codes "df") ⊎ ((c : ℕ) × IsSome (child children c) × (q ≡ encode_utf8 c))
+  pub present : (c : ℕ) → get_member (encode_utf8 c) ms
+      ≡ option_and_then (value_at new) (child children c)
+  pub only : (q : List ℕ) → IsSome (get_member q ms) → (q ≡ codes "docs") ⊎ (q ≡ codes "df")
+      ⊎ ((c : ℕ) × IsSome (child children c) × (q ≡ encode_utf8 c))
 
 -- a member is neither `docs` nor `df` nor under a character
 abbrev pub HasForeignKey : Members → Type 0
-HasForeignKey ms = (q : List ℕ) × IsSome (get_member q ms) × (q ≢ codes "docs") × (q ≢ codes "df") × ((c : ℕ) → all_scalars (c ∷ []) ≡ true → q ≢ encode_utf8 c)
+HasForeignKey ms = (q : List ℕ) × IsSome (get_member q ms) × (q ≢ codes "docs") × (q ≢ codes "df")
+    × ((c : ℕ) → all_scalars (c ∷ []) ≡ true → q ≢ encode_utf8 c)
 
 -- d is the value of a node with these children and entries
-pub record ReadsNode (children : Children) (es : Entries) (old new : List Value) (d : Data) : Type 0 where
-  pub values : HasNewValues children old new
-  pub members : Members
-  pub is : d ≡ object members
-  pub node : IsNode children new (object (frequencies (entries (postings_of es)))) (len (postings_of es)) members
+pub record ReadsNode (children : Children) (es : Entries) (old new : List Value) (d : Data) : Type 0
+  where
+    pub values : HasNewValues children old new
+    pub members : Members
+    pub is : d ≡ object members
+    pub node : IsNode children new (object (frequencies (entries (postings_of es))))
+        (len (postings_of es)) members

@@ -10,8 +10,11 @@ use Rattle.elasticlunr_trie_nodes.specs.declared.nodes.Place.{Place}
 
 -- the postings of the text that goes on with t from the place p, if it is known
 abbrev pub look_from : Names → Children → List Node → Place → Text → Option Postings
-look_from names root nodes p t = option_map (λ q. named names (entries_at root nodes q)) (walk (step_of root nodes) p t)
+look_from names root nodes p t = option_map (λ q. named names (entries_at root nodes q))
+    (walk (step_of root nodes) p t)
 
 -- from both places the same longer texts are known, with the same postings
-abbrev pub IsSameBelow : Names → Children → List Node → Place → Names → Children → List Node → Place → Type 0
-IsSameBelow names root nodes p names2 root2 nodes2 q = (c : ℕ) (t : Text) → look_from names root nodes p (c ∷ t) ≡ look_from names2 root2 nodes2 q (c ∷ t)
+abbrev pub IsSameBelow : Names → Children → List Node → Place → Names → Children → List Node → Place
+    → Type 0
+IsSameBelow names root nodes p names2 root2 nodes2 q = (c : ℕ) (t : Text)
+    → look_from names root nodes p (c ∷ t) ≡ look_from names2 root2 nodes2 q (c ∷ t)

@@ -1,10 +1,12 @@
 -- The JSON value of a table.
-use Rattle.std.specs.Prelude.{◌≡◌, ◌↔◌, ◌⊎◌, ℕ, List, [], ◌∷◌, ◌++◌, Some, IsSome, IsTrue, codes, encode_utf8}
+use Rattle.std.specs.Prelude.{◌≡◌, ◌↔◌, ◌⊎◌, ℕ, List, [], ◌∷◌, ◌++◌, Some, IsSome, IsTrue, codes}
+use Rattle.std.specs.Prelude.{encode_utf8}
 use Rattle.std.specs.declared.cmp.Ordering.TheVariants.{Less}
 use Rattle.std.specs.Ordering.{nat_cmp}
 use Rattle.std.specs.Cmp.Lexicographic.{slice_cmp}
 use Rattle.std.specs.FinMap.{entries, len}
-use Rattle.serde_json.specs.Data.{Data, null, boolean, number, string, array, object, unsigned, Members, no_members, member}
+use Rattle.serde_json.specs.Data.{Data, null, boolean, number, string, array, object, unsigned}
+use Rattle.serde_json.specs.Data.{Members, no_members, member}
 use Rattle.serde_json.specs.Find.{get_member}
 use Rattle.elasticlunr_error.specs.Text.{Text, Bytes}
 use Rattle.elasticlunr_json.specs.Maps.{members}
@@ -47,7 +49,8 @@ abbrev mutual
   pub AreParts : Table → Text → Members → Type 0
   AreParts T p no_members = Unit {0}
   AreParts T p (member k d ms) =
-      ((k ≡ codes "docs") ⊎ (k ≡ codes "df") ⊎ ((c : ℕ) × (k ≡ encode_utf8 c) × IsTree T (p ++ c ∷ []) d))
+      ((k ≡ codes "docs") ⊎ (k ≡ codes "df")
+      ⊎ ((c : ℕ) × (k ≡ encode_utf8 c) × IsTree T (p ++ c ∷ []) d))
       × AreParts T p ms
 
 -- the trie value of a table

@@ -1,5 +1,7 @@
--- The nodes below a place, in the order of their texts, and what is left of them; for private clauses.
-use Rattle.std.specs.Prelude.{◌≡◌, ◌≢◌, ℕ, zero, suc, ◌+◌, ◌*◌, Bool, List, [], ◌∷◌, ◌++◌, length, take, slice_get, nat_lt, if◌then◌else◌}
+-- The nodes below a place, in the order of their texts, and what is left of them; for private
+-- clauses.
+use Rattle.std.specs.Prelude.{◌≡◌, ◌≢◌, ℕ, zero, suc, ◌+◌, ◌*◌, Bool, List, [], ◌∷◌, ◌++◌, length}
+use Rattle.std.specs.Prelude.{take, slice_get, nat_lt, if◌then◌else◌}
 use Rattle.std.specs.Borrow.{Bor}
 use Rattle.std.specs.FinMap.{len}
 use Rattle.elasticlunr_error.specs.Text.{Text}
@@ -28,7 +30,8 @@ module _ (nodes : List Node) where
 
   -- the children of each node come behind it
   abbrev pub HasVisits : Type 0
-  HasVisits = (t : Text) (k : ℕ) → node_visits t k ≡ (t, k) ∷ below node_visits t (children_of (slice_get nodes k))
+  HasVisits = (t : Text) (k : ℕ) → node_visits t k ≡ (t, k)
+      ∷ below node_visits t (children_of (slice_get nodes k))
 
   -- the node k has a posting
   abbrev pub is_posted : ℕ → Bool
@@ -39,15 +42,19 @@ module _ (nodes : List Node) where
   posted [] = []
   posted (v ∷ vs) = if is_posted v.1 then v.0 ∷ posted vs else posted vs
 
-  -- What is left to visit: at each level of the text, from n characters on, children. The last come first.
+  -- What is left to visit: at each level of the text, from n characters on, children. The last come
+  -- first.
   abbrev pub left : ℕ → Text → List (Bor Children) → Visits
   left n t [] = []
   left n t (es ∷ rest) = left (suc n) t rest ++ below node_visits (take n t) es.now
 
-  -- The first of what was left are visited: children at the end of the text, and then those of the stack.
-  pub record Advances (n : ℕ) (t : Text) (es : Children) (stack : List (Bor Children)) (found : List Text) (t2 : Text) (stack2 : List (Bor Children)) (found2 : List Text) : Type 0 where
-    pub visited : Visits
-    pub split : below node_visits t es ++ left n t stack ≡ visited ++ left n t2 stack2
-    pub more : found2 ≡ found ++ posted visited
-    pub smaller : length stack2 ≡ length stack + 2 * length visited
-    pub level : stack2 ≢ [] → suc (length t2) ≡ n + length stack2
+  -- The first of what was left are visited: children at the end of the text, and then those of the
+  -- stack.
+  pub record Advances (n : ℕ) (t : Text) (es : Children) (stack : List (Bor Children))
+      (found : List Text) (t2 : Text) (stack2 : List (Bor Children)) (found2 : List Text) : Type 0
+    where
+      pub visited : Visits
+      pub split : below node_visits t es ++ left n t stack ≡ visited ++ left n t2 stack2
+      pub more : found2 ≡ found ++ posted visited
+      pub smaller : length stack2 ≡ length stack + 2 * length visited
+      pub level : stack2 ≢ [] → suc (length t2) ≡ n + length stack2

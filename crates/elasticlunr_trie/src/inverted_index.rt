@@ -1,9 +1,12 @@
 //! Tries of tokens, each with the frequency of each reference that has it.
 ghost use Rattle.std.specs.FinMap.{get as get_postings, len};
-ghost use Rattle.std.specs.Prelude.{◌≡◌, ◌↔◌, [], None, IsTrue, IfOk, IfErr, IsOk, OnOk, OnErr, IsOkUnless, false, unwrap_or, is_some, ◌≢◌};
+ghost use Rattle.std.specs.Prelude.{◌≡◌, ◌↔◌, [], None, IsTrue, IfOk, IfErr, IsOk, OnOk, OnErr};
+ghost use Rattle.std.specs.Prelude.{IsOkUnless, false, unwrap_or, is_some, ◌≢◌};
 ghost use Rattle.std.specs.Str.{chars};
 ghost use Rattle.elasticlunr_error.specs.Text.{Text, Bytes};
-ghost use Rattle.elasticlunr_trie_nodes.specs.Table.{Table, new_table, knows, posting, postings, IsTable, AddsToken, RemovesToken, AreChanged, additions, told_tokens, same_tables};
+ghost use Rattle.elasticlunr_trie_nodes.specs.Table.{Table, new_table, knows, posting, postings};
+ghost use Rattle.elasticlunr_trie_nodes.specs.Table.{IsTable, AddsToken, RemovesToken, AreChanged};
+ghost use Rattle.elasticlunr_trie_nodes.specs.Table.{additions, told_tokens, same_tables};
 ghost use Rattle.elasticlunr_trie_nodes.specs.Copied.{copied_postings};
 ghost use Rattle.serde_json.specs.View.{view};
 ghost use Rattle.elasticlunr_json.specs.Refused.{IsRefused};
@@ -32,14 +35,14 @@ use elasticlunr_trie_nodes::child::Child;
 use elasticlunr_trie_nodes::docs::copy_docs;
 use elasticlunr_trie_nodes::names::Names;
 use elasticlunr_trie_nodes::nodes::{Node, Place, Reference, find, find_frequency, find_postings};
-use elasticlunr_trie_nodes::start::Start;
-use ends::Ends;
+use elasticlunr_trie_nodes::start::WalkedToken;
+use ends::TokenCache;
 use read::{only_member, read_nodes};
 pub use references::copied;
 use remove::{remove_posting, remove_postings};
 use same::same_below;
 use serde_json::{Map, Value};
-use starts::{add_starts, starts_of};
+use starts::{add_walked, walked_tokens};
 use std::alloc::Global;
 use std::collections::BTreeMap;
 use std::marker::Model;
@@ -54,14 +57,17 @@ use value::tree_value;
 /// when their postings go, until the trie is compacted.
 ///
 /// The nodes stand in one vector, and name their children by number. Each is the child of exactly
-/// one: of the root, or of a node of a lower number. So a trie is dropped without recursion. At each
+/// one: of the root, or of a node of a lower number. So a trie is dropped without recursion. At
+/// each
 /// character of a text up to 16 children are scanned from the first, and more of them are searched
 /// by binary search. A reference has a number, under which its postings stand; its name is kept
 /// once. A name may stay when its postings go, until the trie is compacted; no call shows it.
 ///
-/// A node takes 32 bytes, and more where it has several children or several postings. A token of up
+/// A node takes 32 bytes, and more where it has several children or several postings. A token of
+/// up
 /// to 27 bytes that came when it was known already, for the second time or as the beginning of
-/// another one, is remembered with its node, if a slot is free for it: a slot takes 32 bytes, and at
+/// another one, is remembered with its node, if a slot is free for it: a slot takes 32 bytes, and
+/// at
 /// most three of four are taken. There are numbers for 2^43 nodes and 2^48 references, more than
 /// memory has room for: a call that would make more of them fails as where memory is refused.
 #[derive(Drop)]
@@ -71,7 +77,7 @@ pub struct InvertedIndex {
     names: Names,
     references: Vec<Reference>,
     // where tokens lead that came when they were known already
-    ends: Ends,
+    ends: TokenCache,
 }
 
 impl Model for InvertedIndex {
@@ -84,7 +90,7 @@ impl Model for InvertedIndex {
     ghost coded = { map.code (coded_list coded_ℕ) (map.code (coded_list coded_ℕ) coded_ℕ) };
 
     ghost use Rattle.elasticlunr_trie_nodes.specs.Trie.{table_of, step_of, IsIndex};
-    ghost use Rattle.elasticlunr_trie.specs.Ends.{AreEnds};
+    ghost use Rattle.elasticlunr_trie.specs.TokenCache.{AreEnds};
 
     ghost view = { λ a. table_of a.root.items a.nodes.items a.names };
 
@@ -104,7 +110,7 @@ impl InvertedIndex {
             nodes: Vec::new(alloc),
             names: Names::new(alloc),
             references: Vec::new(alloc),
-            ends: Ends::new(alloc),
+            ends: TokenCache::new(alloc),
         }
     }
 
@@ -114,7 +120,8 @@ impl InvertedIndex {
     /// Where memory is refused, the table stays as it was. What changes then is shown by no call:
     /// the reference may have a number, or a node in its list, without a posting, and no token is
     /// remembered. The work is in proportion to the token; the reference is looked up among all
-    /// names unless it is the one that was entered last, and by binary search among the postings of
+    /// names unless it is the one that was entered last, and by binary search among the postings
+    /// of
     /// the token unless it is newer than all of them.
     pub fn add_token(
         &mut self,
@@ -132,7 +139,7 @@ impl InvertedIndex {
             return Ok(());
         }
         let alloc = *self.nodes.allocator();
-        let ends = mem::replace(&mut self.ends, Ends::new(alloc));
+        let ends = mem::replace(&mut self.ends, TokenCache::new(alloc));
         add_posting(
             alloc,
             &mut self.root,
@@ -140,7 +147,7 @@ impl InvertedIndex {
             &mut self.names,
             &mut self.references,
             doc_ref,
-            Start::new(token, term_freq),
+            WalkedToken::new(token, term_freq),
         )?;
         self.ends = ends;
         Ok(())
@@ -148,20 +155,24 @@ impl InvertedIndex {
 
     /// Sets the postings of several tokens, one after the other. An empty token changes nothing.
     ///
-    /// A token that is remembered is at its end by one look-up. The others are walked side by side:
+    /// A token that is remembered is at its end by one look-up. The others are walked side by
+    /// side:
     /// while one walk waits for memory, the others go on, so that in a large trie this takes less
-    /// time than a call for each; and the reference gets room for all of them at once. Where memory
+    /// time than a call for each; and the reference gets room for all of them at once. Where
+    /// memory
     /// is wanting, the postings of some tokens may be set, from the first on, and nothing else has
     /// changed.
     pub fn add_tokens(&mut self, doc_ref: &str, tokens: &[(&str, u64)]) -> Result<(), IndexError>
-        ensures ok { OnOk result (AreChanged (additions doc_ref.now (told_tokens tokens.now)) self.old self.new) }
+        ensures ok { OnOk result (AreChanged (additions doc_ref.now (told_tokens tokens.now))
+            self.old self.new) }
         ensures memory { IsOkUnless result Memory }
-        ensures err { OnErr result (AreBegun (additions doc_ref.now (told_tokens tokens.now)) self.old self.new) }
+        ensures err { OnErr result (AreBegun (additions doc_ref.now (told_tokens tokens.now))
+            self.old self.new) }
     {
         let alloc = *self.nodes.allocator();
-        let starts = starts_of(alloc, &self.root, &self.nodes, &mut self.ends, tokens)?;
-        let ends = mem::replace(&mut self.ends, Ends::new(alloc));
-        add_starts(
+        let starts = walked_tokens(alloc, &self.root, &self.nodes, &mut self.ends, tokens)?;
+        let ends = mem::replace(&mut self.ends, TokenCache::new(alloc));
+        add_walked(
             alloc,
             &mut self.root,
             &mut self.nodes,
@@ -174,13 +185,15 @@ impl InvertedIndex {
         Ok(())
     }
 
-    /// Takes every posting of a reference away. The known texts stay. It visits the nodes where the
+    /// Takes every posting of a reference away. The known texts stay. It visits the nodes where
+    /// the
     /// reference has or had a posting, and no others; an unknown reference is looked up and costs
     /// no more. Does not allocate.
     pub fn remove_doc(&mut self, doc_ref: &str)
         ensures known { (t : Text) → knows self.new t ≡ knows self.old t }
         ensures gone { (t : Text) → posting self.new t doc_ref.now ≡ None }
-        ensures others { (t : Text) (r : Bytes) → r ≢ doc_ref.now → posting self.new t r ≡ posting self.old t r }
+        ensures others { (t : Text) (r : Bytes) → r ≢ doc_ref.now → posting self.new t r
+            ≡ posting self.old t r }
     {
         let alloc = *self.nodes.allocator();
         remove_postings(
@@ -210,7 +223,8 @@ impl InvertedIndex {
     /// A copy of the postings of a token, `None` where it is unknown. The work is in proportion to
     /// the token and its postings.
     pub fn get_docs(&self, token: &str) -> Result<Option<BTreeMap<String, u64>>, IndexError>
-        ensures ok { IfOk result (λ docs. copied_postings docs ≡ get_postings self.now (chars token.now)) }
+        ensures ok { IfOk result (λ docs. copied_postings docs
+            ≡ get_postings self.now (chars token.now)) }
         ensures memory { IsOkUnless result Memory }
     {
         let alloc = *self.nodes.allocator();
@@ -245,7 +259,8 @@ impl InvertedIndex {
         }
     }
 
-    /// The JSON value of the trie: an object with the key `root`, under which each node has `docs`,
+    /// The JSON value of the trie: an object with the key `root`, under which each node has
+    /// `docs`,
     /// `df` and a key for each of its children's characters.
     ///
     /// It takes more than a thousand bytes a posting: to print, use `write`. A value is dropped by
@@ -254,7 +269,8 @@ impl InvertedIndex {
     pub fn to_value(&self) -> Result<Value, IndexError>
         ensures tree { IfOk result (λ v. IsTrieValue self.now (view v)) }
         ensures table { IsTable self.now }
-        ensures only { IfOk result (λ v. (U : Table) → IsTable U → IsTrieValue U (view v) → U ≡ self.now) }
+        ensures only { IfOk result (λ v. (U : Table) → IsTable U → IsTrieValue U (view v) → U
+            ≡ self.now) }
         ensures whole { IfOk result (λ v. has_float (view v) ≡ false) }
         ensures memory { IsOkUnless result Memory }
     {
@@ -272,7 +288,8 @@ impl InvertedIndex {
     pub fn from_value(alloc: Global, value: &Value) -> Result<Self, IndexError>
         ensures ok { IfOk result (λ t. IsTrieValue t (view value.now)) }
         ensures table { IfOk result (λ t. IsTable t) }
-        ensures foreign { IfErr result (IsRefused ((T : Table) → IsTable T → ¬ (IsTrieValue T (view value.now)))) }
+        ensures foreign { IfErr result (IsRefused ((T : Table) → IsTable T
+            → ¬ (IsTrieValue T (view value.now)))) }
     {
         let Some(root) = only_member(value, "root") else {
             return Err(IndexError::ForeignValue);
@@ -285,7 +302,7 @@ impl InvertedIndex {
             nodes,
             names,
             references,
-            ends: Ends::new(alloc),
+            ends: TokenCache::new(alloc),
         })
     }
 

@@ -1,12 +1,15 @@
 //! Laws of the tables that a trie represents.
-ghost use Rattle.std.specs.Prelude.{◌≡◌, ◌≢◌, ◌⊎◌, ◌↔◌, [], List, Result, IfOk, IfErr, IsTrue, unwrap_or, option_map};
+ghost use Rattle.std.specs.Prelude.{◌≡◌, ◌≢◌, ◌⊎◌, ◌↔◌, [], List, Result, IfOk, IfErr, IsTrue};
+ghost use Rattle.std.specs.Prelude.{unwrap_or, option_map};
 ghost use Rattle.std.specs.Bool.{Decides};
 ghost use Rattle.std.specs.FinMap.{entries, get, len};
 ghost use Rattle.serde_json.specs.Data.{Data};
 ghost use Rattle.elasticlunr_error.specs.Text.{Text};
 ghost use Rattle.elasticlunr_error.specs.declared.error.IndexError.{IndexError};
 ghost use Rattle.elasticlunr_json.specs.Refused.{IsRefused, IsAnswer};
-ghost use Rattle.elasticlunr_trie_nodes.specs.Table.{Table, new_table, knows, postings, same_tables, IsPrefix, IsTable, Change, AreChanged, IsAdded};
+ghost use Rattle.elasticlunr_trie_nodes.specs.Table.{Table, new_table, knows, postings};
+ghost use Rattle.elasticlunr_trie_nodes.specs.Table.{same_tables, IsPrefix, IsTable, Change};
+ghost use Rattle.elasticlunr_trie_nodes.specs.Table.{AreChanged, IsAdded};
 ghost use Rattle.elasticlunr_trie.specs.Tokens.{IsTokenFrom};
 ghost use Rattle.elasticlunr_trie.specs.Tree.{IsTrieValue};
 
@@ -21,7 +24,8 @@ pub fn one_value_a_table()
     ensures { (T : Table) (v : Data) (w : Data) → IsTrieValue T v → IsTrieValue T w → v ≡ w }
 {}
 
-/// An answer that keeps the contract of `InvertedIndex::from_value` on the trie value of a table is
+/// An answer that keeps the contract of `InvertedIndex::from_value` on the trie value of a table
+/// is
 /// that table, or out of memory.
 pub fn trie_values_are_read_back()
     ensures { (T : Table) (v : Data) (answer : Result Table IndexError)

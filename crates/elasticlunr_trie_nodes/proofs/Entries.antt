@@ -11,5 +11,6 @@ abbrev pub bytes_of : Entries → List (Bytes × ℕ)
 bytes_of es = sorted.shown (λ n. n) es
 
 -- the entries of a map stand in order
-pub sorted_entries : (es : Entries) → IsStrictlySortedBy string_cmp (keys_of es) → map.entries (postings_of es) ≡ bytes_of es
+pub sorted_entries : (es : Entries) → IsStrictlySortedBy string_cmp (keys_of es) → map.entries (postings_of es)
+    ≡ bytes_of es
 sorted_entries es h = sorted.entries_seen (λ n. n) es h

@@ -1,13 +1,16 @@
 -- Where the paths of a forest of numbered nodes lead.
 use Rattle.std.proofs.lemmas.Bool.{cases_eq, cases_lt}
-use Rattle.std.proofs.Common.{◌≡◌, ◌≢◌, ◌⊎◌, inl, inr, ℕ, suc, ◌+◌, ◌<◌, ◌≤◌, [], ◌∷◌, ◌++◌, length, Option, Some, None, option_map, option_and_then, refl, sym, ap, subst, ◌∙◌, arith, append-nil, append_assoc, add-zero, le_refl}
+use Rattle.std.proofs.Common.{◌≡◌, ◌≢◌, ◌⊎◌, inl, inr, ℕ, suc, ◌+◌, ◌<◌, ◌≤◌, [], ◌∷◌, ◌++◌, length, Option, Some, None}
+use Rattle.std.proofs.Common.{option_map, option_and_then, refl, sym, ap, subst, ◌∙◌, arith, append-nil, append_assoc}
+use Rattle.std.proofs.Common.{add-zero, le_refl}
 use Rattle.elasticlunr_error.specs.Text.{Text}
 use Rattle.elasticlunr_trie_nodes.specs.Trie.{rank, Step, walk, IsForest, HaveOneParent}
 use Rattle.elasticlunr_trie_nodes.specs.declared.nodes.Place.{Place}
 use Rattle.elasticlunr_trie_nodes.specs.declared.nodes.Place.TheVariants.{Root, At}
 
 -- what an answer says of the steps before it
-pub then_some : {A B : Type 0} (o : Option A) (f : A → Option B) (y : B) → option_and_then f o ≡ Some y → (x : A) × (o ≡ Some x) × (f x ≡ Some y)
+pub then_some : {A B : Type 0} (o : Option A) (f : A → Option B) (y : B) → option_and_then f o ≡ Some y → (x : A)
+    × (o ≡ Some x) × (f x ≡ Some y)
 then_some None f y e = absurd (cc)
 then_some (Some x) f y e = (x, refl, e)
 
@@ -28,7 +31,8 @@ by_last P none more t = from [] none t
 
 module _ (step : Step) where
   -- one step of a path, and the rest
-  pub walk_cons : (p q : Place) (c : ℕ) (t : Text) → walk step p (c ∷ t) ≡ Some q → (k : ℕ) × (step p c ≡ Some k) × (walk step (At k) t ≡ Some q)
+  pub walk_cons : (p q : Place) (c : ℕ) (t : Text) → walk step p (c ∷ t) ≡ Some q → (k : ℕ) × (step p c ≡ Some k)
+      × (walk step (At k) t ≡ Some q)
   walk_cons p q c t e = then_some (step p c) (λ k. walk step (At k) t) q e
 
   pub walk_on : (p : Place) (c k : ℕ) (t : Text) → step p c ≡ Some k → walk step p (c ∷ t) ≡ walk step (At k) t
@@ -41,7 +45,8 @@ module _ (step : Step) where
   abbrev pub last_step : ℕ → Place → Option Place
   last_step c q = option_map At (step q c)
 
-  pub walk_push : (t : Text) (p : Place) (c : ℕ) → walk step p (t ++ c ∷ []) ≡ option_and_then (last_step c) (walk step p t)
+  pub walk_push : (t : Text) (p : Place) (c : ℕ) → walk step p (t ++ c ∷ [])
+      ≡ option_and_then (last_step c) (walk step p t)
   walk_push [] p c = through (step p c)
     where
       through : (o : Option ℕ) → option_and_then (λ k. Some (At k)) o ≡ option_map At o
@@ -49,13 +54,16 @@ module _ (step : Step) where
       through (Some k) = refl
   walk_push (d ∷ t) p c = through (λ k. walk_push t (At k) c) (step p d)
     where
-      through : ((k : ℕ) → walk step (At k) (t ++ c ∷ []) ≡ option_and_then (last_step c) (walk step (At k) t)) → (o : Option ℕ)
-          → option_and_then (λ k. walk step (At k) (t ++ c ∷ [])) o ≡ option_and_then (last_step c) (option_and_then (λ k. walk step (At k) t) o)
+      through : ((k : ℕ) → walk step (At k) (t ++ c ∷ []) ≡ option_and_then (last_step c) (walk step (At k) t))
+          → (o : Option ℕ)
+          → option_and_then (λ k. walk step (At k) (t ++ c ∷ [])) o
+          ≡ option_and_then (last_step c) (option_and_then (λ k. walk step (At k) t) o)
       through same None = refl
       through same (Some k) = same k
 
   -- the last step of a path that leads somewhere
-  pub walk_last : (t : Text) (c : ℕ) (p q : Place) → walk step p (t ++ c ∷ []) ≡ Some q → (m : Place) × (k : ℕ) × (walk step p t ≡ Some m) × (step m c ≡ Some k) × (q ≡ At k)
+  pub walk_last : (t : Text) (c : ℕ) (p q : Place) → walk step p (t ++ c ∷ []) ≡ Some q → (m : Place) × (k : ℕ)
+      × (walk step p t ≡ Some m) × (step m c ≡ Some k) × (q ≡ At k)
   walk_last t c p q e =
       let before = then_some (walk step p t) (last_step c) q (sym (walk_push t p c) ∙ e) in
       let number = mapped (step before.0 c) q before.2 in
@@ -65,18 +73,21 @@ module _ (step : Step) where
       mapped None q e = absurd (cc)
       mapped (Some k) q e = (k, refl, (cc))
 
-  pub walk_to : (t : Text) (c k : ℕ) (p m : Place) → walk step p t ≡ Some m → step m c ≡ Some k → walk step p (t ++ c ∷ []) ≡ Some (At k)
+  pub walk_to : (t : Text) (c k : ℕ) (p m : Place) → walk step p t ≡ Some m → step m c ≡ Some k
+      → walk step p (t ++ c ∷ []) ≡ Some (At k)
   walk_to t c k p m e f = walk_push t p c ∙ ap (option_and_then (last_step c)) e ∙ ap (option_map At) f
 
   -- a path goes on from where its front leads
-  pub walk_after : (front t : Text) (q p : Place) → walk step q front ≡ Some p → walk step q (front ++ t) ≡ walk step p t
+  pub walk_after : (front t : Text) (q p : Place) → walk step q front ≡ Some p → walk step q (front ++ t)
+      ≡ walk step p t
   walk_after [] t q p e = let same : q ≡ p = (cc) in ap (λ x. walk step x t) same
   walk_after (c ∷ front) t q p e =
       let at = walk_cons q p c front e in
       walk_on q c at.0 (front ++ t) at.1 ∙ walk_after front t (At at.0) p at.2
 
   -- a text whose path leads somewhere has only such prefixes
-  pub walk_front : (t rest : Text) (p q : Place) → walk step p (t ++ rest) ≡ Some q → (m : Place) × (walk step p t ≡ Some m)
+  pub walk_front : (t rest : Text) (p q : Place) → walk step p (t ++ rest) ≡ Some q → (m : Place)
+      × (walk step p t ≡ Some m)
   walk_front [] rest p q e = (p, refl)
   walk_front (c ∷ t) rest p q e =
       let at = walk_cons p q c (t ++ rest) e in
@@ -136,7 +147,11 @@ one_parent_each step n m forest are k lt =
       character = child.1;
       is_child = child.2;
       lower = forest.higher child.0 child.1 k child.2;
-      only = λ q d e. (forest.one_parent q child.0 d child.1 k e child.2, forest.one_character q child.0 d child.1 k e child.2);
+      only = λ q d e. (
+        forest.one_parent q child.0 d child.1 k e child.2,
+        forest.one_character q child.0 d child.1 k e
+            child.2,
+      );
     }
 
 -- `to` is `from`, with the value_of k of the place p under the character c
@@ -149,7 +164,8 @@ pub record Attaches (from to : Step) (p : Place) (c k : ℕ) : Type 0 where
 abbrev pub IsBlankFrom : Step → ℕ → Type 0
 IsBlankFrom step n = (k d : ℕ) → n ≤ k → step (At k) d ≡ None
 
-module _ (from to : Step) (n : ℕ) (forest : IsForest from n) (blank : IsBlankFrom from n) (t : Text) (p : Place) (c : ℕ) (leads : walk from Root t ≡ Some p) (free : from p c ≡ None) (attaches : Attaches from to p c n) where
+module _ (from to : Step) (n : ℕ) (forest : IsForest from n) (blank : IsBlankFrom from n) (t : Text) (p : Place) (c : ℕ)
+    (leads : walk from Root t ≡ Some p) (free : from p c ≡ None) (attaches : Attaches from to p c n) where
   low : rank p ≤ n
   low = within from n forest t Root p (omega arith) leads
 
@@ -176,8 +192,15 @@ module _ (from to : Step) (n : ℕ) (forest : IsForest from n) (blank : IsBlankF
 
   pub attached_forest : IsForest to (suc n)
   attached_forest = record {
-    higher = λ q d k e. elim (step_cases q d k e) [ inl new ↦ rw (new.0, new.2) low | inr old ↦ forest.higher q d k old ];
-    is_node = λ q d k e. elim (step_cases q d k e) [ inl new ↦ omega (arith, new.2) | inr old ↦ omega (arith, forest.is_node q d k old) ];
+    higher = λ q d k e. elim (step_cases q d k e) [
+      | inl new ↦ rw (new.0, new.2) low
+      | inr old ↦ forest.higher q d k old
+    ];
+    is_node = λ q d k e. elim (step_cases q d k e) [
+      | inl new ↦ omega (arith, new.2)
+      | inr old ↦
+          omega (arith, forest.is_node q d k old)
+    ];
     one_parent = λ q r d f k e g. elim (step_cases q d k e) [
       | inl new ↦ elim (step_cases r f k g) [
         | inl too ↦ new.0 ∙ sym too.0
@@ -207,11 +230,13 @@ module _ (from to : Step) (n : ℕ) (forest : IsForest from n) (blank : IsBlankF
   ]
 
   pub attached_blank : IsBlankFrom to (suc n)
-  attached_blank k d h = attaches.other_place (At k) d (λ e. let r : rank (At k) ≡ rank p = ap rank e in omega (arith, low)) ∙ blank k d (omega arith)
+  attached_blank k d h = attaches.other_place (At k) d (λ e. let r : rank (At k)
+      ≡ rank p = ap rank e in omega (arith, low)) ∙ blank k d (omega arith)
 
   -- the new node has no value_of yet
   pub attached_leaf : (d : ℕ) → to (At n) d ≡ None
-  attached_leaf d = attaches.other_place (At n) d (λ h. let r : rank (At n) ≡ rank p = ap rank h in omega (arith, low)) ∙ blank n d (omega arith)
+  attached_leaf d = attaches.other_place (At n) d (λ h. let r : rank (At n) ≡ rank p = ap rank h in omega (arith, low))
+      ∙ blank n d (omega arith)
 
   -- old paths stay
   pub old_walk : (s : Text) (q r : Place) → walk from q s ≡ Some r → walk to q s ≡ Some r
@@ -234,7 +259,9 @@ module _ (from to : Step) (n : ℕ) (forest : IsForest from n) (blank : IsBlankF
         | inr new ↦
             let place : Some last.0 ≡ Some (At n) = sym last.2 ∙ ap (walk to Root) new ∙ new_walk in
             let at : last.0 ≡ At n = (cc) in
-            let none : to last.0 d ≡ None = ap (λ x. to x d) at ∙ attaches.other_place (At n) d (λ h. let r : rank (At n) ≡ rank p = ap rank h in omega (arith, low)) ∙ blank n d (omega arith) in
+            let none : to last.0 d ≡ None = ap (λ x. to x d) at
+            ∙ attaches.other_place (At n) d (λ h. let r : rank (At n) ≡ rank p = ap rank h in omega (arith, low))
+            ∙ blank n d (omega arith) in
             absurd (cc)
         | inl old ↦ elim (step_cases last.0 d last.1 last.3) [
           | inl new ↦
@@ -257,7 +284,9 @@ end_of p k (c ∷ cs) = end_of (At k) (suc k) cs
 
 -- a path of `to` is one of `from`, or one of a prefix of `whole` to a new node
 abbrev pub OldOrNew : Step → Step → ℕ → Text → Text → Type 0
-OldOrNew from to n whole s = (walk to Root s ≡ walk from Root s) ⊎ ((k : ℕ) × (n ≤ k) × (walk to Root s ≡ Some (At k)) × (walk from Root s ≡ None) × ((rest : Text) × (s ++ rest ≡ whole)))
+OldOrNew from to n whole s = (walk to Root s ≡ walk from Root s)
+    ⊎ ((k : ℕ) × (n ≤ k) × (walk to Root s ≡ Some (At k)) × (walk from Root s ≡ None)
+    × ((rest : Text) × (s ++ rest ≡ whole)))
 
 pub record Grown (from to : Step) (n : ℕ) (t cs : Text) (p : Place) : Type 0 where
   pub forest : IsForest to (n + length cs)
@@ -266,7 +295,8 @@ pub record Grown (from to : Step) (n : ℕ) (t cs : Text) (p : Place) : Type 0 w
   pub whole : walk to Root (t ++ cs) ≡ Some (end_of p n cs)
   pub others : (s : Text) → OldOrNew from to n (t ++ cs) s
 
-module _ (from to : Step) (n : ℕ) (forest : IsForest from n) (blank : IsBlankFrom from n) (t : Text) (p : Place) (c : ℕ) (leads : walk from Root t ≡ Some p) (free : from p c ≡ None) (attaches : Attaches from to p c n) where
+module _ (from to : Step) (n : ℕ) (forest : IsForest from n) (blank : IsBlankFrom from n) (t : Text) (p : Place) (c : ℕ)
+    (leads : walk from Root t ≡ Some p) (free : from p c ≡ None) (attaches : Attaches from to p c n) where
   -- a text without a path had none before
   pub none_before : (s : Text) → walk to Root s ≡ None → walk from Root s ≡ None
   none_before s none = by (walk from Root s) refl
@@ -275,21 +305,26 @@ module _ (from to : Step) (n : ℕ) (forest : IsForest from n) (blank : IsBlankF
       by None e = e
       by (Some q) e = let path = old_walk from to n forest blank t p c leads free attaches s Root q e in absurd (cc)
 
-  pub attached_old_or_new : (s cs : Text) → (walk to Root s ≡ walk from Root s) ⊎ ((walk to Root s ≡ Some (At n)) × (walk from Root s ≡ None) × (s ≡ t ++ c ∷ []))
+  pub attached_old_or_new : (s cs : Text) → (walk to Root s ≡ walk from Root s)
+      ⊎ ((walk to Root s ≡ Some (At n)) × (walk from Root s ≡ None) × (s ≡ t ++ c ∷ []))
   attached_old_or_new s cs = by (walk to Root s) refl
     where
-      by : (o : Option Place) → walk to Root s ≡ o → (walk to Root s ≡ walk from Root s) ⊎ ((walk to Root s ≡ Some (At n)) × (walk from Root s ≡ None) × (s ≡ t ++ c ∷ []))
+      by : (o : Option Place) → walk to Root s ≡ o → (walk to Root s ≡ walk from Root s)
+          ⊎ ((walk to Root s ≡ Some (At n)) × (walk from Root s ≡ None) × (s ≡ t ++ c ∷ []))
       by None e = inl (e ∙ sym (none_before s e))
       by (Some q) e = elim (no_other_walk from to n forest blank t p c leads free attaches s q e) [
         | inl old ↦ inl (e ∙ sym old)
         | inr new ↦ inr (
           ap (walk to Root) new ∙ new_walk from to n forest blank t p c leads free attaches,
-          ap (walk from Root) new ∙ walk_push from t Root c ∙ ap (option_and_then (last_step from c)) leads ∙ ap (option_map At) free,
+          ap (walk from Root) new ∙ walk_push from t Root c ∙ ap (option_and_then (last_step from c)) leads
+              ∙ ap (option_map At) free,
           new,
         )
       ]
 
-pub grown : (cs t : Text) (from to : Step) (n : ℕ) (p : Place) → IsForest from n → IsBlankFrom from n → walk from Root t ≡ Some p → ((c : ℕ) (rest : Text) → cs ≡ c ∷ rest → from p c ≡ None) → AttachesAll from to p n cs → Grown from to n t cs p
+pub grown : (cs t : Text) (from to : Step) (n : ℕ) (p : Place) → IsForest from n → IsBlankFrom from n → walk from Root t
+    ≡ Some p → ((c : ℕ) (rest : Text) → cs ≡ c ∷ rest → from p c ≡ None) → AttachesAll from to p n cs
+    → Grown from to n t cs p
 grown [] t from to n p forest blank leads free same =
     let ext : from ≡ to = λ i. λ q d. sym (same q d) i in
     let P : Step → Type 0 = λ step. Grown from step n t [] p in
@@ -303,14 +338,17 @@ grown [] t from to n p forest blank leads free same =
 grown (c ∷ cs) t from to n p forest blank leads free (mid, attaches, more) =
     let gap = free c cs refl in
     let old = old_walk from mid n forest blank t p c leads gap attaches in
-    let next = grown cs (t ++ c ∷ []) mid to (suc n) (At n) (attached_forest from mid n forest blank t p c leads gap attaches) (attached_blank from mid n forest blank t p c leads gap attaches)
+    let next = grown cs (t ++ c ∷ []) mid to (suc n) (At n)
+    (attached_forest from mid n forest blank t p c leads gap attaches)
+    (attached_blank from mid n forest blank t p c leads gap attaches)
     (new_walk from mid n forest blank t p c leads gap attaches)
     (λ d rest e. attached_leaf from mid n forest blank t p c leads gap attaches d) more in
     let split : (t ++ c ∷ []) ++ cs ≡ t ++ c ∷ cs = append_assoc t (c ∷ []) cs in
     let count : suc n + length cs ≡ n + suc (length cs) = omega arith in
     record {
       forest = subst (λ m. IsForest to m) count next.forest;
-      children = λ are k lt. next.children (attached_children from mid n forest blank t p c leads gap attaches are) k (omega arith);
+      children = λ are k lt. next.children (attached_children from mid n forest blank t p c leads gap attaches are) k
+          (omega arith);
       blank = subst (λ m. IsBlankFrom to m) count next.blank;
       whole = ap (walk to Root) (sym split) ∙ next.whole;
       others = λ s. elim (next.others s) [
@@ -318,14 +356,22 @@ grown (c ∷ cs) t from to n p forest blank leads free (mid, attaches, more) =
           | inl before ↦ inl (same ∙ before)
           | inr new ↦ inr (n, le_refl n, same ∙ new.0, new.1, (cs, ap (λ u. u ++ cs) new.2 ∙ split))
         ]
-        | inr new ↦ inr (new.0, (omega (arith, new.1)), new.2, none_before from mid n forest blank t p c leads gap attaches s new.3, (new.4.0, new.4.1 ∙ split))
+        | inr new ↦ inr (
+          new.0,
+          (omega (arith, new.1)),
+          new.2,
+          none_before from mid n forest blank t p c leads gap
+              attaches s new.3,
+          (new.4.0, new.4.1 ∙ split),
+        )
       ];
     }
 
 -- `to` has the nodes k, k + 1 and so on below the place p, one under each character of cs, and there no other value_of
 abbrev pub Chains : Step → Step → Place → ℕ → Text → Type 0
 Chains from to p k [] = (d : ℕ) → to p d ≡ from p d
-Chains from to p k (c ∷ cs) = (to p c ≡ Some k) × ((d : ℕ) → d ≢ c → to p d ≡ from p d) × Chains from to (At k) (suc k) cs
+Chains from to p k (c ∷ cs) = (to p c ≡ Some k) × ((d : ℕ) → d ≢ c → to p d ≡ from p d)
+    × Chains from to (At k) (suc k) cs
 
 either_step : (q p : Place) → (q ≡ p) ⊎ (q ≢ p) → Option ℕ → Option ℕ → Option ℕ
 either_step q p (inl same) a b = a
@@ -337,22 +383,29 @@ first_link from to p q d = either_step q p (same_place q p) (to q d) (from q d)
 
 link_here : (from to : Step) (p : Place) (d : ℕ) → first_link from to p p d ≡ to p d
 unfolding first_link either_step
-link_here from to p d = elim (same_place p p) as (λ w. either_step p p w (to p d) (from p d) ≡ to p d) [ inl same ↦ refl | inr apart ↦ absurd (apart refl) ]
+link_here from to p d = elim (same_place p p) as (λ w. either_step p p w (to p d) (from p d) ≡ to p d)
+    [ inl same ↦ refl | inr apart ↦ absurd (apart refl) ]
 
 link_there : (from to : Step) (p q : Place) (d : ℕ) → q ≢ p → first_link from to p q d ≡ from q d
 unfolding first_link either_step
-link_there from to p q d other = elim (same_place q p) as (λ w. either_step q p w (to q d) (from q d) ≡ from q d) [ inl same ↦ absurd (other same) | inr apart ↦ refl ]
+link_there from to p q d other = elim (same_place q p) as (λ w. either_step q p w (to q d) (from q d) ≡ from q d)
+    [ inl same ↦ absurd (other same) | inr apart ↦ refl ]
 
 -- links below the first are the same seen from there
-link_below : (cs : Text) (from mid to : Step) (p : Place) (k : ℕ) → ((q : Place) (d : ℕ) → (rank q ≡ rank p) ⊎ (k < rank q) → mid q d ≡ from q d) → rank p ≤ k → Chains from to p k cs → Chains mid to p k cs
+link_below : (cs : Text) (from mid to : Step) (p : Place) (k : ℕ)
+    → ((q : Place) (d : ℕ) → (rank q ≡ rank p) ⊎ (k < rank q) → mid q d ≡ from q d) → rank p ≤ k
+    → Chains from to p k cs → Chains mid to p k cs
 link_below [] from mid to p k same up h = λ d. h d ∙ sym (same p d (inl refl))
 link_below (c ∷ cs) from mid to p k same up h = (
   h.0,
   (λ d apart. h.1 d apart ∙ sym (same p d (inl refl))),
-  link_below cs from mid to (At k) (suc k) (λ q d place. same q d (inr (elim place [ inl e ↦ omega arith | inr lt ↦ omega arith ]))) (le_refl (suc k)) h.2,
+  link_below cs from mid to (At k) (suc k)
+      (λ q d place. same q d (inr (elim place [ inl e ↦ omega arith | inr lt ↦ omega arith ]))) (le_refl (suc k)) h.2,
 )
 
-pub attaches_all : (cs : Text) (from to : Step) (p : Place) (k : ℕ) → rank p ≤ k → Chains from to p k cs → ((q : Place) (d : ℕ) → q ≢ p → rank q ≤ k → to q d ≡ from q d) → ((q : Place) (d : ℕ) → k + length cs < rank q → to q d ≡ from q d) → AttachesAll from to p k cs
+pub attaches_all : (cs : Text) (from to : Step) (p : Place) (k : ℕ) → rank p ≤ k → Chains from to p k cs
+    → ((q : Place) (d : ℕ) → q ≢ p → rank q ≤ k → to q d ≡ from q d)
+    → ((q : Place) (d : ℕ) → k + length cs < rank q → to q d ≡ from q d) → AttachesAll from to p k cs
 attaches_all [] from to p k up h old beyond = λ q d. elim (same_place q p) [
   | inl same ↦ subst (λ x. to x d ≡ from x d) (sym same) (h d)
   | inr apart ↦ elim (cases_lt k (rank q)) [ inl high ↦ beyond q d (omega arith) | inr under ↦ old q d apart under ]
@@ -369,12 +422,16 @@ attaches_all (c ∷ cs) from to p k up h old beyond =
         ];
       },
       attaches_all cs mid to (At k) (suc k) (le_refl (suc k))
-          (link_below cs from mid to (At k) (suc k) (λ q d place. link_there from to p q d (λ e. let r : rank q ≡ rank p = ap rank e in elim place [ inl g ↦ absurd (omega arith) | inr lt ↦ absurd (omega arith) ])) (le_refl (suc k)) h.2)
+          (link_below cs from mid to (At k) (suc k)
+          (λ q d place. link_there from to p q d (λ e. let r : rank q
+          ≡ rank p = ap rank e in elim place [ inl g ↦ absurd (omega arith) | inr lt ↦ absurd (omega arith) ]))
+          (le_refl (suc k)) h.2)
           (λ q d apart low. elim (same_place q p) [
             | inl same ↦ subst (λ x. to x d ≡ mid x d) (sym same) (sym (link_here from to p d))
             | inr other ↦ old q d other (below q k low apart) ∙ sym (link_there from to p q d other)
           ])
-          (λ q d high. beyond q d (omega arith) ∙ sym (link_there from to p q d (λ e. let r : rank q ≡ rank p = ap rank e in absurd (omega arith)))),
+          (λ q d high. beyond q d (omega arith)
+          ∙ sym (link_there from to p q d (λ e. let r : rank q ≡ rank p = ap rank e in absurd (omega arith)))),
     )
   where
     below : (q : Place) (k : ℕ) → rank q ≤ suc k → q ≢ At k → rank q ≤ k

@@ -1,5 +1,6 @@
 -- Sorted pairs as a finite map.
-use Rattle.std.proofs.Common.{◌≡◌, ℕ, suc, ◌<◌, Bool, true, false, cond, eqb, [], ◌∷◌, length, Some, None, inl, inr, refl, sym, ap, subst, ◌∙◌, arith, ne_eqb, Less, Equal, Greater}
+use Rattle.std.proofs.Common.{◌≡◌, ℕ, suc, ◌<◌, Bool, true, false, cond, eqb, [], ◌∷◌, length, Some, None, inl, inr}
+use Rattle.std.proofs.Common.{refl, sym, ap, subst, ◌∙◌, arith, ne_eqb, Less, Equal, Greater}
 use Rattle.std.specs.Prelude.{T, ◌&&◌}
 use Rattle.std.specs.Ordering.{nat_cmp, eq_by_cmp, is_eq, is_lt}
 use Rattle.std.specs.Cmp.{nat_cmp_is}
@@ -27,15 +28,18 @@ both false b p q = absurd p
 
 below : (l : Pairs) (x : ℕ) → ((j : ℕ) → j < length l → x < key_at l j) → T (below_all nat_cmp x l)
 below [] x h = tt
-below (e ∷ l) x h = both _ _ (subst (λ r. T (is_lt r)) (nat_cmp_is x e.0 Less (h 0 (omega arith))) tt) (below l x (λ j lt. h (suc j) (omega arith)))
+below (e ∷ l) x h = both _ _ (subst (λ r. T (is_lt r)) (nat_cmp_is x e.0 Less (h 0 (omega arith))) tt)
+    (below l x (λ j lt. h (suc j) (omega arith)))
 
 pub rising : (l : Pairs) → IsStrictlySorted l → T (is_sorted nat_cmp l)
 rising [] sorted = tt
-rising (e ∷ l) sorted = both _ _ (below l e.0 (λ j lt. sorted 0 (suc j) (omega arith) (omega arith))) (rising l (λ i j lt in_range. sorted (suc i) (suc j) (omega arith) (omega arith)))
+rising (e ∷ l) sorted = both _ _ (below l e.0 (λ j lt. sorted 0 (suc j) (omega arith) (omega arith)))
+    (rising l (λ i j lt in_range. sorted (suc i) (suc j) (omega arith) (omega arith)))
 
 pub find_value : (l : Pairs) (q : ℕ) → find nat_cmp q l ≡ value_of l q
 find_value [] q = refl
-find_value (e ∷ l) q = ap (λ b. cond b (Some e.1) (find nat_cmp q l)) (ties q e.0) ∙ ap (λ o. cond (eqb e.0 q) (Some e.1) o) (find_value l q)
+find_value (e ∷ l) q = ap (λ b. cond b (Some e.1) (find nat_cmp q l)) (ties q e.0)
+    ∙ ap (λ o. cond (eqb e.0 q) (Some e.1) o) (find_value l q)
 
 module _ (l : Pairs) (sorted : IsStrictlySorted l) where
   -- what the pairs represent
@@ -68,7 +72,8 @@ pub seen_empty : frequencies_of [] ≡ map.empty
 seen_empty = same_frequencies _ _ (λ q. map.get-from_sorted nat_cmp [] q tt ∙ sym (map.get-empty nat_cmp q))
 
 -- a key that is not there changes nothing when it is taken away
-pub seen_absent : (l : Pairs) → IsStrictlySorted l → (k : ℕ) → value_of l k ≡ None → frequencies_of l ≡ map.remove (frequencies_of l) k
+pub seen_absent : (l : Pairs) → IsStrictlySorted l → (k : ℕ) → value_of l k ≡ None → frequencies_of l
+    ≡ map.remove (frequencies_of l) k
 seen_absent l sorted k none = seen_remove l l sorted sorted k (λ q. elim (cases_eq k q) [
   | inl same ↦ subst (λ y. value_of l y ≡ None) same none ∙ ap (λ b. cond b None (value_of l q)) (sym (eq-eqb k q same))
   | inr apart ↦ ap (λ b. cond b None (value_of l q)) (sym (ne_eqb k q apart))

@@ -1,30 +1,40 @@
 -- What a search finds among sorted pairs, and what an edit at that place does.
-use Rattle.std.proofs.Common.{◌≡◌, ℕ, ◌+◌, ◌-◌, ◌<◌, ◌≤◌, length, get_or, set, Some, None, Result, Ok, Err, IfOk, IfErr, sym, ap, subst, arith}
+use Rattle.std.proofs.Common.{◌≡◌, ℕ, ◌+◌, ◌-◌, ◌<◌, ◌≤◌, length, get_or, set, Some, None, Result, Ok, Err, IfOk, IfErr}
+use Rattle.std.proofs.Common.{sym, ap, subst, arith}
 use Rattle.std.specs.List.{insert, remove}
 use Rattle.std.specs.List.Sorted.{IsSearchInRange, IsBinarySearchResult, IsNonDecreasingBy}
 use Rattle.std.specs.Ordering.{nat_cmp, ordering_index}
 use Rattle.std.proofs.lemmas.Cmp.{ranked}
 use Rattle.std.proofs.lemmas.List.Sorted.{IsNonDecreasingBy-from_default}
-use Rattle.std.proofs.lemmas.List.Edits.{length-insert, get_or-insert_below, get_or-insert_at, get_or-insert_above, length-remove, get_or-remove_below, get_or-remove_above}
+use Rattle.std.proofs.lemmas.List.Edits.{length-insert, get_or-insert_below, get_or-insert_at, get_or-insert_above}
+use Rattle.std.proofs.lemmas.List.Edits.{length-remove, get_or-remove_below, get_or-remove_above}
 use Rattle.std.proofs.lemmas.Bool.Decides.{nat_tests}
 use Rattle.std.proofs.lemmas.Grind.{common_steps}
 use Rattle.elasticlunr_trie_nodes.specs.Pairs.{Pairs, value_of, key_at, IsStrictlySorted, IsAt, IsGapFor, SetsOnly}
-use Rattle.elasticlunr_trie_nodes.proofs.Found.{NoKeyBefore, GetsAfterSet, value_absent, value_present, value_set, value-insert}
+use Rattle.elasticlunr_trie_nodes.proofs.Found.{NoKeyBefore, GetsAfterSet, value_absent, value_present, value_set}
+use Rattle.elasticlunr_trie_nodes.proofs.Found.{value-insert}
 
 -- one equation for every key gives the contract's two facts
 sets_only_from_gets : (old new : Pairs) (k v : ℕ) → GetsAfterSet old new k v → SetsOnly old new k v
-sets_only_from_gets old new k v gets = record { this_key = grind (arith, nat_tests, gets k); other_keys = λ q differs. grind (arith, nat_tests, gets q) }
+sets_only_from_gets old new k v gets = record {
+  this_key = grind (arith, nat_tests, gets k);
+  other_keys =
+      λ q differs. grind (arith, nat_tests, gets q);
+}
 
 module _ (l : Pairs) (sorted : IsStrictlySorted l) (k : ℕ) where
   -- the comparisons with k rise along the list, as a binary search asks
   comparisons_rise : IsNonDecreasingBy (λ pair. ordering_index (nat_cmp pair.0 k)) l
-  comparisons_rise = IsNonDecreasingBy-from_default (λ pair. ordering_index (nat_cmp pair.0 k)) l (0, 0) (λ i j le in_range.
+  comparisons_rise = IsNonDecreasingBy-from_default (λ pair. ordering_index (nat_cmp pair.0 k)) l (0, 0)
+      (λ i j le in_range.
       let keys_rise : key_at l i ≤ key_at l j = grind (arith, sorted i j, λ (same : i ≡ j). ap (key_at l) same) in
       grind (arith, nat_tests))
 
   -- a binary search by key ends at the key, or at the gap for it
-  pub searched : (r : Result ℕ ℕ) → IsSearchInRange r (length l) → IsBinarySearchResult (λ pair. nat_cmp pair.0 k) l r → record { found : IfOk r (IsAt l k); absent : IfErr r (IsGapFor l k) }
-  searched (Ok at) in_range equal = record { found = record { in_range = in_range; has_key = ranked _ k _ (sym (equal (0, 0))) }; absent = tt }
+  pub searched : (r : Result ℕ ℕ) → IsSearchInRange r (length l) → IsBinarySearchResult (λ pair. nat_cmp pair.0 k) l r
+      → record { found : IfOk r (IsAt l k); absent : IfErr r (IsGapFor l k) }
+  searched (Ok at) in_range equal = record
+      { found = record { in_range = in_range; has_key = ranked _ k _ (sym (equal (0, 0))) }; absent = tt }
   searched (Err at) in_range parted = record {
     found = tt;
     absent = record {
@@ -52,7 +62,15 @@ module _ (l : Pairs) (sorted : IsStrictlySorted l) (k at : ℕ) (is_at : IsAt l 
 
   -- and keeps the order, since every key stays
   pub sorted_set : (v : ℕ) → IsStrictlySorted (set l at (k, v))
-  sorted_set v i j lt in_range = grind (arith, common_steps, sorted i j, sorted i at, sorted at j, is_at.in_range, is_at.has_key)
+  sorted_set v i j lt in_range = grind (
+    arith,
+    common_steps,
+    sorted i j,
+    sorted i at,
+    sorted at j,
+    is_at.in_range,
+    is_at.has_key,
+  )
 
 module _ (l : Pairs) (k at : ℕ) (gap : IsGapFor l k at) where
   -- a key that has a gap is not found
@@ -61,7 +79,8 @@ module _ (l : Pairs) (k at : ℕ) (gap : IsGapFor l k at) where
 
   -- a new pair in the gap changes that key alone
   pub sets_only_insert : (v : ℕ) → SetsOnly l (insert l at (k, v)) k v
-  sets_only_insert v = sets_only_from_gets _ _ k v (value-insert l k v at (λ j lt same. omega (arith, gap.smaller_before j lt)))
+  sets_only_insert v = sets_only_from_gets _ _ k v
+      (value-insert l k v at (λ j lt same. omega (arith, gap.smaller_before j lt)))
 
   pub gets_insert : (v : ℕ) → GetsAfterSet l (insert l at (k, v)) k v
   gets_insert v = value-insert l k v at (λ j lt same. omega (arith, gap.smaller_before j lt))
@@ -72,10 +91,27 @@ module _ (l : Pairs) (k at : ℕ) (gap : IsGapFor l k at) where
       let new = insert l at (k, v) in
       let key = λ (x : ℕ × ℕ). x.0 in
       let length_new = length-insert l at (k, v) gap.in_range in
-      let key_below : (i : ℕ) → i < at → key_at new i ≡ key_at l i = λ i below. ap key (get_or-insert_below l at (k, v) (0, 0) i below gap.in_range) in
-      let key_here : (i : ℕ) → i ≡ at → key_at new i ≡ k = λ i here. rw here (ap key (get_or-insert_at l at (k, v) (0, 0) gap.in_range)) in
-      let key_above : (i : ℕ) → at < i → key_at new i ≡ key_at l (i - 1) = λ i above. subst (λ q. key_at new q ≡ key_at l (i - 1)) {x = i - 1 + 1} (omega arith) (ap key (get_or-insert_above l at (k, v) (0, 0) (i - 1) (omega arith) gap.in_range)) in
-      grind (arith, key_below i, key_here i, key_above i, key_below j, key_here j, key_above j, sorted i j, sorted i (j - 1), sorted (i - 1) (j - 1), gap.smaller_before i, gap.greater_after (j - 1))
+      let key_below : (i : ℕ) → i < at → key_at new i
+      ≡ key_at l i = λ i below. ap key (get_or-insert_below l at (k, v) (0, 0) i below gap.in_range) in
+      let key_here : (i : ℕ) → i ≡ at → key_at new i
+      ≡ k = λ i here. rw here (ap key (get_or-insert_at l at (k, v) (0, 0) gap.in_range)) in
+      let key_above : (i : ℕ) → at < i → key_at new i
+      ≡ key_at l (i - 1) = λ i above. subst (λ q. key_at new q ≡ key_at l (i - 1)) {x = i - 1 + 1} (omega arith)
+      (ap key (get_or-insert_above l at (k, v) (0, 0) (i - 1) (omega arith) gap.in_range)) in
+      grind (
+        arith,
+        key_below i,
+        key_here i,
+        key_above i,
+        key_below j,
+        key_here j,
+        key_above j,
+        sorted i j,
+        sorted i (j - 1),
+        sorted (i - 1) (j - 1),
+        gap.smaller_before i,
+        gap.greater_after (j - 1),
+      )
 
 -- taking a pair away keeps the order
 pub sorted_remove : (l : Pairs) → IsStrictlySorted l → (at : ℕ) → at < length l → IsStrictlySorted (remove l at)
@@ -83,6 +119,17 @@ sorted_remove l sorted at here i j lt in_range =
     let new = remove l at in
     let key = λ (x : ℕ × ℕ). x.0 in
     let length_new = length-remove l at here in
-    let key_below : (i : ℕ) → i < at → key_at new i ≡ key_at l i = λ i below. ap key (get_or-remove_below l at (0, 0) i below here) in
-    let key_above : (i : ℕ) → at ≤ i → key_at new i ≡ key_at l (i + 1) = λ i above. ap key (get_or-remove_above l at (0, 0) i above here) in
-    grind (arith, key_below i, key_above i, key_below j, key_above j, sorted i j, sorted i (j + 1), sorted (i + 1) (j + 1))
+    let key_below : (i : ℕ) → i < at → key_at new i
+    ≡ key_at l i = λ i below. ap key (get_or-remove_below l at (0, 0) i below here) in
+    let key_above : (i : ℕ) → at ≤ i → key_at new i
+    ≡ key_at l (i + 1) = λ i above. ap key (get_or-remove_above l at (0, 0) i above here) in
+    grind (
+      arith,
+      key_below i,
+      key_above i,
+      key_below j,
+      key_above j,
+      sorted i j,
+      sorted i (j + 1),
+      sorted (i + 1) (j + 1),
+    )

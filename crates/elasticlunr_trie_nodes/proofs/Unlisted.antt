@@ -1,5 +1,6 @@
 -- The list of a reference, where a node is taken out of it.
-use Rattle.std.proofs.Common.{◌≡◌, ◌≢◌, ℕ, zero, suc, ◌<◌, Bool, true, false, ◌||◌, IsTrue, IsFalse, List, [], ◌∷◌, length, slice_index, ne_eqb, eqb, refl, sym, subst, ◌∙◌, arith}
+use Rattle.std.proofs.Common.{◌≡◌, ◌≢◌, ℕ, zero, suc, ◌<◌, Bool, true, false, ◌||◌, IsTrue, IsFalse, List, [], ◌∷◌}
+use Rattle.std.proofs.Common.{length, slice_index, ne_eqb, eqb, refl, sym, subst, ◌∙◌, arith}
 use mathlib.Core.Bool.{false≢true}
 use Rattle.std.proofs.lemmas.Bool.{eq-eqb}
 use Rattle.std.specs.List.{remove}
@@ -8,7 +9,8 @@ use Rattle.elasticlunr_trie_nodes.specs.Nodes.{has, LosesOne}
 -- a list of others has no k
 pub has_none : (js : List ℕ) (k : ℕ) → ((q : ℕ) → q < length js → slice_index js q ≢ k) → IsFalse (has js k)
 has_none [] k others = refl
-has_none (j ∷ js) k others = by (eqb j k) (has js k) (ne_eqb j k (others 0 (omega arith))) (has_none js k (λ q lt. others (suc q) (omega arith)))
+has_none (j ∷ js) k others = by (eqb j k) (has js k) (ne_eqb j k (others 0 (omega arith)))
+    (has_none js k (λ q lt. others (suc q) (omega arith)))
   where
     by : (a b : Bool) → a ≡ false → b ≡ false → (a || b) ≡ false
     by true b e f = e
@@ -34,4 +36,8 @@ loses_none js k e = record { one = λ there. absurd (false≢true (sym e ∙ the
 
 -- a list loses the k at the place i
 pub loses_at : (js : List ℕ) (k i : ℕ) → i < length js → slice_index js i ≡ k → LosesOne js (remove js i) k
-loses_at js k i lt is = record { one = λ there. (i, lt, (is, refl)); none = λ e. absurd (false≢true (sym e ∙ subst (λ q. IsTrue (has js q)) is (has_at js i lt))) }
+loses_at js k i lt is = record {
+  one = λ there. (i, lt, (is, refl));
+  none =
+      λ e. absurd (false≢true (sym e ∙ subst (λ q. IsTrue (has js q)) is (has_at js i lt)));
+}

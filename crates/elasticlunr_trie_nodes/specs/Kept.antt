@@ -1,7 +1,7 @@
 -- Where a list keeps its items; for private clauses.
 use Rattle.std.specs.Prelude.{List, [], ◌∷◌}
-use Rattle.elasticlunr_trie_nodes.specs.declared.few.Kept.{Kept}
-use Rattle.elasticlunr_trie_nodes.specs.declared.few.Kept.TheVariants.{None, One, Many}
+use Rattle.elasticlunr_trie_nodes.specs.declared.inline_list.Kept.{Kept}
+use Rattle.elasticlunr_trie_nodes.specs.declared.inline_list.Kept.TheVariants.{None, One, Many}
 
 module _ {T : Type 0} where
   abbrev pub kept_items : Kept T → List T

@@ -2,7 +2,7 @@ pub mod Table
 pub mod Copied
 pub mod Pairs
 pub mod Frequencies
-pub mod Few
+pub mod InlineList
 pub mod Kept
 pub mod Names
 pub mod NameNumbers

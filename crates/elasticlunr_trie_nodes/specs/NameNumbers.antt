@@ -12,8 +12,10 @@ abbrev pub HasNumbersOf : Names → BTreeMap (String Global) ℕ → Type 0
 HasNumbersOf names numbers = (r : Bytes) → get_by_text numbers r ≡ number_of names r
 
 -- new has the number under the name, and under each other name what old has
-abbrev pub GainsNumber : BTreeMap (String Global) ℕ → BTreeMap (String Global) ℕ → Bytes → ℕ → Type 0
-GainsNumber old new name number = (r : Bytes) → get_by_text new r ≡ update bytes_eq (λ q. get_by_text old q) name (Some number) r
+abbrev pub GainsNumber : BTreeMap (String Global) ℕ → BTreeMap (String Global) ℕ → Bytes → ℕ
+    → Type 0
+GainsNumber old new name number = (r : Bytes) → get_by_text new r
+    ≡ update bytes_eq (λ q. get_by_text old q) name (Some number) r
 
 -- each reference but r has the frequency that it had
 abbrev pub KeepsOtherFrequencies : Names → Frequencies → Names → Frequencies → Bytes → Type 0

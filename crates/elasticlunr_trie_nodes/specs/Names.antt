@@ -1,5 +1,7 @@
 -- The names of a trie's references, in the order of their numbers.
-use Rattle.std.specs.Prelude.{◌≡◌, ◌<◌, ℕ, suc, List, [], ◌∷◌, ◌++◌, map, length, slice_get, slice_index, slice_index_or, Option, Some, None, is_some, option_map, option_and_then, ◌≤◌, if◌then◌else◌, String, string_bytes, bytes_eq}
+use Rattle.std.specs.Prelude.{◌≡◌, ◌<◌, ℕ, suc, List, [], ◌∷◌, ◌++◌, map, length, slice_get}
+use Rattle.std.specs.Prelude.{slice_index, slice_index_or, Option, Some, None, is_some, option_map}
+use Rattle.std.specs.Prelude.{option_and_then, ◌≤◌, if◌then◌else◌, String, string_bytes, bytes_eq}
 use Rattle.std.specs.Str.{IsUtf8}
 use Rattle.std.specs.FinMap.{get, from_entries}
 use Rattle.std.specs.declared.cmp.Ordering.TheVariants.{Less}
@@ -43,7 +45,8 @@ AreNumbered names P = (n f : ℕ) → get P n ≡ Some f → n < length names
 abbrev pub at : Names → Bytes → Frequencies → Option ℕ
 at names r P = option_and_then (λ n. get P n) (number_of names r)
 
--- new has the names of old under the same numbers, so postings under these numbers stay what they are
+-- new has the names of old under the same numbers, so postings under these numbers stay what they
+-- are
 pub record Extends (old new : Names) : Type 0 where
   pub more : length old ≤ length new
   pub same : (P : Frequencies) → AreNumbered old P → (r : Bytes) → at new r P ≡ at old r P
@@ -64,12 +67,16 @@ named_pairs names l = from_entries (under_names names l)
 -- each number stands in the order of ranks where its name stands in the order of names
 pub record AreRanks (names : Names) (ranks : List ℕ) : Type 0 where
   pub count : length ranks ≡ length names
-  pub apart : (m n : ℕ) → m < length names → n < length names → slice_index ranks m ≡ slice_index ranks n → m ≡ n
-  pub rising : (m n : ℕ) → m < length names → n < length names → slice_index ranks m < slice_index ranks n → text_cmp (slice_index_or names m []) (slice_index_or names n []) ≡ Less
+  pub apart : (m n : ℕ) → m < length names → n < length names → slice_index ranks m
+      ≡ slice_index ranks n → m ≡ n
+  pub rising : (m n : ℕ) → m < length names → n < length names
+      → slice_index ranks m < slice_index ranks n → text_cmp (slice_index_or names m [])
+      (slice_index_or names n []) ≡ Less
 
 -- each number has a name
 abbrev pub AreThere : Names → List (ℕ × ℕ × ℕ) → Type 0
-AreThere names l = (i : ℕ) → i < length l → let e = slice_index_or l i (0, 0, 0) in e.1 < length names
+AreThere names l = (i : ℕ) → i < length l → let e = slice_index_or l i (0, 0, 0) in e.1 < length
+    names
 
 -- the entries of a map from names to numbers
 abbrev pub Numbers : Type 0
@@ -85,7 +92,8 @@ HasNumbersBelow es count = (i : ℕ) → i < length es → number_at es i < coun
 
 -- no number comes twice
 abbrev pub HasDistinctNumbers : Numbers → Type 0
-HasDistinctNumbers es = (i j : ℕ) → i < length es → j < length es → number_at es i ≡ number_at es j → i ≡ j
+HasDistinctNumbers es = (i j : ℕ) → i < length es → j < length es → number_at es i ≡ number_at es j
+    → i ≡ j
 
 -- the places of the first entries stand under their numbers
 abbrev pub HasRanks : Numbers → List ℕ → ℕ → Type 0

@@ -5,14 +5,14 @@ use Rattle.elasticlunr_error.specs.Text.{Text}
 use Rattle.elasticlunr_trie_nodes.specs.Trie.{Step, walk}
 use Rattle.elasticlunr_trie_nodes.specs.declared.nodes.Place.{Place}
 use Rattle.elasticlunr_trie_nodes.specs.declared.nodes.Place.TheVariants.{Root}
-use Rattle.elasticlunr_trie_nodes.specs.declared.start.Start.{Start}
+use Rattle.elasticlunr_trie_nodes.specs.declared.start.WalkedToken.{WalkedToken}
 
 -- the token and its frequency
-abbrev pub told : Start → Text × ℕ
+abbrev pub told : WalkedToken → Text × ℕ
 told s = (chars s.token.now, s.frequency)
 
 -- the known beginning leads to the place, and the rest of the token is left
-pub record IsStart (step : Step) (s : Start) : Type 0 where
+pub record IsStart (step : Step) (s : WalkedToken) : Type 0 where
   pub known : Text
   pub split : chars s.token.now ≡ known ++ chars s.rest.now
   pub leads : walk step Root known ≡ Some s.place

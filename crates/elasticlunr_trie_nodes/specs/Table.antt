@@ -1,5 +1,6 @@
 -- What an inverted index represents: a table of texts and postings.
-use Rattle.std.specs.Prelude.{◌≡◌, ◌≢◌, ◌↔◌, ◌⊎◌, ℕ, ◌^◌, ◌<◌, Bool, true, List, [], ◌∷◌, ◌++◌, Option, Some, None, IsTrue, unwrap_or, nat_eq, map, String}
+use Rattle.std.specs.Prelude.{◌≡◌, ◌≢◌, ◌↔◌, ◌⊎◌, ℕ, ◌^◌, ◌<◌, Bool, true, List, [], ◌∷◌, ◌++◌}
+use Rattle.std.specs.Prelude.{Option, Some, None, IsTrue, unwrap_or, nat_eq, map, String}
 use Rattle.std.specs.declared.alloc.Global.{Global}
 use Rattle.std.specs.Borrow.{Bor}
 use Rattle.std.specs.Str.{all_scalars, chars, IsUtf8}
@@ -47,7 +48,8 @@ same_tables T U = same_map (same_map nat_eq) T U
 abbrev pub IsPrefix : Text → Text → Type 0
 IsPrefix s t = (rest : Text) × (s ++ rest ≡ t)
 
--- new has the posting n of the reference r at t, each other posting is that of old, and the beginnings of t are known besides what old knows
+-- new has the posting n of the reference r at t, each other posting is that of old, and the
+-- beginnings of t are known besides what old knows
 pub record AddsToken (old new : Table) (t : Text) (r : Bytes) (n : ℕ) : Type 0 where
   pub known : (s : Text) → IsTrue (knows new s) ↔ (IsTrue (knows old s) ⊎ IsPrefix s t)
   pub set : posting new t r ≡ Some n
@@ -72,7 +74,8 @@ IsChanged (remove t r) old new = RemovesToken old new t r
 -- the changes lead from old to new, one after the other
 abbrev pub AreChanged : List Change → Table → Table → Type 0
 AreChanged [] old new = new ≡ old
-AreChanged (change ∷ changes) old new = (between : Table) × IsChanged change old between × AreChanged changes between new
+AreChanged (change ∷ changes) old new = (between : Table) × IsChanged change old between
+    × AreChanged changes between new
 
 -- tokens with their frequencies
 abbrev pub told_tokens : List (Bor Bytes × ℕ) → List (Text × ℕ)
@@ -84,9 +87,11 @@ additions r tokens = map (λ t. add t.0 r t.1) tokens
 
 -- one of the changes sets a posting of t
 abbrev pub IsAdded : Text → List Change → Type 0
-IsAdded t changes = (before : List Change) × (after : List Change) × (r : Bytes) × (n : ℕ) × (changes ≡ before ++ add t r n ∷ after)
+IsAdded t changes = (before : List Change) × (after : List Change) × (r : Bytes) × (n : ℕ)
+    × (changes ≡ before ++ add t r n ∷ after)
 
--- The empty text is known and has no postings. Each beginning of a known text is known. Known texts are lists of characters, references are texts, and frequencies have 64 bits.
+-- The empty text is known and has no postings. Each beginning of a known text is known. Known texts
+-- are lists of characters, references are texts, and frequencies have 64 bits.
 pub record IsTable (T : Table) : Type 0 where
   pub empty_known : IsTrue (knows T [])
   pub beginnings : (s t : Text) → IsPrefix s t → IsTrue (knows T t) → IsTrue (knows T s)

@@ -1,5 +1,7 @@
--- The table that numbered nodes represent, whose postings name their references by number; for private clauses.
-use Rattle.std.specs.Prelude.{◌≡◌, true, ℕ, zero, suc, ◌<◌, ◌≤◌, List, [], ◌∷◌, ◌++◌, map, length, slice_get, Option, Some, None, option_map, option_and_then}
+-- The table that numbered nodes represent, whose postings name their references by number; for
+-- private clauses.
+use Rattle.std.specs.Prelude.{◌≡◌, true, ℕ, zero, suc, ◌<◌, ◌≤◌, List, [], ◌∷◌, ◌++◌, map, length}
+use Rattle.std.specs.Prelude.{slice_get, Option, Some, None, option_map, option_and_then}
 use Rattle.std.specs.Str.{all_scalars}
 use Rattle.std.specs.FinMap.{from_entries, empty}
 use Rattle.elasticlunr_error.specs.Text.{Text, Bytes}
@@ -7,7 +9,8 @@ use Rattle.elasticlunr_trie_nodes.specs.Table.{Postings, Table}
 use Rattle.elasticlunr_trie_nodes.specs.Pairs.{Pairs, value_of, IsStrictlySorted}
 use Rattle.elasticlunr_trie_nodes.specs.Frequencies.{Frequencies}
 use Rattle.elasticlunr_trie_nodes.specs.Names.{Names, AreNames, at}
-use Rattle.elasticlunr_trie_nodes.specs.Nodes.{children_of, entries_of, postings_at, SameShape, AreListed}
+use Rattle.elasticlunr_trie_nodes.specs.Nodes.{children_of, entries_of, postings_at, SameShape}
+use Rattle.elasticlunr_trie_nodes.specs.Nodes.{AreListed}
 use Rattle.elasticlunr_trie_nodes.specs.declared.nodes.Node.{Node}
 use Rattle.elasticlunr_trie_nodes.specs.declared.nodes.Reference.{Reference}
 use Rattle.elasticlunr_trie_nodes.specs.declared.nodes.Place.{Place}
@@ -46,14 +49,16 @@ module _ (step : Step) where
   walk p [] = Some p
   walk p (c ∷ cs) = option_and_then (λ k. walk (At k) cs) (step p c)
 
-  -- Of n nodes, each child has a higher number than its parent. It is the child of no other place, and under no other character.
+  -- Of n nodes, each child has a higher number than its parent. It is the child of no other place,
+  -- and under no other character.
   pub record IsForest (n : ℕ) : Type 0 where
     pub higher : (p : Place) (c k : ℕ) → step p c ≡ Some k → rank p ≤ k
     pub is_node : (p : Place) (c k : ℕ) → step p c ≡ Some k → k < n
     pub one_parent : (p q : Place) (c d k : ℕ) → step p c ≡ Some k → step q d ≡ Some k → p ≡ q
     pub one_character : (p q : Place) (c d k : ℕ) → step p c ≡ Some k → step q d ≡ Some k → c ≡ d
 
-  -- The node k is the child of exactly one place, the root or a node of a lower number, and under exactly one character.
+  -- The node k is the child of exactly one place, the root or a node of a lower number, and under
+  -- exactly one character.
   pub record HasOneParent (k : ℕ) : Type 0 where
     pub parent : Place
     pub character : ℕ
@@ -101,15 +106,20 @@ module _ (root : Pairs) (nodes : List Node) where
     pub forest : IsForest step_of (length nodes)
     pub characters : (p : Place) → AreCharacters (children_at p)
 
--- nodes below the root, each of which has one parent, whose postings are listed by their references, whose names differ
-pub record IsIndex (root : Pairs) (nodes : List Node) (names : Names) (references : List Reference) : Type 0 where
+-- nodes below the root, each of which has one parent, whose postings are listed by their
+-- references, whose names differ
+pub record IsIndex (root : Pairs) (nodes : List Node) (names : Names) (references : List Reference)
+    : Type 0 where
   pub trie : IsTrie root nodes
   pub parents : HaveOneParent (step_of root nodes) (length nodes)
   pub names_are : AreNames names
   pub listed : AreListed names references nodes
 
 -- The nodes without the posting of the reference r at the text t.
-pub record RemovesPosting (root : Pairs) (names : Names) (old new : List Node) (t : Text) (r : Bytes) : Type 0 where
+pub record RemovesPosting (root : Pairs) (names : Names) (old new : List Node) (t : Text)
+    (r : Bytes) : Type 0 where
   pub shape : SameShape old new
-  pub gone : (k : ℕ) → walk (step_of root old) Root t ≡ Some (At k) → at names r (postings_at new k) ≡ None
-  pub others : (k : ℕ) (q : Bytes) → ¬ ((walk (step_of root old) Root t ≡ Some (At k)) × (q ≡ r)) → at names q (postings_at new k) ≡ at names q (postings_at old k)
+  pub gone : (k : ℕ) → walk (step_of root old) Root t ≡ Some (At k) → at names r (postings_at new k)
+      ≡ None
+  pub others : (k : ℕ) (q : Bytes) → ¬ ((walk (step_of root old) Root t ≡ Some (At k)) × (q ≡ r))
+      → at names q (postings_at new k) ≡ at names q (postings_at old k)

@@ -1,21 +1,24 @@
 //! A branch of new nodes below a place.
-ghost use Rattle.std.specs.Prelude.{◌≡◌, ◌<◌, ◌+◌, ◌^◌, length, None, IfOk, OnOk, OnErr, ◌++◌, slice_get};
+ghost use Rattle.std.specs.Prelude.{◌≡◌, ◌<◌, ◌+◌, ◌^◌, length, None, IfOk, OnOk, OnErr, ◌++◌};
+ghost use Rattle.std.specs.Prelude.{slice_get};
 ghost use Rattle.std.specs.Str.{chars, IsUtf8};
 ghost use Rattle.elasticlunr_trie_nodes.specs.Pairs.{value_of, IsStrictlySorted};
 ghost use Rattle.elasticlunr_trie_nodes.specs.Nodes.{children_of, SameNodes};
 ghost use Rattle.elasticlunr_trie_nodes.specs.Trie.{children_at, step_of, IsTrie};
 ghost use Rattle.elasticlunr_trie_nodes.specs.Starts.{IsStart};
-ghost use Rattle.elasticlunr_trie_nodes.specs.Branch.{IsBranch, HasBranch, GainsChild, GainsNextChild, KeepsOtherChildren, IsLocated, SameTrie, Grows, IsPlace};
+ghost use Rattle.elasticlunr_trie_nodes.specs.Branch.{IsBranch, HasBranch, GainsChild};
+ghost use Rattle.elasticlunr_trie_nodes.specs.Branch.{GainsNextChild, KeepsOtherChildren};
+ghost use Rattle.elasticlunr_trie_nodes.specs.Branch.{IsLocated, SameTrie, Grows, IsPlace};
 
 use crate::child::Child;
-use crate::few::Few;
+use crate::inline_list::InlineList;
 use crate::nodes::{Node, Place, child, children_at, gap};
 use crate::postings::Postings;
-use crate::start::Start;
+use crate::start::WalkedToken;
 use std::alloc::{AllocError, Global};
 
 /// Where the longest known beginning of a token leads, and what follows it, from a shorter one on.
-pub fn locate<'a>(root: &[Child], nodes: &[Node], start: Start<'a>) -> (Place, &'a str)
+pub fn locate<'a>(root: &[Child], nodes: &[Node], start: WalkedToken<'a>) -> (Place, &'a str)
     requires trie { IsTrie root.now nodes.now }
     requires start { IsStart (step_of root.now nodes.now) start }
     ensures at { IsLocated (step_of root.now nodes.now) (chars start.entry.token.now) result.0
@@ -37,7 +40,8 @@ pub fn locate<'a>(root: &[Child], nodes: &[Node], start: Start<'a>) -> (Place, &
     (place, rest)
 }
 
-/// Nodes for a path under the characters of a text, from a first node whose child has the given number.
+/// Nodes for a path under the characters of a text, from a first node whose child has the given
+/// number.
 pub fn new_branch(
     alloc: Global,
     text: &str,
@@ -52,14 +56,14 @@ pub fn new_branch(
     for c in text.chars() {
         let next = Child::new(c, number + branch.len())?;
         branch.push(Node {
-            children: Few::one(alloc, next),
+            children: InlineList::one(alloc, next),
             postings: Postings::new(alloc),
         })?;
     }
     let mut postings = Postings::new(alloc);
     postings.set(reference, term_freq)?;
     branch.push(Node {
-        children: Few::new(alloc),
+        children: InlineList::new(alloc),
         postings,
     })?;
     Ok(branch)
@@ -74,8 +78,10 @@ fn attach_to_root(
 ) -> Result<(), AllocError>
     requires sorted { IsStrictlySorted root.old.items }
     requires free { value_of root.old.items c ≡ None }
-    ensures err { OnErr result ((root.new.items ≡ root.old.items) × (nodes.new.items ≡ nodes.old.items)) }
-    ensures gains { OnOk result (GainsChild root.old.items root.new.items c (length nodes.old.items)) }
+    ensures err { OnErr result ((root.new.items ≡ root.old.items)
+        × (nodes.new.items ≡ nodes.old.items)) }
+    ensures gains { OnOk result (GainsChild root.old.items root.new.items c
+        (length nodes.old.items)) }
     ensures nodes { OnOk result (nodes.new.items ≡ nodes.old.items ++ branch.old.items) }
 {
     let child = Child::new(c, nodes.len())?;
@@ -120,9 +126,11 @@ pub fn attach(
     requires in_range { IsPlace nodes.old.items place }
     requires sorted { IsStrictlySorted (children_at root.old.items nodes.old.items place) }
     requires free { value_of (children_at root.old.items nodes.old.items place) c ≡ None }
-    ensures ok { OnOk result (Grows root.old.items nodes.old.items root.new.items nodes.new.items place c
+    ensures ok { OnOk result (Grows root.old.items nodes.old.items root.new.items nodes.new.items
+        place c
         branch.old.items) }
-    ensures err { OnErr result (SameTrie root.old.items nodes.old.items root.new.items nodes.new.items) }
+    ensures err { OnErr result (SameTrie root.old.items nodes.old.items root.new.items
+        nodes.new.items) }
 {
     match place {
         Place::Root => attach_to_root(root, nodes, c, branch),

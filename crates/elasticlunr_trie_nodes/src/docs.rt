@@ -3,7 +3,8 @@ ghost use Rattle.std.specs.Prelude.{◌≡◌, ◌<◌, ℕ, length, slice_index
 ghost use Rattle.std.specs.Str.{chars};
 ghost use Rattle.std.specs.FinMap.{entries};
 ghost use Rattle.elasticlunr_trie_nodes.specs.Pairs.{key_at};
-ghost use Rattle.elasticlunr_trie_nodes.specs.Names.{AreNames, ArePostings, AreRanks, AreThere, named_pairs, under_names};
+ghost use Rattle.elasticlunr_trie_nodes.specs.Names.{AreNames, ArePostings, AreRanks, AreThere};
+ghost use Rattle.elasticlunr_trie_nodes.specs.Names.{named_pairs, under_names};
 ghost use Rattle.elasticlunr_trie_nodes.specs.Nodes.{AreAllNumbered};
 ghost use Rattle.elasticlunr_trie_nodes.specs.Trie.{look, IsTrie};
 ghost use Rattle.elasticlunr_trie_nodes.specs.Copied.{copied_postings};
@@ -67,7 +68,8 @@ fn with_ranks(
     pairs: &[Posting],
 ) -> Result<Vec<(usize, usize, u64)>, AllocError>
     requires { (i : ℕ) → i < length pairs.now → key_at pairs.now i < length ranks.now }
-    ensures { IfOk result (λ r. r.items ≡ map (λ p. (slice_index ranks.now p.0, p.0, p.1)) pairs.now) }
+    ensures { IfOk result (λ r. r.items ≡ map (λ p. (slice_index ranks.now p.0, p.0, p.1))
+        pairs.now) }
 {
     let mut ranked = Vec::with_capacity(alloc, pairs.len())?;
     for posting in pairs {
@@ -77,7 +79,8 @@ fn with_ranks(
     Ok(ranked)
 }
 
-/// Postings in the order of their names, each as the rank of its name, the number and the frequency.
+/// Postings in the order of their names, each as the rank of its name, the number and the
+/// frequency.
 pub fn in_order(
     alloc: Global,
     names: &NameTexts,

@@ -4,7 +4,7 @@
 pub mod branch;
 pub mod child;
 pub mod docs;
-pub mod few;
+pub mod inline_list;
 pub mod lists;
 pub mod names;
 pub mod nodes;

@@ -1,7 +1,9 @@
 //! The lists of the nodes where a reference has a posting.
-ghost use Rattle.std.specs.Prelude.{◌≡◌, ◌≢◌, ◌<◌, ◌++◌, ◌∷◌, [], ℕ, IsTrue, IsFalse, IfSome, IfNone, length, slice_index, OnOk, OnErr};
+ghost use Rattle.std.specs.Prelude.{◌≡◌, ◌≢◌, ◌<◌, ◌++◌, ◌∷◌, [], ℕ, IsTrue, IsFalse, IfSome};
+ghost use Rattle.std.specs.Prelude.{IfNone, length, slice_index, OnOk, OnErr};
 ghost use Rattle.std.specs.FinMap.{get};
-ghost use Rattle.elasticlunr_trie_nodes.specs.Nodes.{list_at, has, KeepsLists, KeepsOtherNodes, LosesOne, LosesNode};
+ghost use Rattle.elasticlunr_trie_nodes.specs.Nodes.{list_at, has, KeepsLists, KeepsOtherNodes};
+ghost use Rattle.elasticlunr_trie_nodes.specs.Nodes.{LosesOne, LosesNode};
 
 use crate::nodes::Reference;
 use crate::number::Number;
@@ -42,9 +44,12 @@ pub fn reserve_list(
 // Puts a node into the list of a reference.
 fn push_node(references: &mut Vec<Reference>, number: usize, k: usize) -> Result<(), AllocError>
     requires { number < length references.old.items }
-    ensures ok { OnOk result (list_at references.new.items number ≡ list_at references.old.items number ++ k ∷ []) }
-    ensures err { OnErr result (list_at references.new.items number ≡ list_at references.old.items number) }
-    ensures others { (n : ℕ) → n ≢ number → list_at references.new.items n ≡ list_at references.old.items n }
+    ensures ok { OnOk result (list_at references.new.items number
+        ≡ list_at references.old.items number ++ k ∷ []) }
+    ensures err { OnErr result (list_at references.new.items number
+        ≡ list_at references.old.items number) }
+    ensures others { (n : ℕ) → n ≢ number → list_at references.new.items n
+        ≡ list_at references.old.items n }
 {
     let node = Number::new(k as u64)?;
     references[number].nodes.push(node)?;
@@ -73,7 +78,8 @@ pub fn list_node(
     number: usize,
     k: usize,
 ) -> Result<(), AllocError>
-    requires { (f : ℕ) → get postings.now number ≡ Some f → IsTrue (has (list_at references.old.items number) k) }
+    requires { (f : ℕ) → get postings.now number ≡ Some f
+        → IsTrue (has (list_at references.old.items number) k) }
     ensures lists { OnOk result (IsTrue (has (list_at references.new.items number) k)) }
     ensures keeps { KeepsLists references.old.items references.new.items }
 {
@@ -101,7 +107,8 @@ fn place_in(list: &[Number], k: usize) -> Option<usize>
 // Takes a node out of a list, if it is there.
 fn forget(list: &mut Vec<Number>, k: usize)
     ensures loses { LosesOne list.old.items list.new.items k }
-    ensures keeps { (q : ℕ) → q ≢ k → IsTrue (has list.old.items q) → IsTrue (has list.new.items q) }
+    ensures keeps { (q : ℕ) → q ≢ k → IsTrue (has list.old.items q)
+        → IsTrue (has list.new.items q) }
 {
     if let Some(at) = place_in(list, k) {
         list.remove(at);

@@ -1,7 +1,10 @@
 //! The names of a trie's references, each with its number.
-ghost use Rattle.std.specs.Prelude.{◌≡◌, ◌++◌, ◌∷◌, [], length, slice_get, Some, OnOk, OnErr, IfOk, IfSome, ◌<◌};
+ghost use Rattle.std.specs.Prelude.{◌≡◌, ◌++◌, ◌∷◌, [], length, slice_get, Some, OnOk, OnErr};
+ghost use Rattle.std.specs.Prelude.{IfOk, IfSome, ◌<◌};
 ghost use Rattle.elasticlunr_trie_nodes.specs.NameNumbers.{GainsNumber};
-ghost use Rattle.elasticlunr_trie_nodes.specs.Names.{names_of, number_of, entered, AreNames, AreRanks, HasNumbersBelow, HasDistinctNumbers, HasRanks};
+ghost use Rattle.elasticlunr_trie_nodes.specs.Names.{names_of, number_of, entered, AreNames};
+ghost use Rattle.elasticlunr_trie_nodes.specs.Names.{AreRanks, HasNumbersBelow};
+ghost use Rattle.elasticlunr_trie_nodes.specs.Names.{HasDistinctNumbers, HasRanks};
 
 use std::alloc::{AllocError, Global};
 use std::collections::BTreeMap;
@@ -168,7 +171,8 @@ fn add_name(
     name: &str,
 ) -> Result<usize, AllocError>
     ensures number { IfOk result (λ n. n ≡ length (names_of in_order.old.items)) }
-    ensures name { OnOk result (names_of in_order.new.items ≡ names_of in_order.old.items ++ name.now ∷ []) }
+    ensures name { OnOk result (names_of in_order.new.items
+        ≡ names_of in_order.old.items ++ name.now ∷ []) }
     ensures numbers { OnOk result (GainsNumber numbers.old numbers.new name.now
         (length (names_of in_order.old.items))) }
     ensures same_names { OnErr result (in_order.new.items ≡ in_order.old.items) }

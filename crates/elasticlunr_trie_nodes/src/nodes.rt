@@ -1,7 +1,8 @@
 //! The numbered nodes of a trie, and where a path leads.
 ghost use Rattle.std.specs.Prelude.{◌≡◌, ◌<◌, length, None, IfSome, IfOk, IfErr, slice_get};
 ghost use Rattle.std.specs.Str.{chars};
-ghost use Rattle.elasticlunr_trie_nodes.specs.Pairs.{value_of, IsStrictlySorted, IsAt, IsGapFor, IsPlaceFor};
+ghost use Rattle.elasticlunr_trie_nodes.specs.Pairs.{value_of, IsStrictlySorted, IsAt, IsGapFor};
+ghost use Rattle.elasticlunr_trie_nodes.specs.Pairs.{IsPlaceFor};
 ghost use Rattle.elasticlunr_trie_nodes.specs.Names.{at, Names, AreNumbered};
 ghost use Rattle.elasticlunr_trie_nodes.specs.Nodes.{children_of, postings_at, AreAllNumbered};
 ghost use Rattle.elasticlunr_trie_nodes.specs.Trie.{children_at, step_of, table_of, walk, IsTrie};
@@ -9,14 +10,14 @@ ghost use Rattle.elasticlunr_trie_nodes.specs.Table.{posting};
 ghost use Rattle.elasticlunr_trie_nodes.specs.NodeTables.{found_frequencies, ArePostingsAt};
 
 use crate::child::Child;
-use crate::few::Few;
+use crate::inline_list::InlineList;
 use crate::names::Names;
 use crate::number::Number;
 use crate::postings::Postings;
 use std::mem::size_of;
 
 /// Children in the order of their characters. One alone stands in place: most nodes have one.
-pub type Children = Few<Child>;
+pub type Children = InlineList<Child>;
 
 #[derive(Debug, Drop)]
 pub struct Node {
@@ -32,7 +33,8 @@ pub enum Place {
     At(usize),
 }
 
-/// What a trie keeps for the number of a reference: the nodes where it has a posting, and maybe others.
+/// What a trie keeps for the number of a reference: the nodes where it has a posting, and maybe
+/// others.
 #[derive(Debug, Drop)]
 pub struct Reference {
     pub nodes: Vec<Number>,
@@ -160,7 +162,8 @@ pub fn find_frequency(
     doc_ref: &str,
 ) -> Option<u64>
     requires { IsTrie root.now nodes.now }
-    ensures { result ≡ posting (table_of root.now nodes.now names.now) (chars token.now) doc_ref.now }
+    ensures { result ≡ posting (table_of root.now nodes.now names.now) (chars token.now)
+        doc_ref.now }
 {
     match find(root, nodes, token) {
         Some(Place::At(k)) => frequency_of(names, postings_at(nodes, k), doc_ref),
@@ -172,8 +175,10 @@ pub fn find_frequency(
 /// The postings of a token, none where it is unknown or empty.
 pub fn find_postings<'a>(root: &[Child], nodes: &'a [Node], token: &str) -> Option<&'a Postings>
     requires { IsTrie root.now nodes.now }
-    ensures postings { ArePostingsAt root.now nodes.now (chars token.now) (found_frequencies result) }
-    ensures numbered { (names : Names) → AreAllNumbered names nodes.now → IfSome result (λ p. AreNumbered names p.now) }
+    ensures postings { ArePostingsAt root.now nodes.now (chars token.now)
+        (found_frequencies result) }
+    ensures numbered { (names : Names) → AreAllNumbered names nodes.now
+        → IfSome result (λ p. AreNumbered names p.now) }
 {
     match find(root, nodes, token) {
         Some(Place::At(k)) => Some(postings_at(nodes, k)),

@@ -30,7 +30,12 @@ impl Model for Number {
 
     ghost invariant = { λ n. (n.middle < 2 ^ 16) × (n.low < 2 ^ 16) };
 
-    ghost inverse = { λ v. record { low = v % 2 ^ 16; middle = v / 2 ^ 16 % 2 ^ 16; high = v / 2 ^ 16 / 2 ^ 16 } };
+    ghost inverse = { λ v. record {
+      low = v % 2 ^ 16;
+      middle = v / 2 ^ 16 % 2 ^ 16;
+      high =
+          v / 2 ^ 16 / 2 ^ 16;
+    } };
 
     ghost inverse_ok = { λ n small i.
         let upper = div-mul-add (n.high * 2 ^ 16 + n.middle) (2 ^ 16) n.low small.1 in record {

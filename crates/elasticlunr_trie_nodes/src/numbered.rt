@@ -2,7 +2,8 @@
 ghost use Rattle.std.specs.Prelude.{◌≡◌, IsTrue, Some, OnOk, IfOk, IfSome, slice_get};
 ghost use Rattle.std.specs.FinMap.{empty};
 ghost use Rattle.elasticlunr_trie_nodes.specs.Table.{postings_of};
-ghost use Rattle.elasticlunr_trie_nodes.specs.Names.{AreNames, ArePostings, Extends, at, entered, named_pairs};
+ghost use Rattle.elasticlunr_trie_nodes.specs.Names.{AreNames, ArePostings, Extends, at, entered};
+ghost use Rattle.elasticlunr_trie_nodes.specs.Names.{named_pairs};
 ghost use Rattle.elasticlunr_trie_nodes.specs.NameNumbers.{KeepsOtherFrequencies};
 ghost use Rattle.elasticlunr_trie_nodes.specs.Nodes.{KeepsLists, IsListed};
 ghost use Rattle.elasticlunr_trie_nodes.specs.Trie.{named};
@@ -30,7 +31,8 @@ fn put_posting(
     ensures keeps { OnOk result (KeepsLists references.old.items references.new.items) }
     ensures names { OnOk result (names.new ≡ entered names.old doc_ref.now) }
     ensures set { OnOk result (at names.new doc_ref.now postings.new ≡ Some frequency) }
-    ensures others { OnOk result (KeepsOtherFrequencies names.old postings.old names.new postings.new doc_ref.now) }
+    ensures others { OnOk result (KeepsOtherFrequencies names.old postings.old names.new
+        postings.new doc_ref.now) }
 {
     let number = names.enter(doc_ref)?;
     list_new(alloc, references, number, k)?;

@@ -4,13 +4,13 @@ ghost use Rattle.std.specs.Prelude.{◌≡◌, ◌≤◌, length, insert, OnOk, 
 ghost use Rattle.elasticlunr_trie_nodes.specs.Pairs.{value_of, IsStrictlySorted, IsAt, IsGapFor};
 ghost use Rattle.elasticlunr_trie_nodes.specs.Frequencies.{frequencies_of};
 
-use crate::few::Few;
+use crate::inline_list::InlineList;
 use crate::posting::Posting;
 use std::alloc::{AllocError, Global};
 use std::marker::Model;
 
 // One posting alone stands in place: most tokens have one reference.
-type Pairs = Few<Posting>;
+type Pairs = InlineList<Posting>;
 
 /// A finite map from numbers of references to frequencies, as pairs in the order of the numbers. A
 /// new greatest number goes to the end without a search.
@@ -40,7 +40,7 @@ impl Postings {
         ensures { result ≡ map.empty }
     {
         Postings {
-            pairs: Few::new(alloc),
+            pairs: InlineList::new(alloc),
         }
     }
 
@@ -48,7 +48,7 @@ impl Postings {
     pub fn with_room(alloc: Global, count: usize) -> Result<Self, AllocError>
         ensures { IfOk result (λ p. p ≡ map.empty) }
     {
-        let pairs = Few::with_room(alloc, count)?;
+        let pairs = InlineList::with_room(alloc, count)?;
         Ok(Postings { pairs })
     }
 
@@ -89,7 +89,8 @@ impl Postings {
     }
 }
 
-// Where the pair of a number is, or where it would go. A number above all others is not searched for.
+// Where the pair of a number is, or where it would go. A number above all others is not searched
+// for.
 fn place_of(pairs: &[Posting], number: usize) -> Result<usize, usize>
     requires { IsStrictlySorted pairs.now }
     ensures found { IfOk result (IsAt pairs.now number) }
@@ -141,7 +142,8 @@ fn set_pair(pairs: &mut Pairs, number: usize, frequency: u64) -> Result<(), Allo
 fn remove_pair(pairs: &mut Pairs, number: usize)
     requires { IsStrictlySorted pairs.old.items }
     ensures sorted { IsStrictlySorted pairs.new.items }
-    ensures removed { frequencies_of pairs.new.items ≡ map.remove (frequencies_of pairs.old.items) number }
+    ensures removed { frequencies_of pairs.new.items ≡ map.remove (frequencies_of pairs.old.items)
+        number }
 {
     if let Ok(at) = place_of(pairs.as_slice(), number) {
         pairs.remove(at);

@@ -7,7 +7,7 @@ ghost use Rattle.elasticlunr_trie_nodes.specs.Trie.{table_of, IsIndex};
 use crate::lists::reserve_list;
 use crate::names::Names;
 use crate::nodes::{Node, Place, Reference};
-use crate::start::Start;
+use crate::start::WalkedToken;
 use std::alloc::{AllocError, Global};
 
 // Is the last posting of a place that of the reference with this number?
@@ -25,7 +25,7 @@ fn ends_with(nodes: &[Node], place: Place, number: usize) -> bool {
 // How many of the places that tokens lead to don't end with a posting of the reference. Their last
 // postings are read one after the other, so that the processor loads several at once, and adding
 // finds them at hand.
-fn count_new(nodes: &[Node], starts: &[Start<'_>], number: usize) -> usize {
+fn count_new(nodes: &[Node], starts: &[WalkedToken<'_>], number: usize) -> usize {
     starts
         .iter()
         .filter(|start| !ends_with(nodes, start.place, number))
@@ -39,10 +39,11 @@ pub fn make_room(
     names: &mut Names,
     references: &mut Vec<Reference>,
     doc_ref: &str,
-    starts: &[Start<'_>],
+    starts: &[WalkedToken<'_>],
 ) -> Result<(), AllocError>
     ensures names { OnOk result (names.new ≡ entered names.old doc_ref.now) }
-    ensures listed { OnOk result ((n : ℕ) → number_of names.new doc_ref.now ≡ Some n → n < length references.new.items) }
+    ensures listed { OnOk result ((n : ℕ) → number_of names.new doc_ref.now ≡ Some n
+        → n < length references.new.items) }
     ensures index { (root : Pairs) → IsIndex root nodes.now names.old references.old.items
         → IsIndex root nodes.now names.new references.new.items }
     ensures table { (root : Pairs) → IsIndex root nodes.now names.old references.old.items

@@ -8,20 +8,20 @@ use crate::nodes::Place;
 
 /// A token and its frequency, where a beginning of the token leads, and what follows that.
 #[derive(Clone, Copy)]
-pub struct Start<'a> {
+pub struct WalkedToken<'a> {
     pub token: &'a str,
     pub frequency: u64,
     pub place: Place,
     pub rest: &'a str,
 }
 
-impl<'a> Start<'a> {
+impl<'a> WalkedToken<'a> {
     /// The empty beginning, which leads to the root.
     pub fn new(token: &'a str, frequency: u64) -> Self
         ensures start { (step : Step) → IsStart step result }
         ensures told { told result ≡ (chars token.now, frequency) }
     {
-        Start {
+        WalkedToken {
             token,
             frequency,
             place: Place::Root,

@@ -1,5 +1,6 @@
 -- English reads one token of the text "go".
-use Rattle.std.proofs.Common.{◌≡◌, inl, inr, arith, length, List, [], ◌∷◌, Option, None, Some, filter_map, codes, refl, ap, subst, ◌∙◌}
+use Rattle.std.proofs.Common.{◌≡◌, inl, inr, arith, length, List, [], ◌∷◌, Option, None, Some, filter_map, codes, refl}
+use Rattle.std.proofs.Common.{ap, subst, ◌∙◌}
 use Rattle.std.specs.List.{AllZip}
 use Rattle.std.specs.Char.{encode_utf8}
 use Rattle.std.specs.Str.{chars, encode_utf8_all}
@@ -30,10 +31,12 @@ unfolding english_stop_words chars
 its_stem None is = absurd is
 its_stem (Some stem) is = ap Some (two_letters stem is)
 
-one_left : (lefts : List (Option Text)) → AllZip (language_leaves english) (codes "go" ∷ []) lefts → filter_map (λ left. left) lefts ≡ codes "go" ∷ []
+one_left : (lefts : List (Option Text)) → AllZip (language_leaves english) (codes "go" ∷ []) lefts
+    → filter_map (λ left. left) lefts ≡ codes "go" ∷ []
 one_left [] each = absurd each
 one_left (left ∷ next ∷ lefts) each = absurd each.1
 one_left (left ∷ []) each = ap (λ l. filter_map (λ x. x) (l ∷ [])) (its_stem left each.0)
 
 pub only_go : ReadsOneToken english (codes "go") (codes "go")
-only_go tokens is = is.are ∙ one_left is.lefts (subst (λ made. AllZip (language_leaves english) made is.lefts) one_word is.each)
+only_go tokens is = is.are ∙ one_left is.lefts (subst (λ made. AllZip (language_leaves english) made is.lefts) one_word
+    is.each)

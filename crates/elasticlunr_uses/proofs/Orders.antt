@@ -1,5 +1,6 @@
 -- Which documents are current, whatever the order of their references.
-use Rattle.std.proofs.Common.{◌≡◌, ◌≢◌, [], ◌∷◌, IsTrue, Bool, true, false, cond, not, ◌&&◌, ◌||◌, Option, None, bytes_eq, refl, sym, ap, ◌∙◌}
+use Rattle.std.proofs.Common.{◌≡◌, ◌≢◌, [], ◌∷◌, IsTrue, Bool, true, false, cond, not, ◌&&◌, ◌||◌, Option, None}
+use Rattle.std.proofs.Common.{bytes_eq, refl, sym, ap, ◌∙◌}
 use Rattle.std.proofs.lemmas.Slice.Eq.{bytes_eq-Decides}
 use Rattle.elasticlunr.specs.Text.{Bytes}
 use Rattle.elasticlunr.specs.Fields.{all_differ}
@@ -19,13 +20,15 @@ pub two_differ : (r s : Bytes) → r ≢ s → IsTrue (all_differ (r ∷ s ∷ [
 two_differ r s apart = ap (λ b. not (b || false) && (not false && true)) (unequal s r (λ e. apart (sym e)))
 
 module _ {X : Type 0} where
-  pub either_order : (a b : Bool) (x y : Option X) → (a ≡ true → b ≡ true → ⊥) → cond b y (cond a x None) ≡ cond a x (cond b y None)
+  pub either_order : (a b : Bool) (x y : Option X) → (a ≡ true → b ≡ true → ⊥) → cond b y (cond a x None)
+      ≡ cond a x (cond b y None)
   either_order true true x y apart = absurd (apart refl refl)
   either_order true false x y apart = refl
   either_order false b x y apart = refl
 
   -- what was removed, or put again, does not show
-  pub after_update : (s c g : Bool) (stays old dropped new : Option X) → (s ≡ true → g ≡ true → ⊥) → (c ≡ true → g ≡ true → ⊥)
+  pub after_update : (s c g : Bool) (stays old dropped new : Option X) → (s ≡ true → g ≡ true → ⊥)
+      → (c ≡ true → g ≡ true → ⊥)
       → cond g None (cond c new (cond g dropped (cond c old (cond s stays None)))) ≡ cond c new (cond s stays None)
   after_update s true true stays old dropped new sg cg = absurd (cg refl refl)
   after_update true false true stays old dropped new sg cg = absurd (sg refl refl)

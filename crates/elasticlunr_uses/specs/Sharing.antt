@@ -7,4 +7,5 @@ use Rattle.elasticlunr_search.specs.Words.{Asks}
 
 -- English reads a token of the query that it reads of the text, too
 abbrev pub SharesToken : (query text : Bytes) → Type 0
-SharesToken query text = (token : Text) × Asks (KeptReads english) 0 query token × ((tokens : List Text) × KeptReads english 0 text tokens × Contains tokens token)
+SharesToken query text = (token : Text) × Asks (KeptReads english) 0 query token
+    × ((tokens : List Text) × KeptReads english 0 text tokens × Contains tokens token)

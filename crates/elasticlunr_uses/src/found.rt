@@ -7,7 +7,7 @@
 ghost use Rattle.std.specs.Prelude.{◌≡◌, ◌≢◌, ◌⊎◌, List, IfOk, Contains};
 ghost use Rattle.elasticlunr.specs.Text.{Text, bytes_of};
 ghost use Rattle.elasticlunr.specs.AnyLanguage.TheVariants.{English as english};
-ghost use Rattle.elasticlunr.specs.Found.{AreThose};
+ghost use Rattle.elasticlunr.specs.Found.{AreExactly};
 ghost use Rattle.elasticlunr.specs.Kept.{KeptReads};
 ghost use Rattle.elasticlunr_search.specs.Words.{Asks};
 ghost use Rattle.elasticlunr_uses.specs.Sharing.{SharesToken};
@@ -28,10 +28,12 @@ pub fn built_printed_found(
     text: &str,
     query: &str,
 ) -> Result<Vec<String>, UseError>
-    ensures found { IfOk result (λ found. AreThose (λ r.
+    ensures found { IfOk result (λ found. AreExactly (λ r.
         ((r ≡ reference.now) × SharesToken query.now text.now)
-        ⊎ ((r ≡ other.now) × (r ≢ reference.now) × SharesToken query.now other_text.now)) (bytes_of found.items)) }
-    ensures shared { IfOk result (λ found. (token : Text) → Asks (KeptReads english) 0 query.now token
+        ⊎ ((r ≡ other.now) × (r ≢ reference.now) × SharesToken query.now other_text.now))
+        (bytes_of found.items)) }
+    ensures shared { IfOk result (λ found. (token : Text)
+        → Asks (KeptReads english) 0 query.now token
         → ((tokens : List Text) → KeptReads english 0 text.now tokens → Contains tokens token)
         → Contains (bytes_of found.items) reference.now) }
 {

@@ -1,7 +1,8 @@
 //! An index with a custom stage and language, those of `elasticlunr_own`.
 //!
 //! What each means stands in its `ghost` lines, in words of the library; the prover holds the body
-//! against them. Proved: the printed text names the language, the stages and the field, and is that
+//! against them. Proved: the printed text names the language, the stages and the field, and is
+//! that
 //! of one document whose tokens are the words of its text, trimmed, without those that are then
 //! empty.
 ghost use Rattle.std.specs.Prelude.{◌≡◌, ◌∷◌, [], IfErr, IfOk, codes, filter_map, string_bytes};
@@ -23,7 +24,8 @@ use std::alloc::Global;
 /// The text of an index of trimmed words.
 pub fn text_of_words(alloc: Global) -> Result<String, IndexError>
     ensures text { IfOk result (λ text. (document : Document)
-        × IsPrintOf (fields_plan (codes "Plain") (codes "trimmer" ∷ codes "dropEmpty" ∷ []) (codes "about" ∷ []))
+        × IsPrintOf (fields_plan (codes "Plain") (codes "trimmer" ∷ codes "dropEmpty" ∷ [])
+        (codes "about" ∷ []))
         (none ▸ add document) (string_bytes text)
         × IsDocument (codes "about" ∷ []) (codes "id") (λ _ value tokens. tokens
         ≡ filter_map (λ word. unless_empty (trimmed is_word_char word)) (words (chars value)))
@@ -38,7 +40,8 @@ pub fn text_of_words(alloc: Global) -> Result<String, IndexError>
 /// The text of an index of one document, with this pipeline.
 fn text_with_pipeline(alloc: Global, pipeline: Pipeline) -> Result<String, IndexError>
     ensures text { IfOk result (λ text. (document : Document)
-        × IsPrintOf (fields_plan (codes "Plain") (names_by name_text pipeline) (codes "about" ∷ []))
+        × IsPrintOf (fields_plan (codes "Plain") (names_by name_text pipeline) (codes "about"
+        ∷ []))
         (none ▸ add document) (string_bytes text)
         × IsDocument (codes "about" ∷ []) (codes "id")
         (λ _ value tokens. IsRunBy leaves pipeline (words (chars value)) tokens)

@@ -24,12 +24,14 @@ pub fn updated_and_new(
 ) -> Result<(String, String), IndexError>
     ensures updated { IfOk result (λ texts.
         IsTextOf (adding_page stays.entry ∷ adding_page changes.entry ∷ adding_page goes.entry
-        ∷ adding_text changes.entry new_text.now ∷ removing_page goes.entry ∷ compacting ∷ []) (string_bytes texts.0)) }
+        ∷ adding_text changes.entry new_text.now ∷ removing_page goes.entry ∷ compacting ∷ [])
+        (string_bytes texts.0)) }
     ensures new { IfOk result (λ texts.
         IsTextOf (adding_page stays.entry ∷ adding_text changes.entry new_text.now ∷ []) (string_bytes texts.1)) }
     ensures equal { IfOk result (λ texts. stays.entry.reference.now ≢ changes.entry.reference.now
         → stays.entry.reference.now ≢ goes.entry.reference.now
-        → changes.entry.reference.now ≢ goes.entry.reference.now → string_bytes texts.0 ≡ string_bytes texts.1) }
+        → changes.entry.reference.now ≢ goes.entry.reference.now → string_bytes texts.0
+        ≡ string_bytes texts.1) }
     ensures errors { IfErr result (λ e. e ≡ Memory) }
 {
     current_documents_decide_the_text();
@@ -52,7 +54,8 @@ fn updated(
 ) -> Result<String, IndexError>
     ensures text { IfOk result (λ text.
         IsTextOf (adding_page stays.entry ∷ adding_page changes.entry ∷ adding_page goes.entry
-        ∷ adding_page changed.entry ∷ removing_page goes.entry ∷ compacting ∷ []) (string_bytes text)) }
+        ∷ adding_page changed.entry ∷ removing_page goes.entry ∷ compacting ∷ [])
+        (string_bytes text)) }
     ensures errors { IfErr result (λ e. e ≡ Memory) }
 {
     let mut index = Index::new(alloc, &["body"])?;

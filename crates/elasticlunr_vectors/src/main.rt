@@ -1,4 +1,5 @@
-//! Runs tables of vectors against the library, and prints for each how many of its lines are right.
+//! Runs tables of vectors against the library, and prints for each how many of its lines are
+//! right.
 #![tactic(auto)]
 
 mod cells;

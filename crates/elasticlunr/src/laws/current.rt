@@ -2,7 +2,8 @@
 ghost use Rattle.std.specs.Prelude.{List};
 ghost use Rattle.elasticlunr_text.specs.Text.{Bytes};
 ghost use Rattle.elasticlunr.specs.Calls.{Call};
-ghost use Rattle.elasticlunr.specs.Current.{additions, HaveOwnReferences, HaveSameDocuments, LeaveOnlyCurrent, LeaveSameCurrent};
+ghost use Rattle.elasticlunr.specs.Current.{additions, HaveOwnReferences, HaveSameDocuments};
+ghost use Rattle.elasticlunr.specs.Current.{LeaveOnlyCurrent, LeaveSameCurrent};
 ghost use Rattle.elasticlunr.specs.Kept.{HaveEqualPrints};
 
 use super::calls::a_kept_language_makes_one_document;
@@ -21,7 +22,8 @@ pub fn current_documents_decide_the_text()
 /// Documents of different references may be added in any order.
 pub fn documents_may_come_in_any_order()
     ensures { (documents others : List (Bytes × List Bytes))
-        → HaveOwnReferences documents → HaveOwnReferences others → HaveSameDocuments documents others
+        → HaveOwnReferences documents → HaveOwnReferences others
+        → HaveSameDocuments documents others
         → HaveEqualPrints (additions documents) (additions others) }
 {
     current_documents_decide_the_text();

@@ -15,12 +15,16 @@ use elasticlunr_text::pipeline::Pipeline;
 pub fn a_language_reads_what_its_pipeline_leaves<L: Language>(language: &L, pipeline: &Pipeline)
     ensures reads { (i : ℕ) (text : Bytes) (made : List (String Global)) (left : List Text)
         → LeavesBy leaves pipeline.now (L.leaves_of language.now)
-        → texts_of made ≡ L.tokens_of language.now (chars text) → IsRunBy leaves pipeline.now (texts_of made) left
+        → texts_of made ≡ L.tokens_of language.now (chars text)
+        → IsRunBy leaves pipeline.now (texts_of made) left
         → LanguageReads (L.tokens_of language.now) (L.leaves_of language.now) i text left }
-    ensures only { (i : ℕ) (text : Bytes) (made : List (String Global)) (left : List Text) (others : List Text)
+    ensures only { (i : ℕ) (text : Bytes) (made : List (String Global)) (left : List Text)
+        (others : List Text)
         → LeavesBy leaves pipeline.now (L.leaves_of language.now)
-        → texts_of made ≡ L.tokens_of language.now (chars text) → IsRunBy leaves pipeline.now (texts_of made) left
-        → LanguageReads (L.tokens_of language.now) (L.leaves_of language.now) i text others → others ≡ left }
+        → texts_of made ≡ L.tokens_of language.now (chars text)
+        → IsRunBy leaves pipeline.now (texts_of made) left
+        → LanguageReads (L.tokens_of language.now) (L.leaves_of language.now) i text others
+        → others ≡ left }
 {
     a_run_has_one_answer(pipeline);
 }

@@ -13,7 +13,8 @@ pub fn one_word_is_a_path()
     ensures { (language : AnyLanguage) (name : Bytes) (stages : List Bytes)
         (reference_field field reference value : Bytes) (token : Text)
         → field ≢ reference_field → token ≢ [] → ReadsOneToken language value token
-        → PrintsPath language (one_field_plan name stages reference_field field) field reference value token }
+        → PrintsPath language (one_field_plan name stages reference_field field) field reference
+        value token }
 {
     one_value_a_table();
 }

@@ -1,6 +1,7 @@
 //! Laws of the order in which documents come.
 ghost use Rattle.std.specs.Prelude.{◌≢◌};
-ghost use Rattle.elasticlunr_commands.specs.History.{Commands, Document, ◌▸◌, add, HasNoCompaction, Agree};
+ghost use Rattle.elasticlunr_commands.specs.History.{Commands, Document, ◌▸◌, add};
+ghost use Rattle.elasticlunr_commands.specs.History.{HasNoCompaction, Agree};
 
 /// Where nothing was compacted, two documents of different references may be added in either
 /// order.

@@ -1,5 +1,6 @@
 //! Laws of the values of indexes.
-ghost use Rattle.std.specs.Prelude.{◌≡◌, ◌≤◌, ℕ, List, false, length, IsTrue, IsSomeAnd, Some, codes};
+ghost use Rattle.std.specs.Prelude.{◌≡◌, ◌≤◌, ℕ, List, false, length, IsTrue, IsSomeAnd, Some};
+ghost use Rattle.std.specs.Prelude.{codes};
 ghost use Rattle.std.specs.List.{AllZip};
 ghost use Rattle.elasticlunr_error.specs.Text.{Bytes};
 ghost use Rattle.elasticlunr_trie.specs.Table.{Table};
@@ -8,8 +9,11 @@ ghost use Rattle.elasticlunr_trie.specs.Tree.{IsTrieValue};
 ghost use Rattle.elasticlunr_commands.specs.Fields.{all_differ};
 ghost use Rattle.elasticlunr_commands.specs.History.{Commands, Agree};
 ghost use Rattle.elasticlunr_commands.specs.Standing.{Plan};
-ghost use Rattle.elasticlunr_print.specs.Printed.{IsIndexValue, IsPrintOf, IsTextOf, IsValue, IsValueOf, IsValueOfNoOther, PrintAlike, read_within, texts};
-ghost use Rattle.elasticlunr_print.specs.Shape.{ArePartsOf, HasFields, HasLanguage, HasParts, HasStore, HasTries};
+ghost use Rattle.elasticlunr_print.specs.Printed.{IsIndexValue, IsPrintOf, IsTextOf, IsValue};
+ghost use Rattle.elasticlunr_print.specs.Printed.{IsValueOf, IsValueOfNoOther, PrintAlike};
+ghost use Rattle.elasticlunr_print.specs.Printed.{read_within, texts};
+ghost use Rattle.elasticlunr_print.specs.Shape.{ArePartsOf, HasFields, HasLanguage, HasParts};
+ghost use Rattle.elasticlunr_print.specs.Shape.{HasStore, HasTries};
 ghost use Rattle.serde_json.specs.Data.{Data, array, string};
 ghost use Rattle.serde_json.specs.Find.{get};
 ghost use Rattle.serde_json.specs.Read.{read};
@@ -51,8 +55,10 @@ pub fn values_tell_what_they_print()
 
 /// Plans that print alike have one value with the same tables and contents.
 pub fn equal_parts_have_equal_values()
-    ensures { (plan : Plan) (other : Plan) (tables : List Table) (contents : Contents) (v : Data) (w : Data)
-        → PrintAlike plan other → IsValueOf plan tables contents v → IsValueOf other tables contents w → v ≡ w }
+    ensures { (plan : Plan) (other : Plan) (tables : List Table) (contents : Contents) (v : Data)
+        (w : Data)
+        → PrintAlike plan other → IsValueOf plan tables contents v
+        → IsValueOf other tables contents w → v ≡ w }
 {
     one_value_a_table();
 }
@@ -68,19 +74,24 @@ pub fn equal_texts_have_equal_parts()
     values_tell_what_they_print();
 }
 
-/// A value has its parts under their keys: the names of the fields, the store, the language's name,
+/// A value has its parts under their keys: the names of the fields, the store, the language's
+/// name,
 /// and under each field's name the trie value of its table.
 pub fn values_hold_their_parts()
     ensures fields { (plan : Plan) (tables : List Table) (contents : Contents) (v : Data)
-        → IsValueOf plan tables contents v → get (codes "fields") v ≡ Some (array (texts plan.fields)) }
+        → IsValueOf plan tables contents v → get (codes "fields") v
+        ≡ Some (array (texts plan.fields)) }
     ensures store { (plan : Plan) (tables : List Table) (contents : Contents) (v : Data)
-        → IsValueOf plan tables contents v → get (codes "documentStore") v ≡ Some (store_value contents) }
+        → IsValueOf plan tables contents v → get (codes "documentStore") v
+        ≡ Some (store_value contents) }
     ensures language { (plan : Plan) (tables : List Table) (contents : Contents) (v : Data)
         → IsValueOf plan tables contents v → get (codes "lang") v ≡ Some (string plan.language) }
     ensures tries { (plan : Plan) (tables : List Table) (contents : Contents) (v : Data)
-        → IsTrue (all_differ plan.fields) → length tables ≡ length plan.fields → IsValueOf plan tables contents v
+        → IsTrue (all_differ plan.fields) → length tables ≡ length plan.fields
+        → IsValueOf plan tables contents v
         → IsSomeAnd (get (codes "index") v)
-        (λ index. AllZip (λ name table. IsSomeAnd (get name index) (IsTrieValue table)) plan.fields tables) }
+        (λ index. AllZip (λ name table. IsSomeAnd (get name index) (IsTrieValue table)) plan.fields
+        tables) }
 {}
 
 /// A value has one list of fields, one table a field, one contents and one language at most.
@@ -106,12 +117,15 @@ pub fn readers_agree()
         → read_within limit text ≡ Some v → read_within other text ≡ Some w → v ≡ w }
 {}
 
-/// A printed text is read as a value with the parts that it was printed of, and with no others, by a
+/// A printed text is read as a value with the parts that it was printed of, and with no others, by
+/// a
 /// reader of any depth, too.
 pub fn printed_texts_have_their_parts()
-    ensures parts { (plan : Plan) (commands : Commands) (text : List ℕ) (print : IsPrintOf plan commands text)
+    ensures parts { (plan : Plan) (commands : Commands) (text : List ℕ)
+        (print : IsPrintOf plan commands text)
         → HasParts print.value plan.fields print.tables print.contents }
-    ensures language { (plan : Plan) (commands : Commands) (text : List ℕ) (print : IsPrintOf plan commands text)
+    ensures language { (plan : Plan) (commands : Commands) (text : List ℕ)
+        (print : IsPrintOf plan commands text)
         → HasLanguage print.value plan.language }
     ensures only { (plan : Plan) (commands : Commands) (text : List ℕ)
         (v : Data) (names : List Bytes) (tables : List Table) (contents : Contents)
@@ -119,7 +133,8 @@ pub fn printed_texts_have_their_parts()
         → ArePartsOf plan commands names tables contents }
     ensures only_within { (plan : Plan) (commands : Commands) (text : List ℕ) (limit : ℕ)
         (v : Data) (names : List Bytes) (tables : List Table) (contents : Contents)
-        → IsPrintOf plan commands text → read_within limit text ≡ Some v → HasParts v names tables contents
+        → IsPrintOf plan commands text → read_within limit text ≡ Some v
+        → HasParts v names tables contents
         → ArePartsOf plan commands names tables contents }
 {
     one_table_a_value();

@@ -1,11 +1,13 @@
 //! Reading search options from a JSON value.
-ghost use Rattle.std.specs.Prelude.{◌≡◌, ◌≢◌, ◌⊎◌, ◌<◌, ◌^◌, ℕ, Bool, Option, None, Some, IfOk, IfErr, IfSome, codes};
+ghost use Rattle.std.specs.Prelude.{◌≡◌, ◌≢◌, ◌⊎◌, ◌<◌, ◌^◌, ℕ, Bool, Option, None, Some, IfOk};
+ghost use Rattle.std.specs.Prelude.{IfErr, IfSome, codes};
 ghost use Rattle.serde_json.specs.Data.{null, boolean};
 ghost use Rattle.serde_json.specs.Find.{get};
 ghost use Rattle.serde_json.specs.View.{view};
 ghost use Rattle.elasticlunr_json.specs.Maps.{count};
 ghost use Rattle.elasticlunr_json.specs.Refused.{IsRefused};
-ghost use Rattle.elasticlunr_store.specs.Options.{FieldMap, field_map, bool_value, IsPart, ReadsField, ReadsFields};
+ghost use Rattle.elasticlunr_store.specs.Options.{FieldMap, field_map, bool_value, IsPart};
+ghost use Rattle.elasticlunr_store.specs.Options.{ReadsField, ReadsFields};
 
 use super::{FieldOptions, SearchBool, SearchOptionsField};
 use elasticlunr_error::IndexError;
@@ -30,7 +32,8 @@ fn bool_of(value: &Value) -> Option<SearchBool>
 
 // What stands under `bool`.
 pub(super) fn read_bool(value: &Value) -> Option<SearchBool>
-    ensures found { IfSome result (λ bool. get (codes "bool") (view value.now) ≡ Some (bool_value bool)) }
+    ensures found { IfSome result (λ bool. get (codes "bool") (view value.now)
+        ≡ Some (bool_value bool)) }
     ensures none { result ≡ None → (bool : SearchBool)
         → get (codes "bool") (view value.now) ≢ Some (bool_value bool) }
 {
@@ -40,7 +43,8 @@ pub(super) fn read_bool(value: &Value) -> Option<SearchBool>
 
 // What stands under `expand`.
 pub(super) fn read_expand(value: &Value) -> Option<bool>
-    ensures found { IfSome result (λ expand. get (codes "expand") (view value.now) ≡ Some (boolean expand)) }
+    ensures found { IfSome result (λ expand. get (codes "expand") (view value.now)
+        ≡ Some (boolean expand)) }
     ensures none { result ≡ None → (expand : Bool)
         → get (codes "expand") (view value.now) ≢ Some (boolean expand) }
 {
@@ -50,7 +54,8 @@ pub(super) fn read_expand(value: &Value) -> Option<bool>
 
 // What stands under a key, where that is something else than null.
 fn part<'a>(value: &'a Value, key: &str) -> Option<&'a Value>
-    ensures some { IfSome result (λ v. (get key.now (view value.now) ≡ Some (view v.now)) × (view v.now ≢ null)) }
+    ensures some { IfSome result (λ v. (get key.now (view value.now) ≡ Some (view v.now))
+        × (view v.now ≢ null)) }
     ensures none { result ≡ None
         → (get key.now (view value.now) ≡ None) ⊎ (get key.now (view value.now) ≡ Some null) }
 {
@@ -65,7 +70,8 @@ fn read_boost_part(value: &Value) -> Result<Option<u8>, IndexError>
     ensures ok { IfOk result (λ boost. IsPart count (get (codes "boost") (view value.now)) boost) }
     ensures small { IfOk result (λ boost. IfSome boost (λ n. n < 2 ^ 8)) }
     ensures err { IfErr result (IsRefused ((boost : Option ℕ)
-        → IfSome boost (λ n. n < 2 ^ 8) → ¬ (IsPart count (get (codes "boost") (view value.now)) boost))) }
+        → IfSome boost (λ n. n < 2 ^ 8)
+        → ¬ (IsPart count (get (codes "boost") (view value.now)) boost))) }
 {
     let Some(part) = part(value, "boost") else {
         return Ok(None);
@@ -94,7 +100,8 @@ fn read_bool_part(value: &Value) -> Result<Option<SearchBool>, IndexError>
 }
 
 fn read_expand_part(value: &Value) -> Result<Option<bool>, IndexError>
-    ensures ok { IfOk result (λ expand. IsPart boolean (get (codes "expand") (view value.now)) expand) }
+    ensures ok { IfOk result (λ expand. IsPart boolean (get (codes "expand") (view value.now))
+        expand) }
     ensures err { IfErr result (IsRefused ((expand : Option Bool)
         → ¬ (IsPart boolean (get (codes "expand") (view value.now)) expand))) }
 {
@@ -110,7 +117,8 @@ fn read_expand_part(value: &Value) -> Result<Option<bool>, IndexError>
 // The options of one field.
 fn read_field(value: &Value) -> Result<SearchOptionsField, IndexError>
     ensures ok { IfOk result (λ field. ReadsField (view value.now) field) }
-    ensures err { IfErr result (IsRefused ((field : SearchOptionsField) → ¬ (ReadsField (view value.now) field))) }
+    ensures err { IfErr result (IsRefused ((field : SearchOptionsField)
+        → ¬ (ReadsField (view value.now) field))) }
 {
     if !value.is_object() {
         return Err(IndexError::ForeignValue);
@@ -128,7 +136,8 @@ fn read_field(value: &Value) -> Result<SearchOptionsField, IndexError>
 // The options of fields.
 pub(super) fn read_fields(alloc: Global, value: &Value) -> Result<FieldOptions, IndexError>
     ensures ok { IfOk result (λ fields. ReadsFields (view value.now) (field_map fields.entries)) }
-    ensures err { IfErr result (IsRefused ((fields : FieldMap) → ¬ (ReadsFields (view value.now) fields))) }
+    ensures err { IfErr result (IsRefused ((fields : FieldMap)
+        → ¬ (ReadsFields (view value.now) fields))) }
 {
     let Some(members) = value.as_object() else {
         return Err(IndexError::ForeignValue);

@@ -3,7 +3,8 @@ ghost use Rattle.std.specs.Prelude.{◌≡◌, IfOk, OnOk, option_map};
 ghost use Rattle.serde_json.specs.Data.{boolean};
 ghost use Rattle.serde_json.specs.View.{view, members_view};
 ghost use Rattle.elasticlunr_json.specs.Maps.{keyed, count};
-ghost use Rattle.elasticlunr_store.specs.Options.{field_map, bool_value, field_value, options_object};
+ghost use Rattle.elasticlunr_store.specs.Options.{field_map, bool_value, field_value};
+ghost use Rattle.elasticlunr_store.specs.Options.{options_object};
 ghost use Rattle.elasticlunr_store.specs.OptionalMembers.{put_part};
 
 use super::{FieldOptions, SearchBool, SearchOptionsField};
@@ -74,7 +75,8 @@ pub(super) fn whole_value(
     expand: bool,
     fields: Value,
 ) -> Result<Value, AllocError>
-    ensures { IfOk result (λ v. view v ≡ options_object (bool_value bool) (boolean expand) (view fields)) }
+    ensures { IfOk result (λ v. view v ≡ options_object (bool_value bool) (boolean expand)
+        (view fields)) }
 {
     let mut members = Map::new(alloc);
     let bool = bool_value(alloc, bool)?;

@@ -9,8 +9,10 @@ use std::collections::btree_map::Iter;
 
 // The value of the next member, if that has the name.
 fn next_member<'a>(rest: &mut Iter<'a, String, Value>, name: &str) -> Option<&'a Value>
-    ensures some { IfSome result (λ v. members_view rest.old ≡ member name.now (view v.now) (members_view rest.new)) }
-    ensures none { IfNone result ((d : Data) (ms : Members) → members_view rest.old ≢ member name.now d ms) }
+    ensures some { IfSome result (λ v. members_view rest.old
+        ≡ member name.now (view v.now) (members_view rest.new)) }
+    ensures none { IfNone result ((d : Data) (ms : Members)
+        → members_view rest.old ≢ member name.now d ms) }
 {
     match rest.next() {
         Some((key, value)) => {

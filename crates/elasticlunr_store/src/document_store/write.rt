@@ -13,7 +13,8 @@ use std::alloc::AllocError;
 impl DocumentStore {
     /// Writes the JSON value of the store, without making it.
     pub fn write<W: Tokens>(&self, out: &mut W) -> Result<(), AllocError>
-        ensures written { OnOk result (WritesValue (W.Tokens.written out.old) (W.Tokens.written out.new)
+        ensures written { OnOk result (WritesValue (W.Tokens.written out.old)
+            (W.Tokens.written out.new)
             (store_value self.now)) }
         ensures contents { IsContents self.now }
     {

@@ -75,7 +75,8 @@ impl FnWrapper {
     /// What the function answers.
     pub fn filter(&self, alloc: Global, token: String) -> Result<Option<String>, AllocError>
         ensures same { post self.now.function alloc token result }
-        ensures answer { IfOk result (λ left. MayAnswer self.now (text_of token) (option_map text_of left)) }
+        ensures answer { IfOk result (λ left. MayAnswer self.now (text_of token)
+            (option_map text_of left)) }
     {
         (self.function)(alloc, token)
     }

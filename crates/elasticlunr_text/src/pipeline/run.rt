@@ -29,7 +29,8 @@ impl Pipeline {
 
     /// What the stages leave of one token.
     fn filter(&self, alloc: Global, token: String) -> Result<Option<String>, AllocError>
-        ensures { IfOk result (λ left. MayFilterTo leaves self.now (text_of token) (option_map text_of left)) }
+        ensures { IfOk result (λ left. MayFilterTo leaves self.now (text_of token)
+            (option_map text_of left)) }
     {
         let mut token = token;
         for stage in &self.queue {
@@ -49,7 +50,8 @@ impl Pipeline {
         token: String,
         kept: &mut Vec<String>,
     ) -> Result<(), AllocError>
-        ensures ok { OnOk result (IsRunOn leaves self.now (text_of token) kept.old.items kept.new.items) }
+        ensures ok { OnOk result (IsRunOn leaves self.now (text_of token) kept.old.items
+            kept.new.items) }
         ensures err { OnErr result (kept.new.items ≡ kept.old.items) }
     {
         if let Some(left) = self.filter(alloc, token)? {
@@ -61,7 +63,8 @@ impl Pipeline {
     /// What the stages leave of each token, in order. A token that a stage drops is gone; one that
     /// a stage empties stays.
     pub fn run(&self, alloc: Global, tokens: Vec<String>) -> Result<Vec<String>, AllocError>
-        ensures { IfOk result (λ left. IsRun leaves self.now (texts_of tokens.items) (texts_of left.items)) }
+        ensures { IfOk result (λ left. IsRun leaves self.now (texts_of tokens.items)
+            (texts_of left.items)) }
     {
         let mut kept = Vec::with_capacity(alloc, tokens.len())?;
         for token in tokens {

@@ -1,11 +1,13 @@
-//! Adding a posting. Where memory runs out, what was done before is not seen: a name without postings, and a node in a list that has no posting.
+//! Adding a posting. Where memory runs out, what was done before is not seen: a name without
+//! postings, and a node in a list that has no posting.
 ghost use Rattle.std.specs.Prelude.{◌≡◌, ◌≢◌, ◌<◌, ◌∷◌, [], true, None, Some, length, OnOk, OnErr};
 ghost use Rattle.std.specs.Str.{chars, all_scalars};
 ghost use Rattle.elasticlunr_error.specs.Text.{Text};
 ghost use Rattle.elasticlunr_trie_nodes.specs.Table.{AddsToken};
 ghost use Rattle.elasticlunr_trie_nodes.specs.Pairs.{value_of};
 ghost use Rattle.elasticlunr_trie_nodes.specs.Names.{AreNames};
-ghost use Rattle.elasticlunr_trie_nodes.specs.Nodes.{AreListed, SetsNumber, SameNodes, SamePostings, SetsPosting};
+ghost use Rattle.elasticlunr_trie_nodes.specs.Nodes.{AreListed, SetsNumber, SameNodes};
+ghost use Rattle.elasticlunr_trie_nodes.specs.Nodes.{SamePostings, SetsPosting};
 ghost use Rattle.elasticlunr_trie_nodes.specs.Trie.{children_at, step_of, walk, IsIndex};
 ghost use Rattle.elasticlunr_trie_nodes.specs.NodeTables.{node_table, AddsBelow};
 ghost use Rattle.elasticlunr_trie_nodes.specs.Starts.{IsStart, KeepsPaths};
@@ -15,7 +17,7 @@ use elasticlunr_trie_nodes::child::Child;
 use elasticlunr_trie_nodes::lists::{list_new, list_node};
 use elasticlunr_trie_nodes::names::Names;
 use elasticlunr_trie_nodes::nodes::{Node, Place, Reference, postings_at};
-use elasticlunr_trie_nodes::start::Start;
+use elasticlunr_trie_nodes::start::WalkedToken;
 use std::alloc::{AllocError, Global};
 
 // Sets a posting of a node.
@@ -46,7 +48,8 @@ fn set_posting(
     requires in_range { k < length nodes.old.items }
     ensures names { AreNames names.old → AreNames names.new }
     ensures listed { AreListed names.new references.new.items nodes.new.items }
-    ensures ok { OnOk result (SetsPosting names.old names.new nodes.old.items nodes.new.items k doc_ref.now frequency) }
+    ensures ok { OnOk result (SetsPosting names.old names.new nodes.old.items nodes.new.items k
+        doc_ref.now frequency) }
     ensures err { OnErr result (SamePostings names.old names.new nodes.old.items nodes.new.items) }
 {
     let number = names.enter(doc_ref)?;
@@ -69,15 +72,18 @@ fn grow(
     term_freq: u64,
 ) -> Result<(), AllocError>
     requires index { IsIndex root.old.items nodes.old.items names.old references.old.items }
-    requires leads { (front : Text) × (walk (step_of root.old.items nodes.old.items) Place.Root front ≡ Some place) }
+    requires leads { (front : Text) × (walk (step_of root.old.items nodes.old.items) Place.Root
+        front ≡ Some place) }
     requires free { value_of (children_at root.old.items nodes.old.items place) c ≡ None }
     requires letters { all_scalars (c ∷ chars rest.now) ≡ true }
     ensures index { IsIndex root.new.items nodes.new.items names.new references.new.items }
-    ensures ok { OnOk result (AddsBelow place root.old nodes.old (node_table root.old nodes.old names.old)
+    ensures ok { OnOk result (AddsBelow place root.old nodes.old
+        (node_table root.old nodes.old names.old)
         (node_table root.new nodes.new names.new) (c ∷ chars rest.now) doc_ref.now term_freq) }
     ensures paths { OnOk result (KeepsPaths (step_of root.old.items nodes.old.items)
         (step_of root.new.items nodes.new.items)) }
-    ensures err { OnErr result (node_table root.new nodes.new names.new ≡ node_table root.old nodes.old names.old) }
+    ensures err { OnErr result (node_table root.new nodes.new names.new
+        ≡ node_table root.old nodes.old names.old) }
 {
     let number = names.enter(doc_ref)?;
     let first = nodes.len();
@@ -95,7 +101,7 @@ pub(super) fn add_posting(
     names: &mut Names,
     references: &mut Vec<Reference>,
     doc_ref: &str,
-    start: Start<'_>,
+    start: WalkedToken<'_>,
 ) -> Result<(), AllocError>
     requires index { IsIndex root.old.items nodes.old.items names.old references.old.items }
     requires start { IsStart (step_of root.old.items nodes.old.items) start }
@@ -105,7 +111,8 @@ pub(super) fn add_posting(
         (node_table root.new nodes.new names.new) (chars start.entry.token.now) doc_ref.now start.entry.frequency) }
     ensures paths { OnOk result (KeepsPaths (step_of root.old.items nodes.old.items)
         (step_of root.new.items nodes.new.items)) }
-    ensures err { OnErr result (node_table root.new nodes.new names.new ≡ node_table root.old nodes.old names.old) }
+    ensures err { OnErr result (node_table root.new nodes.new names.new
+        ≡ node_table root.old nodes.old names.old) }
 {
     let (place, rest) = locate(root, nodes, start);
     let mut letters = rest.chars();

@@ -1,5 +1,6 @@
 //! A trie without the paths that lead to no posting.
-ghost use Rattle.std.specs.Prelude.{◌≡◌, ◌↔◌, ◌⊎◌, ℕ, ◌<◌, [], length, Some, IsTrue, IfOk, IsOkUnless};
+ghost use Rattle.std.specs.Prelude.{◌≡◌, ◌↔◌, ◌⊎◌, ℕ, ◌<◌, [], length, Some, IsTrue, IfOk};
+ghost use Rattle.std.specs.Prelude.{IsOkUnless};
 ghost use Rattle.elasticlunr_error.specs.declared.error.IndexError.TheVariants.{Memory};
 ghost use Rattle.elasticlunr_trie_nodes.specs.Table.{IsTable};
 ghost use Rattle.elasticlunr_trie.specs.Compacted.{KeepsPostings, KnowsWhatLeads};
@@ -8,14 +9,16 @@ ghost use Rattle.elasticlunr_trie_nodes.specs.Pairs.{IsStrictlySorted};
 ghost use Rattle.elasticlunr_trie_nodes.specs.Names.{AreNames};
 ghost use Rattle.elasticlunr_trie.specs.Children.{child};
 ghost use Rattle.elasticlunr_trie_nodes.specs.Nodes.{AreAllNumbered, AreListed};
-ghost use Rattle.elasticlunr_trie_nodes.specs.Trie.{IsTrie, IsIndex, HaveOneParent, step_of, table_of};
-ghost use Rattle.elasticlunr_trie.specs.Compact.{AreNumbers, kept_children, HasFrequency, HasMarked, KeepsMarked, MarksBearing};
+ghost use Rattle.elasticlunr_trie_nodes.specs.Trie.{IsTrie, IsIndex, HaveOneParent, step_of};
+ghost use Rattle.elasticlunr_trie_nodes.specs.Trie.{table_of};
+ghost use Rattle.elasticlunr_trie.specs.Compact.{AreNumbers, kept_children, HasFrequency};
+ghost use Rattle.elasticlunr_trie.specs.Compact.{HasMarked, KeepsMarked, MarksBearing};
 
 use super::InvertedIndex;
-use super::ends::Ends;
+use super::ends::TokenCache;
 use elasticlunr_error::IndexError;
 use elasticlunr_trie_nodes::child::Child;
-use elasticlunr_trie_nodes::few::Few;
+use elasticlunr_trie_nodes::inline_list::InlineList;
 use elasticlunr_trie_nodes::names::Names;
 use elasticlunr_trie_nodes::nodes::{Children, Node, Reference};
 use elasticlunr_trie_nodes::numbered::renumber;
@@ -44,12 +47,13 @@ impl InvertedIndex {
             nodes,
             names,
             references,
-            ends: Ends::new(alloc),
+            ends: TokenCache::new(alloc),
         })
     }
 }
 
-// The children and the nodes from which a posting is reached, numbered again, with the names that their postings have.
+// The children and the nodes from which a posting is reached, numbered again, with the names that
+// their postings have.
 fn compact(
     alloc: Global,
     root: &[Child],
@@ -116,8 +120,10 @@ fn mark(nodes: &[Node], marks: &mut [bool])
 // Has the node a posting, or a marked child?
 fn bears_posting(node: &Node, marks: &[bool]) -> bool
     requires sorted { IsStrictlySorted node.now.children.items }
-    requires in_range { (c : ℕ) (k : ℕ) → child node.now.children.items c ≡ Some k → k < length marks.now }
-    ensures { IsTrue result ↔ (HasFrequency node.now.postings ⊎ HasMarked marks.now node.now.children.items) }
+    requires in_range { (c : ℕ) (k : ℕ) → child node.now.children.items c ≡ Some k
+        → k < length marks.now }
+    ensures { IsTrue result ↔ (HasFrequency node.now.postings
+        ⊎ HasMarked marks.now node.now.children.items) }
 {
     if !node.postings.pairs().is_empty() {
         return true;
@@ -167,7 +173,7 @@ fn keep_children(
     requires numbers { AreNumbers marks.now numbers.now }
     ensures { IfOk result (λ kept. kept.items ≡ kept_children marks.now children.now) }
 {
-    let mut kept = Few::new(alloc);
+    let mut kept = InlineList::new(alloc);
     for child in children {
         let k = child.node();
         if !marks[k] {
@@ -197,7 +203,8 @@ fn keep_nodes(
     requires no_names { kept_names.old ≡ [] }
     ensures names { IfOk result (λ _. AreNames kept_names.new) }
     ensures listed { IfOk result (λ kept. AreListed kept_names.new references.new.items kept.items) }
-    ensures kept { IfOk result (λ kept. KeepsMarked marks.now names.now nodes.now kept_names.new kept.items) }
+    ensures kept { IfOk result (λ kept. KeepsMarked marks.now names.now nodes.now kept_names.new
+        kept.items) }
 {
     let mut kept = Vec::new(alloc);
     for i in 0..nodes.len() {

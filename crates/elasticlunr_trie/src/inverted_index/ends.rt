@@ -5,11 +5,11 @@ ghost use Rattle.std.specs.Str.{chars};
 ghost use Rattle.elasticlunr_trie_nodes.specs.Starts.{IsStart, told};
 ghost use Rattle.elasticlunr_trie_nodes.specs.Trie.{Step, step_of, walk};
 ghost use Rattle.elasticlunr_trie_nodes.specs.declared.nodes.Place.TheVariants.{Root, At};
-ghost use Rattle.elasticlunr_trie.specs.Ends.{AreEnds, IsEnd};
+ghost use Rattle.elasticlunr_trie.specs.TokenCache.{AreEnds, IsEnd};
 
 use elasticlunr_trie_nodes::child::Child;
 use elasticlunr_trie_nodes::nodes::{Node, Place};
-use elasticlunr_trie_nodes::start::Start;
+use elasticlunr_trie_nodes::start::WalkedToken;
 use std::alloc::{AllocError, Global};
 
 // How many bytes of a token a slot has room for. A longer token is walked.
@@ -23,18 +23,18 @@ const FIRST: usize = 64;
 
 // A token and the number of the node to which it leads. The empty token marks a free slot.
 #[derive(Clone, Copy)]
-pub struct End {
+pub struct CachedToken {
     node: u32,
     length: u8,
     text: [u8; ROOM],
 }
 
-impl End {
+impl CachedToken {
     // What a free slot has.
     fn free() -> Self
         ensures { result.length ≡ 0 }
     {
-        End {
+        CachedToken {
             node: 0,
             length: 0,
             text: [0; ROOM],
@@ -50,7 +50,7 @@ impl End {
         }
         let mut text = [0; ROOM];
         text[..token.len()].copy_from_slice(token.as_bytes());
-        Some(End {
+        Some(CachedToken {
             node,
             length: token.len() as u8,
             text,
@@ -68,17 +68,17 @@ impl End {
 // Tokens with their nodes, each in one of the slots that its hash names; a token for which all of
 // them are taken isn't remembered. So a look-up never visits more, whatever the tokens are.
 #[derive(Drop)]
-pub struct Ends {
-    slots: Vec<End>,
+pub struct TokenCache {
+    slots: Vec<CachedToken>,
     taken: usize,
 }
 
-impl Ends {
+impl TokenCache {
     // Nothing is remembered, and no memory requested.
     pub(super) fn new(alloc: Global) -> Self
         ensures { (step : Step) → AreEnds step result }
     {
-        Ends {
+        TokenCache {
             slots: Vec::new(alloc),
             taken: 0,
         }
@@ -86,7 +86,8 @@ impl Ends {
 
     // The node to which a token leads, if that is remembered.
     fn get(&self, token: &str) -> Option<u32>
-        ensures { IfSome result (λ k. (step : Step) → AreEnds step self.now → walk step Root (chars token.now) ≡ Some (At k)) }
+        ensures { IfSome result (λ k. (step : Step) → AreEnds step self.now
+            → walk step Root (chars token.now) ≡ Some (At k)) }
     {
         if token.is_empty() || token.len() > ROOM {
             return None;
@@ -107,9 +108,10 @@ impl Ends {
     // Remembers where a token leads, if it has room and a slot is free for it. Where memory is
     // wanting, nothing has changed.
     fn put(&mut self, alloc: Global, token: &str, node: u32) -> Result<(), AllocError>
-        ensures { (step : Step) → AreEnds step self.old → walk step Root (chars token.now) ≡ Some (At node) → AreEnds step self.new }
+        ensures { (step : Step) → AreEnds step self.old → walk step Root (chars token.now)
+            ≡ Some (At node) → AreEnds step self.new }
     {
-        let Some(end) = End::new(token, node) else {
+        let Some(end) = CachedToken::new(token, node) else {
             return Ok(());
         };
         if self.taken >= self.slots.len() / 4 * 3 {
@@ -131,13 +133,14 @@ fn hash_of(token: &[u8]) -> u64 {
     hash ^ (hash >> 32)
 }
 
-// The number of a slot: so many further than that of the hash. The number of slots is a power of 2.
-fn slot(slots: &[End], hash: u64, further: usize) -> usize {
+// The number of a slot: so many further than that of the hash. The number of slots is a power of
+// 2.
+fn slot(slots: &[CachedToken], hash: u64, further: usize) -> usize {
     (hash as usize).wrapping_add(further) & slots.len().wrapping_sub(1)
 }
 
 // The first of the slots of a hash that is free, if one is.
-fn free_slot(slots: &[End], hash: u64) -> Option<usize>
+fn free_slot(slots: &[CachedToken], hash: u64) -> Option<usize>
     ensures { IfSome result (λ place. place < length slots.now) }
 {
     for further in 0..REACH {
@@ -150,8 +153,9 @@ fn free_slot(slots: &[End], hash: u64) -> Option<usize>
 }
 
 // Puts a token in one of its slots; was one free?
-fn put_end(slots: &mut [End], end: End) -> bool
-    ensures { (step : Step) → All (IsEnd step) slots.old → IsEnd step end → All (IsEnd step) slots.new }
+fn put_end(slots: &mut [CachedToken], end: CachedToken) -> bool
+    ensures { (step : Step) → All (IsEnd step) slots.old → IsEnd step end
+        → All (IsEnd step) slots.new }
 {
     let Some(place) = free_slot(slots, hash_of(end.token())) else {
         return false;
@@ -161,11 +165,12 @@ fn put_end(slots: &mut [End], end: End) -> bool
 }
 
 // The same tokens in a table of twice as many slots.
-fn twice_as_many(alloc: Global, slots: &[End]) -> Result<Vec<End>, AllocError>
-    ensures { IfOk result (λ more. (step : Step) → All (IsEnd step) slots.now → All (IsEnd step) more.items) }
+fn twice_as_many(alloc: Global, slots: &[CachedToken]) -> Result<Vec<CachedToken>, AllocError>
+    ensures { IfOk result (λ more. (step : Step) → All (IsEnd step) slots.now
+        → All (IsEnd step) more.items) }
 {
     let count = slots.len().saturating_mul(2).max(FIRST);
-    let mut more = Vec::from_elem(alloc, End::free(), count)?;
+    let mut more = Vec::from_elem(alloc, CachedToken::free(), count)?;
     for end in slots {
         if end.length != 0 {
             put_end(&mut more, *end);
@@ -178,22 +183,22 @@ fn twice_as_many(alloc: Global, slots: &[End]) -> Result<Vec<End>, AllocError>
 pub(super) fn begin<'a>(
     root: &[Child],
     nodes: &[Node],
-    ends: &Ends,
+    ends: &TokenCache,
     token: &'a str,
     frequency: u64,
-) -> Start<'a>
+) -> WalkedToken<'a>
     requires { AreEnds (step_of root.now nodes.now) ends.now }
     ensures start { IsStart (step_of root.now nodes.now) result }
     ensures told { told result ≡ (chars token.now, frequency) }
 {
     match ends.get(token) {
-        Some(k) => Start {
+        Some(k) => WalkedToken {
             token,
             frequency,
             place: Place::At(k as usize),
             rest: "",
         },
-        None => Start::new(token, frequency),
+        None => WalkedToken::new(token, frequency),
     }
 }
 
@@ -202,8 +207,8 @@ pub(super) fn remember(
     alloc: Global,
     root: &[Child],
     nodes: &[Node],
-    ends: &mut Ends,
-    start: Start<'_>,
+    ends: &mut TokenCache,
+    start: WalkedToken<'_>,
 ) -> Result<(), AllocError>
     requires ends { AreEnds (step_of root.now nodes.now) ends.old }
     requires start { IsStart (step_of root.now nodes.now) start }

@@ -34,7 +34,8 @@ impl InvertedIndex {
     }
 }
 
-// Postings under their names, in the order of these. No name comes twice, so frequencies decide nothing.
+// Postings under their names, in the order of these. No name comes twice, so frequencies decide
+// nothing.
 fn in_name_order<'a>(
     alloc: Global,
     names: &'a Names,

@@ -1,5 +1,6 @@
 //! Reading a trie back from a JSON value, one node after another.
-ghost use Rattle.std.specs.Prelude.{codes, ◌⊎◌, Some, true, encode_utf8, ◌∷◌, IfSome, ◌≡◌, ℕ, ◌<◌, ◌^◌, ◌↔◌, [], List, None, IsTrue, IfOk, IfErr, ◌≢◌};
+ghost use Rattle.std.specs.Prelude.{codes, ◌⊎◌, Some, true, encode_utf8, ◌∷◌, IfSome, ◌≡◌, ℕ, ◌<◌};
+ghost use Rattle.std.specs.Prelude.{◌^◌, ◌↔◌, [], List, None, IsTrue, IfOk, IfErr, ◌≢◌};
 ghost use Rattle.elasticlunr_error.specs.Text.{Text, Bytes};
 ghost use Rattle.elasticlunr_trie_nodes.specs.Table.{Table, IsTable, postings_of};
 ghost use Rattle.std.specs.FinMap.{entries};
@@ -8,13 +9,14 @@ ghost use Rattle.serde_json.specs.Find.{get};
 ghost use Rattle.serde_json.specs.View.{view, members_view};
 ghost use Rattle.elasticlunr_json.specs.Refused.{IsRefused};
 ghost use Rattle.elasticlunr_trie.specs.Tree.{frequency, frequencies, HasKeysInOrder, IsTree};
-ghost use Rattle.elasticlunr_trie.specs.Reading.{borrowed_values, ReadsChildren, ReadsNode, HasForeignKey};
+ghost use Rattle.elasticlunr_trie.specs.Reading.{borrowed_values, ReadsChildren, ReadsNode};
+ghost use Rattle.elasticlunr_trie.specs.Reading.{HasForeignKey};
 ghost use Rattle.std.specs.Str.{all_scalars};
 ghost use Rattle.elasticlunr_trie_nodes.specs.Trie.{IsIndex, table_of};
 
 use elasticlunr_error::IndexError;
 use elasticlunr_trie_nodes::child::Child;
-use elasticlunr_trie_nodes::few::Few;
+use elasticlunr_trie_nodes::inline_list::InlineList;
 use elasticlunr_trie_nodes::names::Names;
 use elasticlunr_trie_nodes::nodes::{Children, Node, Reference};
 use elasticlunr_trie_nodes::numbered::number_docs;
@@ -24,8 +26,10 @@ use std::collections::BTreeMap;
 
 // The value of an object's one member, where that has the given key.
 pub(super) fn only_member<'a>(value: &'a Value, key: &str) -> Option<&'a Value>
-    ensures found { IfSome result (λ v. view value.now ≡ object (member key.now (view v.now) no_members)) }
-    ensures none { result ≡ None → (d : Data) → view value.now ≢ object (member key.now d no_members) }
+    ensures found { IfSome result (λ v. view value.now
+        ≡ object (member key.now (view v.now) no_members)) }
+    ensures none { result ≡ None → (d : Data)
+        → view value.now ≢ object (member key.now d no_members) }
 {
     let members = value.as_object()?;
     if members.len() != 1 {
@@ -45,8 +49,10 @@ fn read_frequency(value: &Value) -> Option<u64>
 
 // The postings that the value under `docs` tells.
 fn read_docs(alloc: Global, value: &Value) -> Result<BTreeMap<String, u64>, IndexError>
-    ensures ok { IfOk result (λ m. view value.now ≡ object (frequencies (entries (postings_of m.entries)))) }
-    ensures foreign { IfErr result (IsRefused ((es : List (Bytes × ℕ)) → view value.now ≢ object (frequencies es))) }
+    ensures ok { IfOk result (λ m. view value.now
+        ≡ object (frequencies (entries (postings_of m.entries)))) }
+    ensures foreign { IfErr result (IsRefused ((es : List (Bytes × ℕ))
+        → view value.now ≢ object (frequencies es))) }
 {
     let Some(docs) = value.as_object() else {
         return Err(IndexError::ForeignValue);
@@ -64,7 +70,8 @@ fn read_docs(alloc: Global, value: &Value) -> Result<BTreeMap<String, u64>, Inde
 // The character of a text of one character.
 fn only_char(text: &str) -> Option<char>
     ensures found { IfSome result (λ c. (text.now ≡ encode_utf8 c) × (all_scalars (c ∷ []) ≡ true)) }
-    ensures none { result ≡ None → (c : ℕ) → all_scalars (c ∷ []) ≡ true → text.now ≢ encode_utf8 c }
+    ensures none { result ≡ None → (c : ℕ) → all_scalars (c ∷ []) ≡ true
+        → text.now ≢ encode_utf8 c }
 {
     let mut letters = text.chars();
     let c = letters.next()?;
@@ -81,7 +88,8 @@ fn is_own_key(key: &str) -> bool
     key == "docs" || key == "df"
 }
 
-// The children that the members tell, numbered on from the values that wait. Their values wait after these.
+// The children that the members tell, numbered on from the values that wait. Their values wait
+// after these.
 // Keys come in the order of their bytes, which is that of the characters, so each child goes last.
 fn read_children<'a>(
     alloc: Global,
@@ -93,7 +101,7 @@ fn read_children<'a>(
     ensures order { IfOk result (λ _. HasKeysInOrder (members_view members.now.entries)) }
     ensures foreign { IfErr result (IsRefused (HasForeignKey (members_view members.now.entries))) }
 {
-    let mut children = Few::new(alloc);
+    let mut children = InlineList::new(alloc);
     for (key, value) in members.iter() {
         if is_own_key(key.as_str()) {
             continue;
@@ -126,7 +134,8 @@ fn read_node<'a>(
 ) -> Result<(Children, BTreeMap<String, u64>), IndexError>
     ensures ok { IfOk result (λ n. ReadsNode n.0.items n.1.entries
         (borrowed_values waiting.old.items) (borrowed_values waiting.new.items) (view value.now)) }
-    ensures foreign { IfErr result (IsRefused ((T : Table) (p : Text) → IsTable T → ¬ (IsTree T p (view value.now)))) }
+    ensures foreign { IfErr result (IsRefused ((T : Table) (p : Text) → IsTable T
+        → ¬ (IsTree T p (view value.now)))) }
 {
     let Some(members) = value.as_object() else {
         return Err(IndexError::ForeignValue);
@@ -142,7 +151,8 @@ fn read_node<'a>(
     Ok((children, postings))
 }
 
-// The root's children and the nodes that a value tells, with the names and the lists of their references.
+// The root's children and the nodes that a value tells, with the names and the lists of their
+// references.
 pub(super) fn read_nodes(
     alloc: Global,
     value: &Value,
@@ -151,8 +161,10 @@ pub(super) fn read_nodes(
 ) -> Result<(Vec<Child>, Vec<Node>), IndexError>
     requires { names.old ≡ [] }
     ensures index { IfOk result (λ t. IsIndex t.0.items t.1.items names.new references.new.items) }
-    ensures tree { IfOk result (λ t. IsTree (table_of t.0.items t.1.items names.new) [] (view value.now)) }
-    ensures foreign { IfErr result (IsRefused ((T : Table) → IsTable T → ¬ (IsTree T [] (view value.now)))) }
+    ensures tree { IfOk result (λ t. IsTree (table_of t.0.items t.1.items names.new) []
+        (view value.now)) }
+    ensures foreign { IfErr result (IsRefused ((T : Table) → IsTable T
+        → ¬ (IsTree T [] (view value.now)))) }
 {
     let mut waiting = Vec::new(alloc);
     let (first, docs) = read_node(alloc, value, &mut waiting)?;

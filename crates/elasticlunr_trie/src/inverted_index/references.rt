@@ -1,5 +1,6 @@
 //! The references of a token.
-ghost use Rattle.std.specs.Prelude.{◌≡◌, ◌↔◌, ◌||◌, IsTrue, IsSome, is_some, IfOk, OnOk, OnErr, IsOkUnless};
+ghost use Rattle.std.specs.Prelude.{◌≡◌, ◌↔◌, ◌||◌, IsTrue, IsSome, is_some, IfOk, OnOk, OnErr};
+ghost use Rattle.std.specs.Prelude.{IsOkUnless};
 ghost use Rattle.std.specs.List.Sorted.{IsStrictlySortedBy};
 ghost use Rattle.std.specs.Str.{chars};
 ghost use Rattle.elasticlunr_error.specs.Text.{Bytes, bytes_of, is_listed, text_cmp};
@@ -36,7 +37,8 @@ impl InvertedIndex {
 
 impl InvertedIndex {
     /// Puts the references that have a posting at a token into a set, which takes no copies of
-    /// them. The work is in proportion to the token and its postings, with a look-up in the set for
+    /// them. The work is in proportion to the token and its postings, with a look-up in the set
+    /// for
     /// each. Where memory is refused, some of them may stand there.
     pub fn put_references<'a>(
         &'a self,
@@ -45,9 +47,11 @@ impl InvertedIndex {
     ) -> Result<(), IndexError>
         ensures listed { OnOk result ((r : Bytes) → is_listed r (texts_in found.new)
             ≡ (is_listed r (texts_in found.old) || is_some (posting self.now (chars token.now) r))) }
-        ensures keeps { (r : Bytes) → IsTrue (is_listed r (texts_in found.old)) → IsTrue (is_listed r (texts_in found.new)) }
+        ensures keeps { (r : Bytes) → IsTrue (is_listed r (texts_in found.old))
+            → IsTrue (is_listed r (texts_in found.new)) }
         ensures err { OnErr result ((r : Bytes) → IsTrue (is_listed r (texts_in found.new))
-            → IsTrue (is_listed r (texts_in found.old) || is_some (posting self.now (chars token.now) r))) }
+            → IsTrue (is_listed r (texts_in found.old) || is_some
+            (posting self.now (chars token.now) r))) }
         ensures memory { IsOkUnless result Memory }
     {
         match find_postings(&self.root, &self.nodes, token) {
@@ -67,9 +71,11 @@ fn put_names<'a>(
     requires postings { ArePostings names.now pairs.now }
     ensures listed { OnOk result ((r : Bytes) → is_listed r (texts_in found.new)
         ≡ (is_listed r (texts_in found.old) || is_some (get (named_pairs names.now pairs.now) r))) }
-    ensures keeps { (r : Bytes) → IsTrue (is_listed r (texts_in found.old)) → IsTrue (is_listed r (texts_in found.new)) }
+    ensures keeps { (r : Bytes) → IsTrue (is_listed r (texts_in found.old))
+        → IsTrue (is_listed r (texts_in found.new)) }
     ensures err { OnErr result ((r : Bytes) → IsTrue (is_listed r (texts_in found.new))
-        → IsTrue (is_listed r (texts_in found.old) || is_some (get (named_pairs names.now pairs.now) r))) }
+        → IsTrue (is_listed r (texts_in found.old) || is_some
+        (get (named_pairs names.now pairs.now) r))) }
 {
     for posting in pairs {
         found.insert(names.name(posting.number()))?;

@@ -2,7 +2,8 @@
 ghost use Rattle.std.specs.Prelude.{◌≡◌, ℕ, ◌<◌, IsTrue, Some, length};
 ghost use Rattle.std.specs.Str.{chars};
 ghost use Rattle.std.specs.FinMap.{get};
-ghost use Rattle.elasticlunr_trie_nodes.specs.Nodes.{postings_at, has, AreListed, ClearsNumber, LosesNumber, LosesReference};
+ghost use Rattle.elasticlunr_trie_nodes.specs.Nodes.{postings_at, has, AreListed, ClearsNumber};
+ghost use Rattle.elasticlunr_trie_nodes.specs.Nodes.{LosesNumber, LosesReference};
 ghost use Rattle.elasticlunr_trie_nodes.specs.Trie.{IsTrie, RemovesPosting};
 
 use elasticlunr_trie_nodes::child::Child;
@@ -23,7 +24,8 @@ fn clear_number(nodes: &mut Vec<Node>, k: usize, number: usize)
 
 // Takes the postings of a reference away, at the nodes that it lists.
 fn remove_number(nodes: &mut Vec<Node>, list: &[Number], number: usize)
-    requires { (k f : ℕ) → get (postings_at nodes.old.items k) number ≡ Some f → IsTrue (has list.now k) }
+    requires { (k f : ℕ) → get (postings_at nodes.old.items k) number ≡ Some f
+        → IsTrue (has list.now k) }
     ensures { LosesNumber nodes.old.items nodes.new.items number }
 {
     for node in list {
@@ -68,7 +70,8 @@ pub(super) fn remove_posting(
     requires trie { IsTrie root.now nodes.old.items }
     requires listed { AreListed names.now references.old.items nodes.old.items }
     ensures listed { AreListed names.now references.new.items nodes.new.items }
-    ensures removes { RemovesPosting root.now names.now nodes.old.items nodes.new.items (chars token.now) doc_ref.now }
+    ensures removes { RemovesPosting root.now names.now nodes.old.items nodes.new.items
+        (chars token.now) doc_ref.now }
 {
     let Some(number) = names.number_of(doc_ref) else {
         return;

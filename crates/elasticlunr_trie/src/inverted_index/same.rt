@@ -2,7 +2,8 @@
 ghost use Rattle.std.specs.Prelude.{◌≡◌, ◌<◌, ◌↔◌, ℕ, Some, length, IsTrue, slice_get};
 ghost use Rattle.elasticlunr_error.specs.Text.{Bytes};
 ghost use Rattle.std.specs.FinMap.{get};
-ghost use Rattle.elasticlunr_trie_nodes.specs.Names.{ArePostings, named_pairs, AreNames, AreNumbered, at};
+ghost use Rattle.elasticlunr_trie_nodes.specs.Names.{ArePostings, named_pairs, AreNames};
+ghost use Rattle.elasticlunr_trie_nodes.specs.Names.{AreNumbered, at};
 ghost use Rattle.elasticlunr_trie_nodes.specs.Nodes.{postings_at, AreAllNumbered};
 ghost use Rattle.elasticlunr_trie_nodes.specs.Trie.{named, IsTrie};
 ghost use Rattle.elasticlunr_trie.specs.Same.{IsSameBelow};
@@ -32,7 +33,8 @@ fn same_posting(
 fn includes(names: &Names, pairs: &[Posting], names2: &Names, postings2: &Postings) -> bool
     requires names { AreNames names.now }
     requires postings { ArePostings names.now pairs.now }
-    ensures { IsTrue result ↔ ((r : Bytes) → (f : ℕ) → get (named_pairs names.now pairs.now) r ≡ Some f
+    ensures { IsTrue result ↔ ((r : Bytes) → (f : ℕ) → get (named_pairs names.now pairs.now) r
+        ≡ Some f
         → at names2.now r postings2.now ≡ Some f) }
 {
     for posting in pairs {
@@ -77,7 +79,8 @@ fn same_child(
     requires in_range { child.1 < length nodes.now }
     requires in_range2 { child2.1 < length nodes2.now }
     ensures { IsTrue result ↔ ((child.0 ≡ child2.0)
-        × (named names.now (postings_at nodes.now child.1) ≡ named names2.now (postings_at nodes2.now child2.1))) }
+        × (named names.now (postings_at nodes.now child.1)
+        ≡ named names2.now (postings_at nodes2.now child2.1))) }
 {
     if child.character() != child2.character() {
         return false;
@@ -108,7 +111,8 @@ pub(super) fn same_below(
     requires trie2 { IsTrie root2.now nodes2.now }
     requires names2 { AreNames names2.now }
     requires numbered2 { AreAllNumbered names2.now nodes2.now }
-    ensures { IsTrue result ↔ IsSameBelow names.now root.now nodes.now place names2.now root2.now nodes2.now place2 }
+    ensures { IsTrue result ↔ IsSameBelow names.now root.now nodes.now place names2.now root2.now
+        nodes2.now place2 }
 {
     let mut here = place;
     let mut here2 = place2;

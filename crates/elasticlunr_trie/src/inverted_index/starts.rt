@@ -2,8 +2,9 @@
 //! characters; the walks of several don't wait for one another.
 ghost use Rattle.std.specs.Prelude.{◌≡◌, map, All, IfOk, OnOk, OnErr};
 ghost use Rattle.std.specs.Str.{chars};
-ghost use Rattle.elasticlunr_trie.specs.Ends.{AreEnds};
-ghost use Rattle.elasticlunr_trie_nodes.specs.Table.{AreChanged, IsChanged, additions, told_tokens};
+ghost use Rattle.elasticlunr_trie.specs.TokenCache.{AreEnds};
+ghost use Rattle.elasticlunr_trie_nodes.specs.Table.{AreChanged, IsChanged, additions};
+ghost use Rattle.elasticlunr_trie_nodes.specs.Table.{told_tokens};
 ghost use Rattle.elasticlunr_trie_nodes.specs.Table.Change.{add};
 ghost use Rattle.elasticlunr_trie_nodes.specs.Trie.{Step, step_of, IsTrie, IsIndex};
 ghost use Rattle.elasticlunr_trie_nodes.specs.NodeTables.{node_table};
@@ -11,13 +12,13 @@ ghost use Rattle.elasticlunr_trie_nodes.specs.Starts.{IsStart, KeepsPaths, told}
 ghost use Rattle.elasticlunr_trie.specs.Begun.{AreBegun};
 
 use super::add::add_posting;
-use super::ends::{Ends, begin, remember};
+use super::ends::{TokenCache, begin, remember};
 use elasticlunr_trie_nodes::branch::locate;
 use elasticlunr_trie_nodes::child::Child;
 use elasticlunr_trie_nodes::names::Names;
 use elasticlunr_trie_nodes::nodes::{Node, Place, Reference, child, children_at};
 use elasticlunr_trie_nodes::room::make_room;
-use elasticlunr_trie_nodes::start::Start;
+use elasticlunr_trie_nodes::start::WalkedToken;
 use std::alloc::{AllocError, Global};
 
 // How many characters of each token are walked side by side. What follows them is mostly a path
@@ -25,7 +26,7 @@ use std::alloc::{AllocError, Global};
 const STEPS: usize = 5;
 
 // One character further, if there is a child under it.
-fn step<'a>(root: &[Child], nodes: &[Node], start: Start<'a>) -> Start<'a>
+fn step<'a>(root: &[Child], nodes: &[Node], start: WalkedToken<'a>) -> WalkedToken<'a>
     requires trie { IsTrie root.now nodes.now }
     requires start { IsStart (step_of root.now nodes.now) start }
     ensures start { IsStart (step_of root.now nodes.now) result }
@@ -36,7 +37,7 @@ fn step<'a>(root: &[Child], nodes: &[Node], start: Start<'a>) -> Start<'a>
         return start;
     };
     match child(children_at(root, nodes, start.place), c) {
-        Some(k) => Start {
+        Some(k) => WalkedToken {
             token: start.token,
             frequency: start.frequency,
             place: Place::At(k),
@@ -47,7 +48,7 @@ fn step<'a>(root: &[Child], nodes: &[Node], start: Start<'a>) -> Start<'a>
 }
 
 // Each one character further.
-fn step_all(root: &[Child], nodes: &[Node], starts: &mut [Start<'_>])
+fn step_all(root: &[Child], nodes: &[Node], starts: &mut [WalkedToken<'_>])
     requires trie { IsTrie root.now nodes.now }
     requires starts { All (IsStart (step_of root.now nodes.now)) starts.old }
     ensures starts { All (IsStart (step_of root.now nodes.now)) starts.new }
@@ -62,14 +63,14 @@ fn step_all(root: &[Child], nodes: &[Node], starts: &mut [Start<'_>])
 }
 
 // To the end of what is known of the token.
-fn finish<'a>(root: &[Child], nodes: &[Node], start: Start<'a>) -> Start<'a>
+fn finish<'a>(root: &[Child], nodes: &[Node], start: WalkedToken<'a>) -> WalkedToken<'a>
     requires trie { IsTrie root.now nodes.now }
     requires start { IsStart (step_of root.now nodes.now) start }
     ensures start { IsStart (step_of root.now nodes.now) result }
     ensures told { told result ≡ told start.entry }
 {
     let (place, rest) = locate(root, nodes, start);
-    Start {
+    WalkedToken {
         token: start.token,
         frequency: start.frequency,
         place,
@@ -78,7 +79,7 @@ fn finish<'a>(root: &[Child], nodes: &[Node], start: Start<'a>) -> Start<'a>
 }
 
 // Each to the end of what is known of it.
-fn finish_all(root: &[Child], nodes: &[Node], starts: &mut [Start<'_>])
+fn finish_all(root: &[Child], nodes: &[Node], starts: &mut [WalkedToken<'_>])
     requires trie { IsTrie root.now nodes.now }
     requires starts { All (IsStart (step_of root.now nodes.now)) starts.old }
     ensures starts { All (IsStart (step_of root.now nodes.now)) starts.new }
@@ -94,13 +95,13 @@ fn finish_all(root: &[Child], nodes: &[Node], starts: &mut [Start<'_>])
 
 // Tokens with their frequencies, each walked as far as it is known. A token that came before may
 // lead to its end at once.
-pub(super) fn starts_of<'a>(
+pub(super) fn walked_tokens<'a>(
     alloc: Global,
     root: &[Child],
     nodes: &[Node],
-    ends: &mut Ends,
+    ends: &mut TokenCache,
     tokens: &[(&'a str, u64)],
-) -> Result<Vec<Start<'a>>, AllocError>
+) -> Result<Vec<WalkedToken<'a>>, AllocError>
     requires trie { IsTrie root.now nodes.now }
     requires ends { AreEnds (step_of root.now nodes.now) ends.old }
     ensures ends { AreEnds (step_of root.now nodes.now) ends.new }
@@ -123,10 +124,10 @@ fn begun<'a>(
     alloc: Global,
     root: &[Child],
     nodes: &[Node],
-    ends: &Ends,
+    ends: &TokenCache,
     tokens: &[(&'a str, u64)],
     missed: &mut Vec<usize>,
-) -> Result<Vec<Start<'a>>, AllocError>
+) -> Result<Vec<WalkedToken<'a>>, AllocError>
     requires ends { AreEnds (step_of root.now nodes.now) ends.now }
     ensures starts { IfOk result (λ v. All (IsStart (step_of root.now nodes.now)) v.items) }
     ensures told { IfOk result (λ v. map told v.items ≡ told_tokens tokens.now) }
@@ -147,8 +148,8 @@ fn remember_all(
     alloc: Global,
     root: &[Child],
     nodes: &[Node],
-    ends: &mut Ends,
-    starts: &[Start<'_>],
+    ends: &mut TokenCache,
+    starts: &[WalkedToken<'_>],
     missed: &[usize],
 ) -> Result<(), AllocError>
     requires ends { AreEnds (step_of root.now nodes.now) ends.old }
@@ -171,16 +172,18 @@ fn add_start(
     names: &mut Names,
     references: &mut Vec<Reference>,
     doc_ref: &str,
-    start: Start<'_>,
+    start: WalkedToken<'_>,
 ) -> Result<(), AllocError>
     requires index { IsIndex root.old.items nodes.old.items names.old references.old.items }
     requires start { IsStart (step_of root.old.items nodes.old.items) start }
     ensures index { IsIndex root.new.items nodes.new.items names.new references.new.items }
-    ensures ok { OnOk result (IsChanged (add (chars start.entry.token.now) doc_ref.now start.entry.frequency)
+    ensures ok { OnOk result (IsChanged
+        (add (chars start.entry.token.now) doc_ref.now start.entry.frequency)
         (node_table root.old nodes.old names.old) (node_table root.new nodes.new names.new)) }
     ensures paths { OnOk result (KeepsPaths (step_of root.old.items nodes.old.items)
         (step_of root.new.items nodes.new.items)) }
-    ensures err { OnErr result (node_table root.new nodes.new names.new ≡ node_table root.old nodes.old names.old) }
+    ensures err { OnErr result (node_table root.new nodes.new names.new
+        ≡ node_table root.old nodes.old names.old) }
 {
     if start.token.is_empty() {
         return Ok(());
@@ -189,14 +192,14 @@ fn add_start(
 }
 
 // Sets the postings of tokens, one after the other.
-pub(super) fn add_starts(
+pub(super) fn add_walked(
     alloc: Global,
     root: &mut Vec<Child>,
     nodes: &mut Vec<Node>,
     names: &mut Names,
     references: &mut Vec<Reference>,
     doc_ref: &str,
-    starts: &[Start<'_>],
+    starts: &[WalkedToken<'_>],
 ) -> Result<(), AllocError>
     requires index { IsIndex root.old.items nodes.old.items names.old references.old.items }
     requires starts { All (IsStart (step_of root.old.items nodes.old.items)) starts.now }

@@ -2,9 +2,11 @@
 ghost use Rattle.std.specs.Prelude.{◌≡◌, ◌↔◌, ◌+◌, ◌++◌, ℕ, IsTrue, IfOk, OnOk, length};
 ghost use Rattle.std.specs.List.Sorted.{IsStrictlySortedBy};
 ghost use Rattle.std.specs.Str.{chars};
-ghost use Rattle.elasticlunr_error.specs.Text.{Text, bytes_of, is_listed, text_cmp, text_of, texts_of};
+ghost use Rattle.elasticlunr_error.specs.Text.{Text, bytes_of, is_listed, text_cmp, text_of};
+ghost use Rattle.elasticlunr_error.specs.Text.{texts_of};
 ghost use Rattle.elasticlunr_trie.specs.Tokens.{IsTokenFrom};
-ghost use Rattle.elasticlunr_trie.specs.Visits.{below, is_posted, left, node_visits, posted, Advances, HasVisits};
+ghost use Rattle.elasticlunr_trie.specs.Visits.{below, is_posted, left, node_visits, posted};
+ghost use Rattle.elasticlunr_trie.specs.Visits.{Advances, HasVisits};
 
 use super::InvertedIndex;
 use elasticlunr_trie_nodes::child::Child;
@@ -88,7 +90,8 @@ fn visit_below(
     Ok(())
 }
 
-// Visits the first of the children that are left at the end of a path, or goes back by a character.
+// Visits the first of the children that are left at the end of a path, or goes back by a
+// character.
 fn visit_next<'a>(
     nodes: &'a [Node],
     children: &'a [Child],
@@ -98,7 +101,8 @@ fn visit_next<'a>(
 ) -> Result<(), AllocError>
     requires { HasVisits nodes.now }
     ensures { OnOk result ((n : ℕ) → length (text_of path.old) ≡ n + length stack.old.items
-        → Advances nodes.now n (text_of path.old) children.now stack.old.items (texts_of found.old.items)
+        → Advances nodes.now n (text_of path.old) children.now stack.old.items
+        (texts_of found.old.items)
         (text_of path.new) stack.new.items (texts_of found.new.items)) }
 {
     match children.split_first() {

@@ -1,5 +1,6 @@
 //! The JSON value of a trie, made from the last node to the first.
-ghost use Rattle.std.specs.Prelude.{Some, map, ◌≡◌, ℕ, ◌<◌, [], length, IfOk, OnOk, slice_set, ◌≢◌, slice_get};
+ghost use Rattle.std.specs.Prelude.{Some, map, ◌≡◌, ℕ, ◌<◌, [], length, IfOk, OnOk, slice_set};
+ghost use Rattle.std.specs.Prelude.{◌≢◌, slice_get};
 ghost use Rattle.elasticlunr_trie_nodes.specs.Table.{Postings};
 ghost use Rattle.elasticlunr_trie_nodes.specs.Pairs.{IsStrictlySorted};
 ghost use Rattle.elasticlunr_trie_nodes.specs.Names.{AreNames, AreRanks, AreThere, under_names};
@@ -27,7 +28,8 @@ fn docs_value(
     ranked: &[(usize, usize, u64)],
 ) -> Result<Value, AllocError>
     requires there { AreThere names.now ranked.now }
-    requires shown { (P : Postings) × (entries P ≡ under_names names.now (map (λ e. (e.1, e.2)) ranked.now)) }
+    requires shown { (P : Postings) × (entries P
+        ≡ under_names names.now (map (λ e. (e.1, e.2)) ranked.now)) }
     ensures { IfOk result (λ v. view v ≡ object
         (frequencies (under_names names.now (map (λ e. (e.1, e.2)) ranked.now)))) }
 {
@@ -55,8 +57,10 @@ fn put_children(
     requires empty { members.old.entries ≡ [] }
     requires sorted { IsStrictlySorted children.now }
     requires in_range { (c : ℕ) (k : ℕ) → child children.now c ≡ Some k → k < length finished.old }
-    requires apart { (c : ℕ) (d : ℕ) (k : ℕ) → child children.now c ≡ Some k → child children.now d ≡ Some k → c ≡ d }
-    ensures put { OnOk result (HasChildren children.now finished.old (members_view members.new.entries)) }
+    requires apart { (c : ℕ) (d : ℕ) (k : ℕ) → child children.now c ≡ Some k → child children.now d
+        ≡ Some k → c ≡ d }
+    ensures put { OnOk result (HasChildren children.now finished.old
+        (members_view members.new.entries)) }
     ensures kept { OnOk result (KeepsOtherValues children.now finished.old finished.new) }
 {
     for child in children {
@@ -77,7 +81,8 @@ fn node_value(
 ) -> Result<Value, AllocError>
     requires sorted { IsStrictlySorted children.now }
     requires in_range { (c : ℕ) (k : ℕ) → child children.now c ≡ Some k → k < length finished.old }
-    requires apart { (c : ℕ) (d : ℕ) (k : ℕ) → child children.now c ≡ Some k → child children.now d ≡ Some k → c ≡ d }
+    requires apart { (c : ℕ) (d : ℕ) (k : ℕ) → child children.now c ≡ Some k → child children.now d
+        ≡ Some k → c ≡ d }
     ensures node { IfOk result (λ v. (ms : Members) × (view v ≡ object ms)
         × IsNode children.now finished.old (view docs) df ms) }
     ensures kept { OnOk result (KeepsOtherValues children.now finished.old finished.new) }

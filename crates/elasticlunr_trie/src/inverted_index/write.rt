@@ -10,7 +10,9 @@ ghost use Rattle.elasticlunr_trie_nodes.specs.Names.{Names, AreNumbered, AreTher
 ghost use Rattle.elasticlunr_trie_nodes.specs.Nodes.{AreAllNumbered, postings_at};
 ghost use Rattle.elasticlunr_trie_nodes.specs.Trie.{IsTrie, named, table_of, entries_at};
 ghost use Rattle.elasticlunr_trie.specs.Tree.{IsTrieValue, frequencies};
-ghost use Rattle.elasticlunr_trie.specs.Printed.{IsOrder, place_members, node_tree, postings_tokens, left_members, node_members, stack_tokens, Advances, HasTrees};
+ghost use Rattle.elasticlunr_trie.specs.Printed.{IsOrder, place_members, node_tree};
+ghost use Rattle.elasticlunr_trie.specs.Printed.{postings_tokens, left_members, node_members};
+ghost use Rattle.elasticlunr_trie.specs.Printed.{stack_tokens, Advances, HasTrees};
 ghost use Rattle.elasticlunr_json.specs.Tokens.{tokens_of};
 
 use super::InvertedIndex;
@@ -40,7 +42,8 @@ struct Order<'a> {
 
 impl InvertedIndex {
     /// Writes the JSON value of the trie, without making it. Takes 32 bytes of memory a reference
-    /// and a copy of its name, and a few a level, beside what is written, and 24 for each posting of the node that is
+    /// and a copy of its name, and a few a level, beside what is written, and 24 for each posting
+    /// of the node that is
     /// written. The names are put in order once, and each node's postings by them.
     pub fn write<W: Tokens>(&self, out: &mut W) -> Result<(), AllocError>
         ensures written { OnOk result ((v : Data) × IsTrieValue self.now v
@@ -69,7 +72,8 @@ fn write_trie<W: Tokens>(
     requires trie { IsTrie root.now nodes.now }
     requires order { IsOrder order }
     requires numbered { AreAllNumbered order.names.now nodes.now }
-    ensures { OnOk result ((v : Data) × IsTrieValue (table_of root.now nodes.now order.entry.names.now) v
+    ensures { OnOk result ((v : Data)
+        × IsTrieValue (table_of root.now nodes.now order.entry.names.now) v
         × (W.Tokens.written out.new ≡ W.Tokens.written out.old ++ json_tokens (outline v))) }
 {
     out.token(Token::BeginObject)?;
@@ -155,7 +159,8 @@ fn open_child<'a, W: Tokens>(
     ensures written { OnOk result (W.Tokens.written out.new ≡ W.Tokens.written out.old
         ++ key (encode_utf8 child.0) ∷ begin_object ∷ []) }
     ensures left { OnOk result ((names : Names) → stack_tokens names nodes.now stack.new.items
-        ≡ tokens_of (node_members names nodes.now child.1) ++ stack_tokens names nodes.now stack.old.items) }
+        ≡ tokens_of (node_members names nodes.now child.1) ++ stack_tokens names nodes.now
+        stack.old.items) }
 {
     write_child_key(child.character(), out)?;
     let k = child.node();

@@ -15,6 +15,8 @@ returns c = record {
   are_pairs = c.in_ok-pairs.ensures;
   value = c.in_ok-value.ensures
       ∙ ap (λ d. facts_data (view c.in_ok-between.between) (view c.in_ok-lower.lower) d) (view-Array c.args.stages)
-      ∙ ap (λ d. facts_data d (view c.in_ok-lower.lower) (array (items_of (map view c.args.stages.items)))) (c.in_ok-between.ensures ∙ ap numbers c.deref.ensures.value)
-      ∙ ap (λ d. facts_data (numbers c.in_ok-marks.marks.items) d (array (items_of (map view c.args.stages.items)))) (c.in_ok-lower.ensures ∙ ap (λ ss. texts (bytes_of ss)) c.deref-2.ensures.value);
+      ∙ ap (λ d. facts_data d (view c.in_ok-lower.lower) (array (items_of (map view c.args.stages.items))))
+      (c.in_ok-between.ensures ∙ ap numbers c.deref.ensures.value)
+      ∙ ap (λ d. facts_data (numbers c.in_ok-marks.marks.items) d (array (items_of (map view c.args.stages.items))))
+      (c.in_ok-lower.ensures ∙ ap (λ ss. texts (bytes_of ss)) c.deref-2.ensures.value);
 }

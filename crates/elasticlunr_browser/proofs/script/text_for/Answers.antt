@@ -11,5 +11,6 @@ returns c = (
   c.in_ok-stages.ensures,
   c.in_ok-known.ensures,
   c.in_ok-text.ensures ∙ ap (λ bs. HEAD.now ++ bs ++ TAIL.now) (c.as_str.ensures.value
-      ∙ c.in_ok-printed.ensures.text (none-facts c.args.chosen.now (map view c.in_ok-stages.stages.items) (view c.in_ok-known.known) c.in_ok-stages.ensures c.in_ok-known.ensures)),
+      ∙ c.in_ok-printed.ensures.text (none-facts c.args.chosen.now (map view c.in_ok-stages.stages.items)
+      (view c.in_ok-known.known) c.in_ok-stages.ensures c.in_ok-known.ensures)),
 )

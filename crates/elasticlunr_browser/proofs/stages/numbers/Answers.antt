@@ -9,4 +9,5 @@ pub returns : goal.returns
 returns c =
     view-Array c.loop-mark.items
     ∙ ap (λ ds. array (items_of ds)) c.loop-mark.invariant
-    ∙ ap (λ marks. array (items_of (map (λ n. number (unsigned n)) marks))) (take_all c.loop-mark.mark-index c.args.marks.now c.loop-mark-test.false)
+    ∙ ap (λ marks. array (items_of (map (λ n. number (unsigned n)) marks)))
+    (take_all c.loop-mark.mark-index c.args.marks.now c.loop-mark-test.false)

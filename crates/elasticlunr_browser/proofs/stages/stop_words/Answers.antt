@@ -11,5 +11,6 @@ returns c = record {
   listed = c.in_ok-listed.ensures;
   value = c.in_ok-value.ensures
       ∙ ap (λ bs. filter_data bs (view c.in_ok-words.words)) (c.as_str.ensures.value ∙ c.in_ok-name.ensures)
-      ∙ ap (λ d. filter_data (filter_name c.args.filter.now) d) (c.in_ok-words.ensures ∙ ap (λ ss. texts (bytes_of ss)) c.deref.ensures.value);
+      ∙ ap (λ d. filter_data (filter_name c.args.filter.now) d) (c.in_ok-words.ensures
+      ∙ ap (λ ss. texts (bytes_of ss)) c.deref.ensures.value);
 }

@@ -10,4 +10,5 @@ pub returns : goal.returns
 returns c =
     view-Array c.loop-word.items
     ∙ ap (λ ds. array (items_of ds)) c.loop-word.invariant
-    ∙ ap (λ words. array (items_of (map string (bytes_of words)))) (take_all c.loop-word.word-index c.args.words.now c.loop-word-test.false)
+    ∙ ap (λ words. array (items_of (map string (bytes_of words))))
+    (take_all c.loop-word.word-index c.args.words.now c.loop-word-test.false)

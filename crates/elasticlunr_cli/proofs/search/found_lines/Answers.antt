@@ -8,5 +8,11 @@ pub returns-in-Ok-lines_found : goal.returns-in-Ok-lines_found
 returns-in-Ok-lines_found c =
     let found = c.in-Ok-lines_found.ensures.found in
     let text = c.in-Ok.ensures.cases in
-    let index = c.index_in-index.result.now in
-    (index, found.0, subst (λ (whole : Bytes). IsIndexIn whole index) c.without_mark-whole.ensures c.index_in-index.ensures, subst (λ (t : Bytes). ReadsAs t found.0) text.0 found.1, found.2)
+    let index = c.index_in-index.result.now in (
+      index,
+      found.0,
+      subst (λ (whole : Bytes). IsIndexIn whole index) c.without_mark-whole.ensures
+          c.index_in-index.ensures,
+      subst (λ (t : Bytes). ReadsAs t found.0) text.0 found.1,
+      found.2,
+    )

@@ -14,6 +14,7 @@ returns-in-Err-clause-device g c is = c.in-Err.ensures.err
 pub returns-then-count-eq0-clause-all : goal.returns-then-count-eq0-clause-all
 returns-then-count-eq0-clause-all g c =
     let left = g.S.Source.left in (
-      consumed_all (left c.args.source.now) (left c.loop-count.source) (left c.read.new.self) c.loop-count.bytes.items c.read.new.buf c.in-Ok.count c.loop-count.invariant.1 c.in-Ok.ensures.bytes c.if-count-eq0.true,
+      consumed_all (left c.args.source.now) (left c.loop-count.source) (left c.read.new.self) c.loop-count.bytes.items
+          c.read.new.buf c.in-Ok.count c.loop-count.invariant.1 c.in-Ok.ensures.bytes c.if-count-eq0.true,
       c.in-Ok.ensures.end (ap Ok c.if-count-eq0.true),
     )

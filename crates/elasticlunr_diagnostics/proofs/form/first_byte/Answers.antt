@@ -12,4 +12,5 @@ as_it_is (Some b) = refl
 pub returns : goal.returns
 returns c =
     as_it_is c.find.result
-    ∙ find_from_yields_List (λ b. not (is_space b)) _ _ c.find.result c.find.ensures.ran (YieldsList-from_copied (YieldsList-from_slice c.args.line.now cc)) (λ x r q k. search (rules, tests))
+    ∙ find_from_yields_List (λ b. not (is_space b)) _ _ c.find.result c.find.ensures.ran
+    (YieldsList-from_copied (YieldsList-from_slice c.args.line.now cc)) (λ x r q k. search (rules, tests))

@@ -5,4 +5,6 @@ use Rattle.elasticlunr_job_format.specs.Lines.{is_filled}
 use Rattle.elasticlunr_diagnostics.proofs.form.first_filled.Goals as goal
 
 pub returns : goal.returns
-returns c = find_from_yields_List is_filled _ _ _ c.find.ensures.ran (YieldsList-from_slice_split _ _ c.args.text.now c.split.ensures.rest c.split.ensures.done c.split.ensures.closure (λ x r q k. search (rules, tests))) (λ x r q k. search (rules, tests))
+returns c = find_from_yields_List is_filled _ _ _ c.find.ensures.ran
+    (YieldsList-from_slice_split _ _ c.args.text.now c.split.ensures.rest c.split.ensures.done c.split.ensures.closure
+    (λ x r q k. search (rules, tests))) (λ x r q k. search (rules, tests))

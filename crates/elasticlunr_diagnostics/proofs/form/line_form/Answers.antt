@@ -5,8 +5,11 @@ use Rattle.elasticlunr_diagnostics.proofs.form.line_form.Goals as goal
 
 pub returns-in-Ok : goal.returns-in-Ok
 returns-in-Ok c =
-    c.value_form.ensures ∙ sym (line_tells c.args.line.now _ (sym c.begins_an_array.ensures ∙ c.if-begins_an_array.false) (reading_some _ _ c.in-Ok.ensures.ok.0 c.in-Ok.ensures.ok.1))
+    c.value_form.ensures ∙ sym (line_tells c.args.line.now _ (sym c.begins_an_array.ensures
+    ∙ c.if-begins_an_array.false) (reading_some _ _ c.in-Ok.ensures.ok.0 c.in-Ok.ensures.ok.1))
 
 pub returns-in-Err-2 : goal.returns-in-Err-2
 returns-in-Err-2 c =
-    sym (line_tells c.args.line.now None (sym c.begins_an_array.ensures ∙ c.if-begins_an_array.false) (reading_none _ (c.in-Err.ensures.err (λ m. true≢false (sym (c.is_memory.ensures.1 m) ∙ c.if-is_memory.false)))))
+    sym (line_tells c.args.line.now None (sym c.begins_an_array.ensures ∙ c.if-begins_an_array.false)
+    (reading_none _ (c.in-Err.ensures.err
+    (λ m. true≢false (sym (c.is_memory.ensures.1 m) ∙ c.if-is_memory.false)))))

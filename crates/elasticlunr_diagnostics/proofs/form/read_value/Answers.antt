@@ -6,4 +6,5 @@ pub returns-in-Ok-clause-ok : goal.returns-in-Ok-clause-ok
 returns-in-Ok-clause-ok c = reading_some _ _ c.in-Ok.ensures.ok.0 c.in-Ok.ensures.ok.1
 
 pub returns-in_ok-not_json-in-Err-2-clause-err : goal.returns-in_ok-not_json-in-Err-2-clause-err
-returns-in_ok-not_json-in-Err-2-clause-err c = reading_none _ (c.in-Err.ensures.err (λ m. true≢false (sym (c.is_memory.ensures.1 m) ∙ c.if-is_memory.false)))
+returns-in_ok-not_json-in-Err-2-clause-err c =
+    reading_none _ (c.in-Err.ensures.err (λ m. true≢false (sym (c.is_memory.ensures.1 m) ∙ c.if-is_memory.false)))

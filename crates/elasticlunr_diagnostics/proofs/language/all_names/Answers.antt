@@ -6,5 +6,6 @@ use Rattle.elasticlunr_diagnostics.proofs.language.all_names.Goals as goal
 pub returns : goal.returns
 returns c =
     c.loop-language.invariant
-    ∙ ap (λ languages. map language_name (take c.loop-language.language-index languages)) c.languages-language-items.ensures
+    ∙ ap (λ languages. map language_name (take c.loop-language.language-index languages))
+    c.languages-language-items.ensures
     ∙ ap (map language_name) (take_all c.loop-language.language-index all_languages c.loop-language-test.false)

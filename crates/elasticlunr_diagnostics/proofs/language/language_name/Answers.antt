@@ -11,4 +11,5 @@ returns c =
     (sym (drop_all c.loop-language.language-index all_languages c.loop-language-test.false)
     ∙ ap (drop c.loop-language.language-index) (sym c.languages-language-items.ensures))
     ∙ ap (option_map language_name) c.loop-language.invariant
-    ∙ ap (λ languages. option_map language_name (find (is_called c.args.asked.now) languages)) c.languages-language-items.ensures
+    ∙ ap (λ languages. option_map language_name (find (is_called c.args.asked.now) languages))
+    c.languages-language-items.ensures

@@ -5,4 +5,5 @@ use Rattle.elasticlunr_diagnostics.specs.Called.{is_called}
 use Rattle.elasticlunr_diagnostics.proofs.language.language_name.Given as goal
 
 abbrev pub invariant-loop-language : goal.invariant-loop-language
-invariant-loop-language l = find (is_called l.asked) (drop l.language-index l.language-items) ≡ find (is_called l.asked) l.language-items
+invariant-loop-language l = find (is_called l.asked) (drop l.language-index l.language-items)
+    ≡ find (is_called l.asked) l.language-items

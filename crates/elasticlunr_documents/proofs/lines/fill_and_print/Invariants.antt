@@ -17,7 +17,9 @@ invariant-lines g l = record {
   whole : AreWhole text;
   feeds : l.before ≡ count_by (λ b. b == 10) text;
   added : Added (options_told l.fn.options) text l.number
-      (IsDocument language_tokens (λ z. (goal.PipelineFn-dyn g z).leaves z.1) l.fn.index) (StandsFor language_name (λ z. (goal.PipelineFn-dyn g z).name_text z.1) l.fn.index) (StandsFor language_name (λ z. (goal.PipelineFn-dyn g z).name_text z.1) l.index);
+      (IsDocument language_tokens (λ z. (goal.PipelineFn-dyn g z).leaves z.1) l.fn.index)
+      (StandsFor language_name (λ z. (goal.PipelineFn-dyn g z).name_text z.1) l.fn.index)
+      (StandsFor language_name (λ z. (goal.PipelineFn-dyn g z).name_text z.1) l.index);
   settings : SameSettings l.fn.index l.index;
   within : l.number ≤ l.before;
 }

@@ -17,9 +17,15 @@ returns-in_default-clause-err g c = no_language c.args.options.now.language.now 
 pub returns-in_err-add_fields-clause-err : goal.returns-in_err-add_fields-clause-err
 returns-in_err-add_fields-clause-err g c =
     let job = job_of (options_told c.args.options.now) [] in
-    let begun = begun_for job c.in-Some.language (chosen c.in_ok-with_language.field-0) (chosen c.save_docs.result) (chosen c.in_ok-set_ref.field-0) c.in_ok-with_language.ensures.chosen c.save_docs.ensures c.in_ok-set_ref.ensures.chosen in
-    twice_exit c.from_residual-in_err-add_fields.result (options_told c.args.options.now) (g.R.Read.remaining c.args.reader.now) c.args.last.now c.in_err-add_fields.field-0.0 c.from_residual-in_err-add_fields.ensures.1 (c.in-Some.language, c.in-Some.ensures.found)
-    (λ is. told_fields (λ names. all_differ names ≡ false) job c.in-Some.language (chosen c.in_ok-set_ref.field-0) c.deref.result.now begun (ap texts_told c.deref.ensures.value) (c.add_fields.ensures.duplicate (c.in_err-add_fields.was ∙ ap Err is)))
+    let begun = begun_for job c.in-Some.language (chosen c.in_ok-with_language.field-0) (chosen c.save_docs.result)
+    (chosen c.in_ok-set_ref.field-0) c.in_ok-with_language.ensures.chosen c.save_docs.ensures
+    c.in_ok-set_ref.ensures.chosen in
+    twice_exit c.from_residual-in_err-add_fields.result (options_told c.args.options.now)
+    (g.R.Read.remaining c.args.reader.now) c.args.last.now c.in_err-add_fields.field-0.0
+    c.from_residual-in_err-add_fields.ensures.1 (c.in-Some.language, c.in-Some.ensures.found)
+    (λ is. told_fields (λ names. all_differ names ≡ false) job c.in-Some.language (chosen c.in_ok-set_ref.field-0)
+    c.deref.result.now begun (ap texts_told c.deref.ensures.value)
+    (c.add_fields.ensures.duplicate (c.in_err-add_fields.was ∙ ap Err is)))
     c.in_err-add_fields.ensures.errors
 
 pub returns-clause-err : goal.returns-clause-err
@@ -27,11 +33,16 @@ returns-clause-err g c =
     let options = options_told c.args.options.now in
     let job = job_of options [] in
     let language = c.in-Some.language in
-    let begun = begun_for job language (chosen c.in_ok-with_language.field-0) (chosen c.save_docs.result) (chosen c.in_ok-set_ref.field-0) c.in_ok-with_language.ensures.chosen c.save_docs.ensures c.in_ok-set_ref.ensures.chosen in
+    let begun = begun_for job language (chosen c.in_ok-with_language.field-0) (chosen c.save_docs.result)
+    (chosen c.in_ok-set_ref.field-0) c.in_ok-with_language.ensures.chosen c.save_docs.ensures
+    c.in_ok-set_ref.ensures.chosen in
     let fields = ap texts_told c.deref.ensures.value in
     err_more c.fill_and_print.result _ _
-    (λ e stops. fails_lines options (g.R.Read.remaining c.args.reader.now) c.fill_and_print.new.last e
-    ((language, c.in-Some.ensures.found), told_fields (λ names. all_differ names ≡ true) job language (chosen c.in_ok-set_ref.field-0) c.deref.result.now begun fields c.in_ok-add_fields.ensures.differ)
+    (λ e stops. fails_lines options (g.R.Read.remaining c.args.reader.now) c.fill_and_print.new.last e (
+      (language, c.in-Some.ensures.found),
+      told_fields (λ names. all_differ names ≡ true) job language
+          (chosen c.in_ok-set_ref.field-0) c.deref.result.now begun fields c.in_ok-add_fields.ensures.differ,
+    )
     stops)
     c.fill_and_print.ensures.err
 
@@ -40,12 +51,18 @@ returns-clause-ok g c =
     let options = options_told c.args.options.now in
     let job = job_of options [] in
     let language = c.in-Some.language in
-    let begun = begun_for job language (chosen c.in_ok-with_language.field-0) (chosen c.save_docs.result) (chosen c.in_ok-set_ref.field-0) c.in_ok-with_language.ensures.chosen c.save_docs.ensures c.in_ok-set_ref.ensures.chosen in
+    let begun = begun_for job language (chosen c.in_ok-with_language.field-0) (chosen c.save_docs.result)
+    (chosen c.in_ok-set_ref.field-0) c.in_ok-with_language.ensures.chosen c.save_docs.ensures
+    c.in_ok-set_ref.ensures.chosen in
     let fields = ap texts_told c.deref.ensures.value in
-    let given = given_told job language (chosen c.in_ok-set_ref.field-0) (chosen c.in_ok-add_fields.field-0) c.deref.result.now begun fields c.in_ok-add_fields.ensures.chosen in
+    let given = given_told job language (chosen c.in_ok-set_ref.field-0) (chosen c.in_ok-add_fields.field-0)
+    c.deref.result.now begun fields c.in_ok-add_fields.ensures.chosen in
     ok_more c.fill_and_print.result _ _
     (λ text fills.
-    let all = fills language (built_for job language (chosen c.in_ok-add_fields.field-0) (choices_of c.in_ok-index.index) _ _ _ given c.in_ok-index.ensures.empty c.in_ok-index.ensures.given c.in_ok-index.ensures.plan c.in_ok-index.ensures.reads (c.an_index_makes_what_its_language_makes.ensures.documents language)) in
+    let all = fills language (built_for job language (chosen c.in_ok-add_fields.field-0)
+    (choices_of c.in_ok-index.index) _ _ _ given c.in_ok-index.ensures.empty c.in_ok-index.ensures.given
+    c.in_ok-index.ensures.plan c.in_ok-index.ensures.reads
+    (c.an_index_makes_what_its_language_makes.ensures.documents language)) in
     let filled = all.2 in (
       all.0,
       all.1,
@@ -59,7 +76,8 @@ returns-clause-ok g c =
             language,
             record {
               named = c.in-Some.ensures.found;
-              distinct = told_fields (λ names. all_differ names ≡ true) job language (chosen c.in_ok-set_ref.field-0) c.deref.result.now begun fields c.in_ok-add_fields.ensures.differ;
+              distinct = told_fields (λ names. all_differ names ≡ true) job language (chosen c.in_ok-set_ref.field-0)
+                  c.deref.result.now begun fields c.in_ok-add_fields.ensures.differ;
               fits = documents_fit options filled.items filled.documents filled.are_documents;
             },
             filled.is_line,
@@ -70,13 +88,21 @@ returns-clause-ok g c =
     c.fill_and_print.ensures.ok
 
 pub returns-in_err-with_language-clause-device : goal.returns-in_err-with_language-clause-device
-returns-in_err-with_language-clause-device g c = exit_for c.from_residual.result _ (index_error_of c.in_err-with_language.field-0.0) c.from_residual.ensures.1 (index_no_device _ c.in_err-with_language.field-0.0)
+returns-in_err-with_language-clause-device g c = exit_for c.from_residual.result _
+    (index_error_of c.in_err-with_language.field-0.0) c.from_residual.ensures.1
+    (index_no_device _ c.in_err-with_language.field-0.0)
 
 pub returns-in_err-set_ref-clause-device : goal.returns-in_err-set_ref-clause-device
-returns-in_err-set_ref-clause-device g c = exit_for c.from_residual-in_err-set_ref.result _ (index_error_of c.in_err-set_ref.field-0.0) c.from_residual-in_err-set_ref.ensures.1 (index_no_device _ c.in_err-set_ref.field-0.0)
+returns-in_err-set_ref-clause-device g c = exit_for c.from_residual-in_err-set_ref.result _
+    (index_error_of c.in_err-set_ref.field-0.0) c.from_residual-in_err-set_ref.ensures.1
+    (index_no_device _ c.in_err-set_ref.field-0.0)
 
 pub returns-in_err-add_fields-clause-device : goal.returns-in_err-add_fields-clause-device
-returns-in_err-add_fields-clause-device g c = exit_for c.from_residual-in_err-add_fields.result _ (index_error_of c.in_err-add_fields.field-0.0) c.from_residual-in_err-add_fields.ensures.1 (index_no_device _ c.in_err-add_fields.field-0.0)
+returns-in_err-add_fields-clause-device g c = exit_for c.from_residual-in_err-add_fields.result _
+    (index_error_of c.in_err-add_fields.field-0.0) c.from_residual-in_err-add_fields.ensures.1
+    (index_no_device _ c.in_err-add_fields.field-0.0)
 
 pub returns-in_err-index-clause-device : goal.returns-in_err-index-clause-device
-returns-in_err-index-clause-device g c = exit_for c.from_residual-in_err-index.result _ (index_error_of c.in_err-index.field-0.0) c.from_residual-in_err-index.ensures.1 (index_no_device _ c.in_err-index.field-0.0)
+returns-in_err-index-clause-device g c = exit_for c.from_residual-in_err-index.result _
+    (index_error_of c.in_err-index.field-0.0) c.from_residual-in_err-index.ensures.1
+    (index_no_device _ c.in_err-index.field-0.0)

@@ -8,6 +8,8 @@ pub returns : goal.returns
 returns c =
     let objects = c.args.objects.now in
     let fields = ap texts_told (c.in_ok-from_slice.ensures.items ∙ c.deref.ensures.value) in
-    let docs = c.loop-object.invariant ∙ ap (map object_told) (take_all c.loop-object.object-index objects c.loop-object-test.false) in
+    let docs = c.loop-object.invariant ∙ ap (map object_told)
+    (take_all c.loop-object.object-index objects c.loop-object-test.false) in
     let remove = ap texts_told c.new.ensures.items in
-    λ i. record (spec.job_of (options_told c.args.options.now) (map object_told objects)) { fields = fields i; docs = docs i; remove = remove i }
+    λ i. record (spec.job_of (options_told c.args.options.now) (map object_told objects))
+    { fields = fields i; docs = docs i; remove = remove i }

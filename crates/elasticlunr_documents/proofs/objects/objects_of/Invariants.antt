@@ -6,4 +6,5 @@ use Rattle.elasticlunr_documents.proofs.objects.objects_of.Given as goal
 
 -- the values so far are these documents
 abbrev pub invariant-loop-i : goal.invariant-loop-i
-invariant-loop-i l = AreDocumentsOf (options_told l.fn.options) (map view (take l.i l.fn.items)) (map object_told l.objects.items)
+invariant-loop-i l = AreDocumentsOf (options_told l.fn.options) (map view (take l.i l.fn.items))
+    (map object_told l.objects.items)

@@ -6,4 +6,5 @@ some_more None P Q more is = tt
 some_more (Some x) P Q more is = more x is
 
 pub returns-in-Err-clause-err : goal.returns-in-Err-clause-err
-returns-in-Err-clause-err g c = some_more (g.R.Read.remaining c.args.reader.now) _ _ (λ _ is. c.blamed.ensures.refused _ _ _ is) c.in-Err.ensures.err
+returns-in-Err-clause-err g c = some_more (g.R.Read.remaining c.args.reader.now) _ _
+    (λ _ is. c.blamed.ensures.refused _ _ _ is) c.in-Err.ensures.err

@@ -14,15 +14,19 @@ use Rattle.elasticlunr_input.proofs.index.index_of_input.Goals as goal
 pub returns-in_err-start-clause-err : goal.returns-in_err-start-clause-err
 returns-in_err-start-clause-err g c =
     exit_at c.from_residual.result _ c.in_err-start.field-0.0 c.from_residual.ensures.1
-    (start_not_read c.args.asked (settings_told c.args.settings.now) (g.R.Read.remaining c.args.reader.now) c.in_err-start.field-0.0 c.in_err-start.ensures.err)
+    (start_not_read c.args.asked (settings_told c.args.settings.now) (g.R.Read.remaining c.args.reader.now)
+    c.in_err-start.field-0.0 c.in_err-start.ensures.err)
 
 pub returns-clause-ok : goal.returns-clause-ok
 returns-clause-ok g c =
     let left = g.R.Read.remaining in
     let settings = settings_told c.args.settings.now in
-    let known = c.chain-all.ensures.bytes ∙ ap (λ bs. option_append (Some bs) (left c.read_start.new.reader)) (c.without_mark.ensures ∙ ap without_mark c.deref.ensures.value) in
+    let known = c.chain-all.ensures.bytes ∙ ap (λ bs. option_append (Some bs) (left c.read_start.new.reader))
+    (c.without_mark.ensures ∙ ap without_mark c.deref.ensures.value) in
     ok_more c.index_unmarked.result _ _
-    (λ line is. of_whole (λ text. IsIndexOf c.args.asked settings text (string_bytes line)) (left c.args.reader.now) (left c.read_start.new.reader) c.in_ok-start.start.items c.in_ok-start.ensures.taken c.in_ok-start.ensures.whole
+    (λ line is. of_whole (λ text. IsIndexOf c.args.asked settings text (string_bytes line)) (left c.args.reader.now)
+    (left c.read_start.new.reader) c.in_ok-start.start.items c.in_ok-start.ensures.taken
+    c.in_ok-start.ensures.whole
     (subst (λ bytes. IfSome bytes (λ text. IsIndexOf c.args.asked settings text (string_bytes line))) known is))
     c.index_unmarked.ensures.ok
 
@@ -30,8 +34,11 @@ pub returns-clause-err : goal.returns-clause-err
 returns-clause-err g c =
     let left = g.R.Read.remaining in
     let settings = settings_told c.args.settings.now in
-    let known = c.chain-all.ensures.bytes ∙ ap (λ bs. option_append (Some bs) (left c.read_start.new.reader)) (c.without_mark.ensures ∙ ap without_mark c.deref.ensures.value) in
+    let known = c.chain-all.ensures.bytes ∙ ap (λ bs. option_append (Some bs) (left c.read_start.new.reader))
+    (c.without_mark.ensures ∙ ap without_mark c.deref.ensures.value) in
     err_more c.index_unmarked.result _ _
-    (λ e is. of_whole (λ text. IsRefusedFrom (asked_or_told c.args.asked text) settings text e) (left c.args.reader.now) (left c.read_start.new.reader) c.in_ok-start.start.items c.in_ok-start.ensures.taken c.in_ok-start.ensures.whole
+    (λ e is. of_whole (λ text. IsRefusedFrom (asked_or_told c.args.asked text) settings text e) (left c.args.reader.now)
+    (left c.read_start.new.reader) c.in_ok-start.start.items c.in_ok-start.ensures.taken
+    c.in_ok-start.ensures.whole
     (subst (λ bytes. IfSome bytes (λ text. IsRefusedFrom (asked_or_told c.args.asked text) settings text e)) known is))
     c.index_unmarked.ensures.err

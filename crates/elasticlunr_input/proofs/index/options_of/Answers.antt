@@ -6,4 +6,9 @@ not_if true = refl
 not_if false = refl
 
 pub returns : goal.returns
-returns c = rw (c.in_ok-fields.ensures, c.text_or-reference_key.ensures, c.text_or.ensures, ← not_if c.args.settings.now.drops_texts) refl
+returns c = rw (
+  c.in_ok-fields.ensures,
+  c.text_or-reference_key.ensures,
+  c.text_or.ensures,
+  ← not_if c.args.settings.now.drops_texts,
+) refl

@@ -19,29 +19,39 @@ returns-clause-err c =
     let items = map view c.deref.result.now in
     let settings = settings_told c.args.settings.now in
     let are = sym c.in-Some.ensures ∙ ap (λ vs. Some (items_of (map view vs))) (sym c.deref.ensures.value) in
-    refused_for (FailObjects (options_of settings items) items) (FailsInput form.Objects settings c.args.text.now) c.text_of_objects.result
-    (λ fails. inr (view c.in_ok-value.value, c.in_ok-value.ensures.ok, inr (items, are, fails))) c.text_of_objects.ensures.err
+    refused_for (FailObjects (options_of settings items) items) (FailsInput form.Objects settings c.args.text.now)
+    c.text_of_objects.result
+    (λ fails. inr (view c.in_ok-value.value, c.in_ok-value.ensures.ok, inr (items, are, fails)))
+    c.text_of_objects.ensures.err
 
 pub returns-clause-place : goal.returns-clause-place
 returns-clause-place c =
     let items = map view c.deref.result.now in
     let settings = settings_told c.args.settings.now in
     let are = sym c.in-Some.ensures ∙ ap (λ vs. Some (items_of (map view vs))) (sym c.deref.ensures.value) in
-    placed_as (IsPlaceInObjects c.args.text.now (options_of settings items) items) (IsInputPlace form.Objects settings c.args.text.now) c.text_of_objects.result
-    (λ place is. inr (view c.in_ok-value.value, c.in_ok-value.ensures.ok, inr (items, are, is))) c.text_of_objects.ensures.place
+    placed_as (IsPlaceInObjects c.args.text.now (options_of settings items) items)
+    (IsInputPlace form.Objects settings c.args.text.now) c.text_of_objects.result
+    (λ place is. inr (view c.in_ok-value.value, c.in_ok-value.ensures.ok, inr (items, are, is)))
+    c.text_of_objects.ensures.place
 
 pub returns-in_default-clause-err : goal.returns-in_default-clause-err
-returns-in_default-clause-err c = inr (view c.in_ok-value.value, c.in_ok-value.ensures.ok, inl (sym c.in_default.ensures))
+returns-in_default-clause-err c = inr (
+  view c.in_ok-value.value,
+  c.in_ok-value.ensures.ok,
+  inl (sym c.in_default.ensures),
+)
 
 pub returns-in_default-clause-place : goal.returns-in_default-clause-place
 returns-in_default-clause-place c =
     let settings = settings_told c.args.settings.now in
     let text = c.args.text.now in
     some_for (IsPlaceOf None [] text) (IsInputPlace form.Objects settings text) c.in_ok-message.message.place
-    (λ place is. inr (view c.in_ok-value.value, c.in_ok-value.ensures.ok, inl (sym c.in_default.ensures, is))) c.in_ok-message.ensures
+    (λ place is. inr (view c.in_ok-value.value, c.in_ok-value.ensures.ok, inl (sym c.in_default.ensures, is)))
+    c.in_ok-message.ensures
 
 pub returns-clause-placed : goal.returns-clause-placed
-returns-clause-placed c = err_unless c.text_of_objects.result _ IsMemoryOrPlaced (λ none. (cc (c.in_ok-value.ensures.ok)))
+returns-clause-placed c = err_unless c.text_of_objects.result _ IsMemoryOrPlaced
+    (λ none. (cc (c.in_ok-value.ensures.ok)))
 
 pub returns-in_default-clause-placed : goal.returns-in_default-clause-placed
 returns-in_default-clause-placed c = λ none. (cc (c.in_ok-value.ensures.ok))

@@ -4,16 +4,17 @@ use Rattle.serde_json.specs.View.{view}
 use Rattle.elasticlunr_job.specs.Answer.{FailsAt, IsLineOf}
 use Rattle.elasticlunr_job_format.specs.Job.{Job, IsJob}
 use Rattle.elasticlunr_job_format.specs.JobTold.{job_told}
-use Rattle.elasticlunr_job_format.specs.Stop.{StopsWithReason}
+use Rattle.elasticlunr_job_format.specs.JobError.{StopsWithReason}
 use Rattle.elasticlunr_job_format.specs.declared.outcome.Refusal.TheVariants as refusal
-use Rattle.elasticlunr_job_format.specs.declared.outcome.Stop.{Stop}
-use Rattle.elasticlunr_job_format.specs.declared.outcome.Stop.TheVariants.{Memory, Refused}
+use Rattle.elasticlunr_job_format.specs.declared.outcome.JobError.{JobError}
+use Rattle.elasticlunr_job_format.specs.declared.outcome.JobError.TheVariants.{Memory, Refused}
 use Rattle.elasticlunr_job.proofs.Stops.{err_more, ok_more}
 use Rattle.elasticlunr_input.specs.Settled.{Settings, IsRefusedWith, settings_told, settled}
 use Rattle.elasticlunr_input.proofs.jobs.job_text.Goals as goal
 
 -- what stops the job with the settings stops the value with them
-stops_with : (settings : Settings) (d : Data) (job : Job) → IsJob d job → (stop : Stop) → StopsWithReason (FailsAt (settled settings job)) stop → StopsWithReason (IsRefusedWith settings d) stop
+stops_with : (settings : Settings) (d : Data) (job : Job) → IsJob d job → (stop : JobError)
+    → StopsWithReason (FailsAt (settled settings job)) stop → StopsWithReason (IsRefusedWith settings d) stop
 stops_with settings d job is Memory fails = tt
 stops_with settings d job is (Refused refusal.NotJson) fails = fails
 stops_with settings d job is (Refused refusal.NotAJob) fails = absurd fails
@@ -23,8 +24,14 @@ stops_with settings d job is (Refused refusal.TooManyValues) fails = (job, is, f
 
 pub returns-clause-ok : goal.returns-clause-ok
 returns-clause-ok c = ok_more c.job_line.result _ _
-    (λ line is. (job_told c.in_ok-parse.field-0, c.in_ok-parse.ensures.ok, subst (λ job. IsLineOf job (string_bytes line)) c.in_ok-job.ensures is)) c.job_line.ensures.ok
+    (λ line is. (
+      job_told c.in_ok-parse.field-0,
+      c.in_ok-parse.ensures.ok,
+      subst (λ job. IsLineOf job (string_bytes line)) c.in_ok-job.ensures is,
+    )) c.job_line.ensures.ok
 
 pub returns-clause-err : goal.returns-clause-err
 returns-clause-err c = err_more c.job_line.result _ _
-    (λ stop fails. stops_with (settings_told c.args.settings.now) (view c.args.value.now) (job_told c.in_ok-parse.field-0) c.in_ok-parse.ensures.ok stop (subst (λ job. StopsWithReason (FailsAt job) stop) c.in_ok-job.ensures fails)) c.job_line.ensures.err
+    (λ stop fails. stops_with (settings_told c.args.settings.now) (view c.args.value.now)
+    (job_told c.in_ok-parse.field-0) c.in_ok-parse.ensures.ok stop
+    (subst (λ job. StopsWithReason (FailsAt job) stop) c.in_ok-job.ensures fails)) c.job_line.ensures.err

@@ -20,11 +20,13 @@ given_pretty own false is = sym is
 
 pub returns : goal.returns
 returns c =
-    let save : c.if-job.result ≡ (if c.args.settings.now.drops_texts then false else c.args.job.save) = elim c.if-job.branch [
+    let save : c.if-job.result ≡ (if c.args.settings.now.drops_texts then false else c.args.job.save) =
+    elim c.if-job.branch [
       | then-job w ↦ w.result-is ∙ saved _ _ w.if-job.true
       | else-job w ↦ w.result-is ∙ w.if-job.false ∙ unsaved _ _ w.if-job.false
     ] in
-    let pretty : c.if-job-2.result ≡ (if c.args.settings.now.pretty then true else c.args.job.pretty) = elim c.if-job-2.branch [
+    let pretty : c.if-job-2.result ≡ (if c.args.settings.now.pretty then true else c.args.job.pretty) =
+    elim c.if-job-2.branch [
       | then-job-2 w ↦ w.result-is ∙ w.if-job-2.true ∙ own_pretty _ _ w.if-job-2.true
       | else-job-2 w ↦ w.result-is ∙ given_pretty _ _ w.if-job-2.false
     ] in

@@ -11,7 +11,10 @@ use Rattle.elasticlunr_job.proofs.answer.fill_and_print.Given as goal
 -- the documents so far are added
 abbrev pub invariant-loop-doc : goal.invariant-loop-doc
 invariant-loop-doc g l = record {
-  taken : HasTaken (IsDocument language_tokens (λ z. (goal.PipelineFn-dyn g z).leaves z.1) l.fn.index) (StandsFor language_name (λ z. (goal.PipelineFn-dyn g z).name_text z.1) l.fn.index) (StandsFor language_name (λ z. (goal.PipelineFn-dyn g z).name_text z.1) l.index) (map document_told (take l.doc-index l.doc-items));
+  taken : HasTaken (IsDocument language_tokens (λ z. (goal.PipelineFn-dyn g z).leaves z.1) l.fn.index)
+      (StandsFor language_name (λ z. (goal.PipelineFn-dyn g z).name_text z.1) l.fn.index)
+      (StandsFor language_name (λ z. (goal.PipelineFn-dyn g z).name_text z.1) l.index)
+      (map document_told (take l.doc-index l.doc-items));
   settings : SameSettings l.fn.index l.index;
   fits : Fits (fields_of l.fn.index) (map document_told (take l.doc-index l.doc-items));
   works : ¬ IsFailed l.fn.index → ¬ IsFailed l.index;
@@ -20,7 +23,9 @@ invariant-loop-doc g l = record {
 -- the references so far are removed
 abbrev pub invariant-loop-reference : goal.invariant-loop-reference
 invariant-loop-reference g l = record {
-  follows : Follows (StandsFor language_name (λ z. (goal.PipelineFn-dyn g z).name_text z.1) l.initial.index) (StandsFor language_name (λ z. (goal.PipelineFn-dyn g z).name_text z.1) l.index) (map remove (map (λ s. s.now) (take l.reference-index l.reference-items)));
+  follows : Follows (StandsFor language_name (λ z. (goal.PipelineFn-dyn g z).name_text z.1) l.initial.index)
+      (StandsFor language_name (λ z. (goal.PipelineFn-dyn g z).name_text z.1) l.index)
+      (map remove (map (λ s. s.now) (take l.reference-index l.reference-items)));
   settings : SameSettings l.fn.index l.index;
   works : ¬ IsFailed l.fn.index → ¬ IsFailed l.index;
 }

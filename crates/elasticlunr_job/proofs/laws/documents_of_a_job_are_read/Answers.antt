@@ -7,4 +7,5 @@ returns-clause-calls c = commands_of_calls
 
 pub returns-clause-read : goal.returns-clause-read
 returns-clause-read c = λ job language commands are.
-    c.documents_of_calls_are_read.ensures language job.fields job.reference_field (job_calls job) commands (commands_of_calls job language commands are)
+    c.documents_of_calls_are_read.ensures language job.fields job.reference_field (job_calls job) commands
+    (commands_of_calls job language commands are)

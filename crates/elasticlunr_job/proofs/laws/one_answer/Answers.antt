@@ -6,4 +6,5 @@ returns-clause-outcome c = one_outcome
 
 pub returns-clause-text : goal.returns-clause-text
 returns-clause-text c = one_text c.settings_and_commands_have_one_value.ensures
-    (λ fields reference_field language. c.a_kept_language_makes_one_document.ensures.document language fields reference_field)
+    (λ fields reference_field language. c.a_kept_language_makes_one_document.ensures.document language fields
+    reference_field)

@@ -8,17 +8,20 @@ pub returns-in-Ok-write_all-clause-ok : goal.returns-in-Ok-write_all-clause-ok
 returns-in-Ok-write_all-clause-ok g c = (
   string_bytes c.in-Ok.text,
   (c.in_ok-bytes.bytes.items, c.in_ok-bytes.ensures.all, c.in-Ok.ensures),
-  subst (Appends (g.K.Sink.taken c.args.writer.now) (g.K.Sink.taken c.write_all.new.sink)) (c.as_bytes.ensures.value ∙ c.as_str.ensures.value) c.in-Ok-write_all.ensures.ok,
+  subst (Appends (g.K.Sink.taken c.args.writer.now) (g.K.Sink.taken c.write_all.new.sink)) (c.as_bytes.ensures.value
+      ∙ c.as_str.ensures.value) c.in-Ok-write_all.ensures.ok,
 )
 
 pub returns-in-Ok-write_all-clause-ok_unmarked : goal.returns-in-Ok-write_all-clause-ok_unmarked
 returns-in-Ok-write_all-clause-ok_unmarked g c = (c.in_ok-bytes.ensures.unmarked, c.in-Ok-write_all.ensures.unmarked)
 
 pub returns-in-Ok-write_all-clause-writer_fault : goal.returns-in-Ok-write_all-clause-writer_fault
-returns-in-Ok-write_all-clause-writer_fault g c failed = absurd (true≢false (sym failed ∙ c.in-Ok-write_all.ensures.unmarked))
+returns-in-Ok-write_all-clause-writer_fault g c failed =
+    absurd (true≢false (sym failed ∙ c.in-Ok-write_all.ensures.unmarked))
 
 pub returns-in-Ok-write_all-clause-reader_fault : goal.returns-in-Ok-write_all-clause-reader_fault
-returns-in-Ok-write_all-clause-reader_fault g c failed = absurd (true≢false (sym failed ∙ c.in_ok-bytes.ensures.unmarked))
+returns-in-Ok-write_all-clause-reader_fault g c failed =
+    absurd (true≢false (sym failed ∙ c.in_ok-bytes.ensures.unmarked))
 
 pub returns-in-Ok-write_all-clause-device : goal.returns-in-Ok-write_all-clause-device
 returns-in-Ok-write_all-clause-device g c is = absurd (no_error _ _ is)
@@ -32,8 +35,16 @@ returns-in-Ok-write_all-clause-memory_unmarked g c is = absurd (no_error _ _ is)
 pub returns-clause-writer_fault : goal.returns-clause-writer_fault
 returns-clause-writer_fault g c failed =
     let taken = g.K.Sink.taken in
-    let began = subst (AppendsBeginning (taken c.args.writer.now) (taken c.write_all.new.sink)) (c.as_bytes.ensures.value ∙ c.as_str.ensures.value) c.in-Err.ensures.err in
-    (c.in_ok-bytes.ensures.unmarked, (c.in-Ok.outcome, string_bytes c.in-Ok.text, (c.in_ok-bytes.bytes.items, c.in_ok-bytes.ensures.all, c.in-Ok.ensures), began))
+    let began = subst (AppendsBeginning (taken c.args.writer.now) (taken c.write_all.new.sink))
+    (c.as_bytes.ensures.value ∙ c.as_str.ensures.value) c.in-Err.ensures.err in (
+      c.in_ok-bytes.ensures.unmarked,
+      (
+        c.in-Ok.outcome,
+        string_bytes c.in-Ok.text,
+        (c.in_ok-bytes.bytes.items, c.in_ok-bytes.ensures.all, c.in-Ok.ensures),
+        began,
+      ),
+    )
 
 pub returns-clause-reader_fault : goal.returns-clause-reader_fault
 returns-clause-reader_fault g c failed = absurd (true≢false (sym failed ∙ c.in_ok-bytes.ensures.unmarked))

@@ -7,7 +7,8 @@ use Rattle.elasticlunr_job_format.proofs.KeyTests.{keys_fit, other_there}
 use Rattle.elasticlunr_job_format.proofs.fault.key_fault.Goals as goal
 
 pub returns-in_err-key-clause-none : goal.returns-in_err-key-clause-none
-returns-in_err-key-clause-none c = if_none c.from_residual.result (keys_fit _ c.in-Some.members.now.entries c.in-Some.ensures c.in_err-key.ensures)
+returns-in_err-key-clause-none c = if_none c.from_residual.result
+    (keys_fit _ c.in-Some.members.now.entries c.in-Some.ensures c.in_err-key.ensures)
 
 pub returns-clause-some : goal.returns-clause-some
 returns-clause-some c = (

@@ -4,4 +4,5 @@ use Rattle.elasticlunr_job_format.proofs.KeyTests.{any_told}
 use Rattle.elasticlunr_job_format.proofs.key.is_job_key.Goals as goal
 
 pub returns : goal.returns
-returns c = c.contains.ensures.value ∙ (any_told c.args.key.now c.job_keys.result ∙ ap (list_any (bytes_eq c.args.key.now)) c.job_keys.ensures)
+returns c = c.contains.ensures.value ∙ (any_told c.args.key.now c.job_keys.result
+    ∙ ap (list_any (bytes_eq c.args.key.now)) c.job_keys.ensures)

@@ -19,4 +19,5 @@ whole (array ds) n is = cc (is)
 whole (object ms) n is = cc (is)
 
 pub returns-in_ok-format-in-Some-as_u64 : goal.returns-in_ok-format-in-Some-as_u64
-returns-in_ok-format-in-Some-as_u64 c = ap Some c.in_ok-format-in-Some-as_u64.ensures.ok ∙ sym (whole _ c.in-Some-as_u64.n c.in-Some-as_u64.ensures)
+returns-in_ok-format-in-Some-as_u64 c = ap Some c.in_ok-format-in-Some-as_u64.ensures.ok
+    ∙ sym (whole _ c.in-Some-as_u64.n c.in-Some-as_u64.ensures)

@@ -5,4 +5,5 @@ use Rattle.elasticlunr_json_place.specs.Members.{follow, path_told}
 use Rattle.elasticlunr_json_place.proofs.member.follow.Given as goal
 
 abbrev pub invariant-loop-step : goal.invariant-loop-step
-invariant-loop-step l = follow (path_told (drop l.step-index l.path)) (view l.here) ≡ follow (path_told l.path) (view l.value)
+invariant-loop-step l = follow (path_told (drop l.step-index l.path)) (view l.here)
+    ≡ follow (path_told l.path) (view l.value)

@@ -4,4 +4,8 @@ use Rattle.elasticlunr_json_place.proofs.place.line_start.Given as goal
 
 -- the line so far, and no offset before is in the one that is asked for
 abbrev pub invariant-loop-at : goal.invariant-loop-at
-invariant-loop-at l = record { here : l.here ≡ line_at l.fn.text l.at; before : (k : ℕ) → k < l.at → line_at l.fn.text k < l.fn.line }
+invariant-loop-at l = record {
+  here : l.here ≡ line_at l.fn.text l.at;
+  before : (k : ℕ) → k < l.at
+      → line_at l.fn.text k < l.fn.line;
+}

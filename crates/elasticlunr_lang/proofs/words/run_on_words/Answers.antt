@@ -9,6 +9,7 @@ loop-left-preserved g c =
     let (tokens, are, read) = c.loop-left.invariant in
     let so_far = are ∙ ap (λ left. tokens ++ words_left (option_map (λ text. chars text.now) left)) c.in-Some.is in (
       tokens ++ map in_lower_case (filter is_not_empty (chars c.split_run.result.0.now ∷ [])),
-      words-more (words (chars c.args.text.now)) tokens _ (chars c.in-Some.text.now) (chars c.split_run.result.0.now) _ so_far c.split_run.ensures.run refl,
+      words-more (words (chars c.args.text.now)) tokens _ (chars c.in-Some.text.now) (chars c.split_run.result.0.now) _
+          so_far c.split_run.ensures.run refl,
       c.in_ok-read_run.ensures tokens read,
     )

@@ -8,7 +8,8 @@ use Rattle.elasticlunr_lang.proofs.words.run_on_words.Given as goal
 -- of the words so far this is left, and then come those of what is left of the text
 abbrev pub invariant-loop-left : goal.invariant-loop-left
 invariant-loop-left g l =
-    (tokens : List (List ℕ)) × (words (chars l.fn.text) ≡ tokens ++ words_left (option_map (λ text. chars text.now) l.left))
+    (tokens : List (List ℕ)) × (words (chars l.fn.text)
+    ≡ tokens ++ words_left (option_map (λ text. chars text.now) l.left))
     × IsReadAs (λ z. (goal.PipelineFn-dyn g z).leaves z.1) l.pipeline tokens (texts_of l.kept.items)
 
 abbrev pub decreases-loop-left : goal.decreases-loop-left

@@ -11,5 +11,6 @@ loop-c-init c = text_of-empty c.in_ok-word.word c.in_ok-word.ensures.bytes
 
 pub returns : goal.returns
 returns c =
-    let t = YieldsList-end (YieldsList-from_chars c.args.run.now c.utf8.run cc) c.loop-c.yielded _ c.loop-c.yielded_by _ _ c.in-None.is c.next.ensures.steps in
+    let t = YieldsList-end (YieldsList-from_chars c.args.run.now c.utf8.run cc) c.loop-c.yielded _ c.loop-c.yielded_by _
+    _ c.in-None.is c.next.ensures.steps in
     c.loop-c.invariant ∙ ap in_lower_case (sym (map-id c.loop-c.yielded) ∙ t.0)

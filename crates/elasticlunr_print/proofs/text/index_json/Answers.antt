@@ -15,5 +15,6 @@ returns-clause-text c =
       value = v.0;
       of_index = v.1;
       written = c.into_string.ensures.text ∙ ap print are ∙ print-outline v.0;
-      read_as = printed_reads (plan_of_parts c.args.parts) _ _ v.0 _ _ v.1.printed c.into_string.ensures.read are c.into_string.ensures.small;
+      read_as = printed_reads (plan_of_parts c.args.parts) _ _ v.0 _ _ v.1.printed c.into_string.ensures.read are
+          c.into_string.ensures.small;
     }

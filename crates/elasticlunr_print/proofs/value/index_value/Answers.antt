@@ -22,8 +22,10 @@ returns-clause-value c =
         each_trie = tries.1;
         store = c.in_ok-documents.ensures.value;
         whole = view-Object c.set_member-7.new.members
-            ∙ seven_members (plan_of_parts c.args.parts) tries.0 (view c.in_ok-documents.documents) _ _ _ _ _ _ _ _ _ _ _ _ _ _
-            c.in_ok-fields.ensures tries.2 c.in_ok-language.ensures c.in_ok-stages.ensures c.in_ok-reference.ensures c.in_ok-version.ensures
+            ∙ seven_members (plan_of_parts c.args.parts) tries.0 (view c.in_ok-documents.documents) _ _ _ _ _ _ _ _ _ _
+            _ _ _ _
+            c.in_ok-fields.ensures tries.2 c.in_ok-language.ensures c.in_ok-stages.ensures c.in_ok-reference.ensures
+            c.in_ok-version.ensures
             (ap (λ es. members_view es) c.new-members.ensures.empty)
             c.in_ok-set_member.ensures.put
             c.in_ok-set_member-2.ensures.put
@@ -36,4 +38,5 @@ returns-clause-value c =
     }
 
 pub returns-clause-whole : goal.returns-clause-whole
-returns-clause-whole c = no_float _ (value_plain (plan_of_parts c.args.parts) c.args.parts.tries.now c.args.parts.store.now (view (Object c.set_member-7.new.members)) (returns-clause-value c).printed)
+returns-clause-whole c = no_float _ (value_plain (plan_of_parts c.args.parts) c.args.parts.tries.now
+    c.args.parts.store.now (view (Object c.set_member-7.new.members)) (returns-clause-value c).printed)

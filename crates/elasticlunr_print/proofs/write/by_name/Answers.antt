@@ -13,13 +13,17 @@ loop-name-preserved c =
     let many = c.loop-name.invariant.0 in
     let names = map string_bytes c.next.new.self.a.rest.now in
     let tries = c.next.new.self.b.rest.now in
-    let updated = btree_map_updates_str c.as_str.result.now c.loop-name.sorted c.insert.new.self _ c.in_ok-insert.ensures.updates in (
+    let updated = btree_map_updates_str c.as_str.result.now c.loop-name.sorted c.insert.new.self _
+    c.in_ok-insert.ensures.updates in (
       omega (arith, ap length steps.0, ap length steps.1, many),
       λ q.
           let old = get_by (λ k. text_cmp q k.now) c.loop-name.sorted in
-          put_under q c.as_str.result.now (string_bytes c.in-Some.name.now) c.in-Some.trie old (get_by (λ k. text_cmp q k.now) c.insert.new.self) names tries c.as_str.ensures.value (updated q)
-          ∙ ap (λ ns. last_under q (option_map (λ t. t.now) old) (zip (map string_bytes ns) (c.in-Some.trie.now ∷ tries))) (sym steps.0)
-          ∙ ap (λ ts. last_under q (option_map (λ t. t.now) old) (zip (map string_bytes c.loop-name.name-iterator.a.rest.now) ts)) (sym steps.1)
+          put_under q c.as_str.result.now (string_bytes c.in-Some.name.now) c.in-Some.trie old
+          (get_by (λ k. text_cmp q k.now) c.insert.new.self) names tries c.as_str.ensures.value (updated q)
+          ∙ ap (λ ns. last_under q (option_map (λ t. t.now) old)
+          (zip (map string_bytes ns) (c.in-Some.trie.now ∷ tries))) (sym steps.0)
+          ∙ ap (λ ts. last_under q (option_map (λ t. t.now) old)
+          (zip (map string_bytes c.loop-name.name-iterator.a.rest.now) ts)) (sym steps.1)
           ∙ c.loop-name.invariant.1 q,
     )
 

@@ -9,4 +9,6 @@ use Rattle.elasticlunr_print.proofs.write.by_name.Given as goal
 abbrev pub invariant-loop-name : goal.invariant-loop-name
 invariant-loop-name l =
     (length l.name-iterator.b.rest.now ≡ length l.name-iterator.a.rest.now)
-    × ((q : Bytes) → last_under q (option_map (λ t. t.now) (get_by (λ k. text_cmp q k.now) l.sorted)) (zip (map string_bytes l.name-iterator.a.rest.now) l.name-iterator.b.rest.now) ≡ last_under q None (zip (map string_bytes l.fields) l.tries))
+    × ((q : Bytes) → last_under q (option_map (λ t. t.now) (get_by (λ k. text_cmp q k.now) l.sorted))
+    (zip (map string_bytes l.name-iterator.a.rest.now) l.name-iterator.b.rest.now)
+    ≡ last_under q None (zip (map string_bytes l.fields) l.tries))

@@ -7,4 +7,5 @@ use Rattle.elasticlunr_print.proofs.write.write_names.Given as goal
 -- what was written, and the names that are left
 abbrev pub invariant-loop-name : goal.invariant-loop-name
 invariant-loop-name g l =
-    g.W.Tokens.written l.out ++ items_tokens (items_outline (texts (map string_bytes (drop l.name-index l.names)))) ≡ g.W.Tokens.written l.initial.out ++ items_tokens (items_outline (texts (map string_bytes l.names)))
+    g.W.Tokens.written l.out ++ items_tokens (items_outline (texts (map string_bytes (drop l.name-index l.names))))
+    ≡ g.W.Tokens.written l.initial.out ++ items_tokens (items_outline (texts (map string_bytes l.names)))

@@ -9,4 +9,5 @@ use Rattle.elasticlunr_print.proofs.write.write_tries.Given as goal
 abbrev pub invariant-loop-name : goal.invariant-loop-name
 invariant-loop-name g l =
     (rest : Members) → AreMembersOf l.name-iterator rest → (ms : Members) × AreMembersOf l.tries.entries ms
-    × (g.W.Tokens.written l.out ++ members_tokens (members_outline rest) ≡ g.W.Tokens.written l.initial.out ++ members_tokens (members_outline ms))
+    × (g.W.Tokens.written l.out ++ members_tokens (members_outline rest)
+    ≡ g.W.Tokens.written l.initial.out ++ members_tokens (members_outline ms))

@@ -16,11 +16,15 @@ loop-token-preserved c =
     let after = c.retain.new.self.items in
     let token = string_bytes c.token-item.result in
     let test = λ (bs : Bytes). is_some (posting c.args.trie.now (chars token) bs) in
-    let same = filter_same _ (λ k. test (string_bytes k)) _ (λ x b f k. ((cc), search rules)) before after c.retain.ensures.filtered in
+    let same = filter_same _ (λ k. test (string_bytes k)) _ (λ x b f k. ((cc), search rules)) before after
+    c.retain.ensures.filtered in
     let kept = ap bytes_of same ∙ map-filter string_bytes test (λ k. test (string_bytes k)) (λ k. refl) before in (
-      subst (IsStrictlySortedBy text_cmp) (sym kept) (IsStrictlySortedBy-filter text_cmp test (bytes_of before) c.loop-token.invariant.0),
-      λ r. step_all (λ t. is_some (posting c.args.trie.now t r)) c.in-Some.first.now c.in-Some.others.now c.args.tokens.now c.loop-token.token-index c.token-item.result token _ _ _
-          c.in-Some.ensures.cases.0 (omega arith) c.token-item.is refl (ap (is_listed r) kept ∙ kept_listed test r (bytes_of before)) (c.loop-token.invariant.1 r) refl,
+      subst (IsStrictlySortedBy text_cmp) (sym kept) (IsStrictlySortedBy-filter text_cmp test (bytes_of before)
+          c.loop-token.invariant.0),
+      λ r. step_all (λ t. is_some (posting c.args.trie.now t r)) c.in-Some.first.now c.in-Some.others.now
+          c.args.tokens.now c.loop-token.token-index c.token-item.result token _ _ _
+          c.in-Some.ensures.cases.0 (omega arith) c.token-item.is refl (ap (is_listed r) kept
+          ∙ kept_listed test r (bytes_of before)) (c.loop-token.invariant.1 r) refl,
     )
 
 pub returns-after-loop-token : goal.returns-after-loop-token
@@ -31,9 +35,12 @@ returns-after-loop-token c =
     let are = c.in-Some.ensures.cases.0 in
     subst (λ ts. HaveAll trie (texts_of ts) (bytes_of c.loop-token.found.items)) (sym are)
     (have_all trie (text_of first) (texts_of others) (bytes_of c.loop-token.found.items) c.loop-token.invariant.0
-    (λ r. c.loop-token.invariant.1 r ∙ all_taken (λ t. is_some (posting trie t r)) first others c.args.tokens.now c.loop-token.token-index are (omega arith)))
+    (λ r. c.loop-token.invariant.1 r ∙ all_taken (λ t. is_some (posting trie t r)) first others c.args.tokens.now
+    c.loop-token.token-index are (omega arith)))
 
 pub returns-in-None : goal.returns-in-None
 returns-in-None c =
     let none = no_strings c.args.tokens.now c.in-None.ensures.cases in
-    subst (λ ts. HaveAll c.args.trie.now (texts_of ts) (bytes_of c.new.result.items)) (sym none) (subst (λ ks. HaveAll c.args.trie.now (texts_of []) (bytes_of ks)) (sym c.new.ensures.items) (have_none c.args.trie.now))
+    subst (λ ts. HaveAll c.args.trie.now (texts_of ts) (bytes_of c.new.result.items)) (sym none)
+    (subst (λ ks. HaveAll c.args.trie.now (texts_of []) (bytes_of ks)) (sym c.new.ensures.items)
+    (have_none c.args.trie.now))

@@ -11,8 +11,10 @@ use Rattle.elasticlunr_search.proofs.tries.find_any_in.Goals as goal
 
 pub loop-token-preserved : goal.loop-token-preserved
 loop-token-preserved c r =
-    step_any (λ t. is_some (posting c.args.trie.now t r)) c.args.tokens.now c.loop-token.token-index c.token-item.result c.as_str.result.now _ _ _
-    (omega arith) c.token-item.is c.as_str.ensures.value (c.in_ok-put_references.ensures r) (c.loop-token.invariant r) refl
+    step_any (λ t. is_some (posting c.args.trie.now t r)) c.args.tokens.now c.loop-token.token-index c.token-item.result
+    c.as_str.result.now _ _ _
+    (omega arith) c.token-item.is c.as_str.ensures.value (c.in_ok-put_references.ensures r) (c.loop-token.invariant r)
+    refl
 
 pub returns : goal.returns
 returns c =
@@ -20,4 +22,5 @@ returns c =
     let tokens = c.args.tokens.now in
     subst (HaveAny c.args.trie.now (texts_of tokens)) (sym c.in_ok-found.ensures.texts)
     (have_any c.args.trie.now (texts_of tokens) found c.in_ok-found.ensures.order
-    (λ r. c.loop-token.invariant r ∙ ap (list_any (λ t. is_some (posting c.args.trie.now t r))) (take_all c.loop-token.token-index (texts_of tokens) (omega (arith, length-map tokens text_of)))))
+    (λ r. c.loop-token.invariant r ∙ ap (list_any (λ t. is_some (posting c.args.trie.now t r)))
+    (take_all c.loop-token.token-index (texts_of tokens) (omega (arith, length-map tokens text_of)))))

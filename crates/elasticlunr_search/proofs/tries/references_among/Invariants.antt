@@ -7,4 +7,5 @@ use Rattle.elasticlunr_search.proofs.tries.references_among.Given as goal
 
 -- those that have a posting in one of the tries so far
 abbrev pub invariant-loop-trie : goal.invariant-loop-trie
-invariant-loop-trie l = (r : Bytes) → is_listed r (texts_in l.found) ≡ has_among (tables_of (take l.trie-index l.tries)) (chars l.token) r
+invariant-loop-trie l = (r : Bytes) → is_listed r (texts_in l.found) ≡ has_among (tables_of (take l.trie-index l.tries))
+    (chars l.token) r

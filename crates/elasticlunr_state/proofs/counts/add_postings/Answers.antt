@@ -15,8 +15,10 @@ returns-clause-posted c =
     let new = c.add_tokens.new.self in
     let r = c.args.doc_ref.now in
     let rooted = c.in_ok-rooted.rooted.items in
-    on_ok c.add_tokens.result (λ changed. posts_all old old new r [] (counted_texts c.args.counts.now.entries) (told_tokens rooted) (posts_none old r) c.in_ok-rooted.ensures.rooted
-    (subst (λ ts. AreChanged (additions r (told_tokens ts)) old new) c.deref.ensures.value changed)) c.add_tokens.ensures.ok
+    on_ok c.add_tokens.result (λ changed. posts_all old old new r [] (counted_texts c.args.counts.now.entries)
+    (told_tokens rooted) (posts_none old r) c.in_ok-rooted.ensures.rooted
+    (subst (λ ts. AreChanged (additions r (told_tokens ts)) old new) c.deref.ensures.value changed))
+    c.add_tokens.ensures.ok
 
 -- whatever was added is the reference's own
 pub returns-clause-others_stay : goal.returns-clause-others_stay
@@ -24,4 +26,5 @@ returns-clause-others_stay c =
     let old = c.args.trie.now in
     let new = c.add_tokens.new.self in
     let r = c.args.doc_ref.now in
-    either_way c.add_tokens.result (all_added r _ old new) (some_added r _ old new) c.add_tokens.ensures.ok c.add_tokens.ensures.err
+    either_way c.add_tokens.result (all_added r _ old new) (some_added r _ old new) c.add_tokens.ensures.ok
+    c.add_tokens.ensures.err

@@ -1,4 +1,5 @@
-use Rattle.std.proofs.Common.{◌≡◌, ◌<◌, ◌≤◌, ◌^◌, arith, sym, subst, ◌∙◌, length, count_by, unwrap_or, bytes_eq, string_bytes}
+use Rattle.std.proofs.Common.{◌≡◌, ◌<◌, ◌≤◌, ◌^◌, arith, sym, subst, ◌∙◌, length, count_by, unwrap_or, bytes_eq}
+use Rattle.std.proofs.Common.{string_bytes}
 use Rattle.std.specs.HashMap.{get_by_text}
 use Rattle.std.proofs.lemmas.Grind.{text_counts}
 use Rattle.std.proofs.lemmas.Iterator.Adapters.{YieldsList-from_vec}
@@ -11,10 +12,15 @@ use Rattle.elasticlunr_state.proofs.counts.count_tokens.Goals as goal
 pub overflow_add-counts : goal.overflow_add-counts
 overflow_add-counts c =
     let h = c.into_iter-token-iterator.ensures.into_iter_gives in
-    let t = YieldsList-turn (YieldsList-from_vec {s = c.into_iter-token-iterator.result} c.args.tokens.items h.0 (h.1 ∙ c.args.tokens.ok.0)) c.loop-token.yielded c.loop-token.token-iterator c.loop-token.yielded_by c.next.result c.next.new.self c.in-Some.token c.in-Some.is c.next.ensures.steps in
+    let t = YieldsList-turn (YieldsList-from_vec {s = c.into_iter-token-iterator.result} c.args.tokens.items h.0
+    (h.1 ∙ c.args.tokens.ok.0)) c.loop-token.yielded c.loop-token.token-iterator c.loop-token.yielded_by
+    c.next.result c.next.new.self c.in-Some.token c.in-Some.is c.next.ensures.steps in
     let below : length c.loop-token.yielded < 2 ^ 64 = omega (arith, t.0, h.1, h.2, c.args.tokens.ok.0) in
-    let few : count_by (λ s. bytes_eq (string_bytes c.in-Some.token) (string_bytes s)) c.loop-token.yielded ≤ length c.loop-token.yielded = count_by-le-length _ c.loop-token.yielded in
-    let counted : unwrap_or (get_by_text c.loop-token.counts (string_bytes c.in-Some.token)) 0 ≡ count_by (λ s. bytes_eq (string_bytes c.in-Some.token) (string_bytes s)) c.loop-token.yielded = c.loop-token.invariant.counted (string_bytes c.in-Some.token) in
+    let few : count_by (λ s. bytes_eq (string_bytes c.in-Some.token) (string_bytes s)) c.loop-token.yielded ≤ length
+    c.loop-token.yielded = count_by-le-length _ c.loop-token.yielded in
+    let counted : unwrap_or (get_by_text c.loop-token.counts (string_bytes c.in-Some.token)) 0
+    ≡ count_by (λ s. bytes_eq (string_bytes c.in-Some.token) (string_bytes s)) c.loop-token.yielded =
+    c.loop-token.invariant.counted (string_bytes c.in-Some.token) in
     grind (arith, text_counts, counted, few, below)
 
 pub loop-token-preserved : goal.loop-token-preserved
@@ -26,5 +32,8 @@ loop-token-preserved c = record {
 pub returns-clause-counted : goal.returns-clause-counted
 returns-clause-counted c =
     let h = c.into_iter-token-iterator.ensures.into_iter_gives in
-    let t = YieldsList-end (YieldsList-from_vec {s = c.into_iter-token-iterator.result} c.args.tokens.items h.0 (h.1 ∙ c.args.tokens.ok.0)) c.loop-token.yielded c.loop-token.token-iterator c.loop-token.yielded_by c.next.result c.next.new.self c.in-None.is c.next.ensures.steps in
-    subst (λ tokens. AreCounts tokens c.loop-token.counts) (sym (map-id c.loop-token.yielded) ∙ t.0) c.loop-token.invariant
+    let t = YieldsList-end (YieldsList-from_vec {s = c.into_iter-token-iterator.result} c.args.tokens.items h.0
+    (h.1 ∙ c.args.tokens.ok.0)) c.loop-token.yielded c.loop-token.token-iterator c.loop-token.yielded_by
+    c.next.result c.next.new.self c.in-None.is c.next.ensures.steps in
+    subst (λ tokens. AreCounts tokens c.loop-token.counts) (sym (map-id c.loop-token.yielded) ∙ t.0)
+    c.loop-token.invariant

@@ -15,13 +15,20 @@ loop-token-init c = subst (λ ts. AreRooted [] (told_tokens ts)) (sym c.in_ok-ro
 pub loop-token-preserved : goal.loop-token-preserved
 loop-token-preserved c =
     let spelled : chars c.as_str.result.now ≡ text_of c.in-Some.token.now = ap chars c.as_str.ensures.value in
-    let more = rooted_more _ _ (text_of c.in-Some.token.now) (chars c.as_str.result.now) c.in-Some.count.now c.root.result c.loop-token.invariant spelled c.root.ensures in
-    subst (λ cs. AreRooted cs (told_tokens c.push.new.self.items)) (sym (map-append (λ e. (text_of e.0.now, e.1.now)) c.loop-token.yielded _))
-    (subst (AreRooted (map (λ e. (text_of e.0.now, e.1.now)) c.loop-token.yielded ++ (text_of c.in-Some.token.now, c.in-Some.count.now) ∷ []))
-    (sym (ap told_tokens c.in_ok-push.ensures.items ∙ map-append (λ t. (chars t.0.now, t.1)) c.loop-token.rooted.items _)) more)
+    let more = rooted_more _ _ (text_of c.in-Some.token.now) (chars c.as_str.result.now) c.in-Some.count.now
+    c.root.result c.loop-token.invariant spelled c.root.ensures in
+    subst (λ cs. AreRooted cs (told_tokens c.push.new.self.items))
+    (sym (map-append (λ e. (text_of e.0.now, e.1.now)) c.loop-token.yielded _))
+    (subst (AreRooted (map (λ e. (text_of e.0.now, e.1.now)) c.loop-token.yielded ++
+    (text_of c.in-Some.token.now, c.in-Some.count.now) ∷ []))
+    (sym (ap told_tokens c.in_ok-push.ensures.items ∙ map-append (λ t. (chars t.0.now, t.1)) c.loop-token.rooted.items
+    _)) more)
 
 pub returns-clause-rooted : goal.returns-clause-rooted
 returns-clause-rooted c =
     let all = c.into_iter-token-iterator.ensures.into_iter_gives ∙ c.iter-token-items.ensures.rest in
-    let t = YieldsList-end (YieldsList-from_rest c.args.counts.now.entries all) c.loop-token.yielded c.loop-token.token-iterator c.loop-token.yielded_by c.next.result c.next.new.self c.in-None.is c.next.ensures.steps in
-    subst (λ cs. AreRooted cs (told_tokens c.loop-token.rooted.items)) (sym (map-map _ _ c.loop-token.yielded) ∙ ap counted_texts t.0) c.loop-token.invariant
+    let t = YieldsList-end (YieldsList-from_rest c.args.counts.now.entries all) c.loop-token.yielded
+    c.loop-token.token-iterator c.loop-token.yielded_by c.next.result c.next.new.self c.in-None.is
+    c.next.ensures.steps in
+    subst (λ cs. AreRooted cs (told_tokens c.loop-token.rooted.items)) (sym (map-map _ _ c.loop-token.yielded)
+    ∙ ap counted_texts t.0) c.loop-token.invariant

@@ -5,4 +5,5 @@ use Rattle.elasticlunr_state.specs.Texts.{reference_alone, with_texts}
 use Rattle.elasticlunr_state.proofs.documents.document_of.Given as goal
 
 abbrev pub invariant-loop-i : goal.invariant-loop-i
-invariant-loop-i l = text_map l.document.entries ≡ with_texts (reference_alone l.ref_field l.doc_ref) (bytes_of l.fields) (map (λ value. value.now) (take l.i l.values))
+invariant-loop-i l = text_map l.document.entries ≡ with_texts (reference_alone l.ref_field l.doc_ref)
+    (bytes_of l.fields) (map (λ value. value.now) (take l.i l.values))

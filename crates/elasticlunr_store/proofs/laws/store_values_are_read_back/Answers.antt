@@ -6,4 +6,5 @@ use Rattle.elasticlunr_store.proofs.laws.store_values_are_read_back.Goals as goa
 
 pub returns : goal.returns
 returns c one v answer contents value ok err =
-    read_back (λ d. IsStoreValue d v) _ one answer (λ d is. one_contents d one (sym is ∙ value)) (λ none. none one contents value) ok err
+    read_back (λ d. IsStoreValue d v) _ one answer (λ d is. one_contents d one (sym is ∙ value))
+    (λ none. none one contents value) ok err

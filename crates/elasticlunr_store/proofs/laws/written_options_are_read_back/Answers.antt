@@ -6,4 +6,6 @@ use Rattle.elasticlunr_store.proofs.laws.written_options_are_read_back.Goals as 
 
 pub returns : goal.returns
 returns c options answer ok err =
-    read_back (ReadsOptions (options_value options)) _ options answer (λ other reads. one_options (options_value options) other options reads (written options)) (λ none. none options (written options)) ok err
+    read_back (ReadsOptions (options_value options)) _ options answer
+    (λ other reads. one_options (options_value options) other options reads (written options))
+    (λ none. none options (written options)) ok err

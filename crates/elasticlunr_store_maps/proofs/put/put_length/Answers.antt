@@ -8,5 +8,6 @@ use Rattle.elasticlunr_store_maps.proofs.put.put_length.Goals as goal
 pub returns-clause-ok : goal.returns-clause-ok
 returns-clause-ok c =
     let key = string_bytes c.in_ok-from_str.field-0 in
-    seen_inserted (λ n. n) c.args.lengths.now c.insert.new.self key c.args.length (btree_map_updates_text key c.args.lengths.now c.insert.new.self _ c.in_ok-insert.ensures.updates)
+    seen_inserted (λ n. n) c.args.lengths.now c.insert.new.self key c.args.length
+    (btree_map_updates_text key c.args.lengths.now c.insert.new.self _ c.in_ok-insert.ensures.updates)
     ∙ (λ i. insert (length_map c.args.lengths.now.entries) (c.in_ok-from_str.ensures.ok i) c.args.length)

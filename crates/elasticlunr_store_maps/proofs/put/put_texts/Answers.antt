@@ -8,5 +8,7 @@ use Rattle.elasticlunr_store_maps.proofs.put.put_texts.Goals as goal
 pub returns-clause-ok : goal.returns-clause-ok
 returns-clause-ok c =
     let key = string_bytes c.in_ok-from_str.field-0 in
-    seen_inserted (λ m. text_map m.entries) c.args.docs.now c.insert.new.self key c.args.texts (btree_map_updates_text key c.args.docs.now c.insert.new.self _ c.in_ok-insert.ensures.updates)
-    ∙ (λ i. insert (document_texts c.args.docs.now.entries) (c.in_ok-from_str.ensures.ok i) (text_map c.args.texts.entries))
+    seen_inserted (λ m. text_map m.entries) c.args.docs.now c.insert.new.self key c.args.texts
+    (btree_map_updates_text key c.args.docs.now c.insert.new.self _ c.in_ok-insert.ensures.updates)
+    ∙ (λ i. insert (document_texts c.args.docs.now.entries) (c.in_ok-from_str.ensures.ok i)
+    (text_map c.args.texts.entries))

@@ -1,4 +1,5 @@
-use Rattle.std.proofs.Common.{◌≡◌, [], ◌++◌, ◌∷◌, refl, sym, ap, subst, ◌∙◌, append_assoc, append-nil, string_cmp, string_bytes}
+use Rattle.std.proofs.Common.{◌≡◌, [], ◌++◌, ◌∷◌, refl, sym, ap, subst, ◌∙◌, append_assoc, append-nil, string_cmp}
+use Rattle.std.proofs.Common.{string_bytes}
 use Rattle.std.specs.FinMap.{insert}
 use Rattle.std.specs.List.Sorted.{IsStrictlySortedBy}
 use Rattle.std.specs.Map.{keys_of}
@@ -13,33 +14,52 @@ use Rattle.elasticlunr_json.proofs.Refusals.{refused_again}
 use Rattle.elasticlunr_store_maps.proofs.read.read_document_lengths.Goals as goal
 
 pub loop-doc_ref-init : goal.loop-doc_ref-init
-loop-doc_ref-init c = ([], refl, no_members_yet (keyed count) (document_lengths c.new-doc_info.result.entries) (ap document_lengths c.new-doc_info.ensures.empty), subst HasSmallLengths (ap document_lengths (sym c.new-doc_info.ensures.empty)) small_empty)
+loop-doc_ref-init c = (
+  [],
+  refl,
+  no_members_yet (keyed count) (document_lengths c.new-doc_info.result.entries)
+      (ap document_lengths c.new-doc_info.ensures.empty),
+  subst HasSmallLengths
+      (ap document_lengths (sym c.new-doc_info.ensures.empty)) small_empty,
+)
 
 pub loop-doc_ref-preserved : goal.loop-doc_ref-preserved
 loop-doc_ref-preserved c =
     let held = c.loop-doc_ref.invariant in
     let more = ap (λ es. held.0 ++ es) (sym c.in-Some-2.ensures.steps) ∙ held.1 in
     let all = c.into_iter-doc_ref-iterator.ensures.into_iter_gives ∙ c.iter-doc_ref-items.ensures.rest in
-    let sorted = subst (λ es. IsStrictlySortedBy string_cmp (keys_of es)) (sym (more ∙ all)) c.iter-doc_ref-items.ensures.ordered in
-    let is : document_lengths c.put_lengths.new.doc_info.entries ≡ insert (document_lengths c.loop-doc_ref.doc_info.entries) (string_bytes c.in-Some-2.doc_ref.now) (length_map c.in_ok-lengths.lengths.entries) =
-    c.in_ok-put_lengths.ensures.ok ∙ (λ i. insert (document_lengths c.loop-doc_ref.doc_info.entries) (c.deref.ensures i) (length_map c.in_ok-lengths.lengths.entries)) in (
+    let sorted = subst (λ es. IsStrictlySortedBy string_cmp (keys_of es)) (sym (more ∙ all))
+    c.iter-doc_ref-items.ensures.ordered in
+    let is : document_lengths c.put_lengths.new.doc_info.entries
+    ≡ insert (document_lengths c.loop-doc_ref.doc_info.entries) (string_bytes c.in-Some-2.doc_ref.now)
+    (length_map c.in_ok-lengths.lengths.entries) =
+    c.in_ok-put_lengths.ensures.ok ∙ (λ i. insert (document_lengths c.loop-doc_ref.doc_info.entries) (c.deref.ensures i)
+    (length_map c.in_ok-lengths.lengths.entries)) in (
       held.0 ++ (c.in-Some-2.doc_ref.now, c.in-Some-2.lengths.now) ∷ [],
       append_assoc held.0 _ c.next.new.self ∙ more,
-      read_more (keyed count) (document_lengths c.loop-doc_ref.doc_info.entries) (document_lengths c.put_lengths.new.doc_info.entries) held.0 (c.in-Some-2.doc_ref.now, c.in-Some-2.lengths.now) c.next.new.self (length_map c.in_ok-lengths.lengths.entries) sorted held.2 is c.in_ok-lengths.ensures.ok,
-      subst HasSmallLengths (sym is) (small_inserted (document_lengths c.loop-doc_ref.doc_info.entries) (string_bytes c.in-Some-2.doc_ref.now) (length_map c.in_ok-lengths.lengths.entries) c.in_ok-lengths.ensures.small held.3),
+      read_more (keyed count) (document_lengths c.loop-doc_ref.doc_info.entries)
+          (document_lengths c.put_lengths.new.doc_info.entries) held.0
+          (c.in-Some-2.doc_ref.now, c.in-Some-2.lengths.now) c.next.new.self
+          (length_map c.in_ok-lengths.lengths.entries) sorted held.2 is c.in_ok-lengths.ensures.ok,
+      subst HasSmallLengths (sym is) (small_inserted (document_lengths c.loop-doc_ref.doc_info.entries)
+          (string_bytes c.in-Some-2.doc_ref.now) (length_map c.in_ok-lengths.lengths.entries)
+          c.in_ok-lengths.ensures.small held.3),
     )
 
 pub returns-clause-ok : goal.returns-clause-ok
 returns-clause-ok c =
     let held = c.loop-doc_ref.invariant in
-    let all = sym (append-nil held.0) ∙ ap (λ es. held.0 ++ es) (sym c.in-None.ensures.steps.0) ∙ held.1 ∙ c.into_iter-doc_ref-iterator.ensures.into_iter_gives ∙ c.iter-doc_ref-items.ensures.rest in
+    let all = sym (append-nil held.0) ∙ ap (λ es. held.0 ++ es) (sym c.in-None.ensures.steps.0) ∙ held.1
+    ∙ c.into_iter-doc_ref-iterator.ensures.into_iter_gives ∙ c.iter-doc_ref-items.ensures.rest in
     object_of _ _ c.in-Some.ensures ∙ ap object (ap members_view (sym all) ∙ held.2)
 
 pub returns-in_err-lengths-clause-err : goal.returns-in_err-lengths-clause-err
 returns-in_err-lengths-clause-err c =
     let held = c.loop-doc_ref.invariant in
-    let more = ap (λ es. held.0 ++ es) (sym c.in-Some-2.ensures.steps) ∙ held.1 ∙ c.into_iter-doc_ref-iterator.ensures.into_iter_gives ∙ c.iter-doc_ref-items.ensures.rest in
-    refused_again _ _ (foreign_member (keyed count) (view c.args.value.now) c.in-Some.members.now.entries held.0 (c.in-Some-2.doc_ref.now, c.in-Some-2.lengths.now) c.next.new.self (object_of _ _ c.in-Some.ensures) more)
+    let more = ap (λ es. held.0 ++ es) (sym c.in-Some-2.ensures.steps) ∙ held.1
+    ∙ c.into_iter-doc_ref-iterator.ensures.into_iter_gives ∙ c.iter-doc_ref-items.ensures.rest in
+    refused_again _ _ (foreign_member (keyed count) (view c.args.value.now) c.in-Some.members.now.entries held.0
+    (c.in-Some-2.doc_ref.now, c.in-Some-2.lengths.now) c.next.new.self (object_of _ _ c.in-Some.ensures) more)
     c.in_err-lengths.field-0.0 c.from_residual.result c.from_residual.ensures.1 c.in_err-lengths.ensures.err
 
 pub returns-clause-small : goal.returns-clause-small

@@ -9,4 +9,6 @@ use Rattle.elasticlunr_store_maps.proofs.read.read_document_lengths.Given as goa
 
 -- an entry for each member that was read
 abbrev pub invariant-loop-doc_ref : goal.invariant-loop-doc_ref
-invariant-loop-doc_ref l = (done : List Entry) × (done ++ l.doc_ref-iterator ≡ l.initial.doc_ref-iterator) × (members_view done ≡ members (keyed count) (entries (document_lengths l.doc_info.entries))) × HasSmallLengths (document_lengths l.doc_info.entries)
+invariant-loop-doc_ref l = (done : List Entry) × (done ++ l.doc_ref-iterator ≡ l.initial.doc_ref-iterator)
+    × (members_view done ≡ members (keyed count) (entries (document_lengths l.doc_info.entries)))
+    × HasSmallLengths (document_lengths l.doc_info.entries)

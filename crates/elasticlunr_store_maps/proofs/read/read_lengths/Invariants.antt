@@ -9,4 +9,6 @@ use Rattle.elasticlunr_store_maps.proofs.read.read_lengths.Given as goal
 
 -- an entry for each member that was read
 abbrev pub invariant-loop-field : goal.invariant-loop-field
-invariant-loop-field l = (done : List Entry) × (done ++ l.field-iterator ≡ l.initial.field-iterator) × (members_view done ≡ members count (entries (length_map l.lengths.entries))) × AreSmallLengths (length_map l.lengths.entries)
+invariant-loop-field l = (done : List Entry) × (done ++ l.field-iterator ≡ l.initial.field-iterator)
+    × (members_view done ≡ members count (entries (length_map l.lengths.entries)))
+    × AreSmallLengths (length_map l.lengths.entries)

@@ -9,4 +9,5 @@ use Rattle.elasticlunr_store_maps.proofs.read.read_texts.Given as goal
 
 -- an entry for each member that was read
 abbrev pub invariant-loop-field : goal.invariant-loop-field
-invariant-loop-field l = (done : List Entry) × (done ++ l.field-iterator ≡ l.initial.field-iterator) × (members_view done ≡ members string (entries (text_map l.texts.entries)))
+invariant-loop-field l = (done : List Entry) × (done ++ l.field-iterator ≡ l.initial.field-iterator)
+    × (members_view done ≡ members string (entries (text_map l.texts.entries)))

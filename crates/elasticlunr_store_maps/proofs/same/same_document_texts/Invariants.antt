@@ -8,5 +8,8 @@ use Rattle.elasticlunr_store_maps.proofs.same.same_document_texts.Given as goal
 -- the entries so far are the same
 abbrev pub invariant-loop-doc_ref : goal.invariant-loop-doc_ref
 invariant-loop-doc_ref l =
-    (done : List (String Global × BTreeMap (String Global) (String Global))) × (others : List (String Global × BTreeMap (String Global) (String Global))) × (done ++ l.doc_ref-iterator ≡ l.a.entries) × (others ++ l.others ≡ l.b.entries)
-    × (pointwise (λ p q. bytes_eq p.0 q.0 && same_map bytes_eq p.1 q.1) (shown (λ m. text_map m.entries) done) (shown (λ m. text_map m.entries) others) ≡ true)
+    (done : List (String Global × BTreeMap (String Global) (String Global)))
+    × (others : List (String Global × BTreeMap (String Global) (String Global)))
+    × (done ++ l.doc_ref-iterator ≡ l.a.entries) × (others ++ l.others ≡ l.b.entries)
+    × (pointwise (λ p q. bytes_eq p.0 q.0 && same_map bytes_eq p.1 q.1) (shown (λ m. text_map m.entries) done)
+    (shown (λ m. text_map m.entries) others) ≡ true)

@@ -6,10 +6,16 @@ use Rattle.elasticlunr_store_maps.proofs.same.same_lengths.Goals as goal
 
 pub returns-then-len : goal.returns-then-len
 returns-then-len c =
-    apart_shown (λ n. n) (λ p q. bytes_eq p.0 q.0 && nat_eq p.1 q.1) c.args.a.now.entries c.args.b.now.entries (λ e. c.if-len.true (c.len.ensures.len ∙ e ∙ sym c.len-2.ensures.len))
-    ∙ (λ i. pointwise (λ p q. bytes_eq p.0 q.0 && nat_eq p.1 q.1) (sym (entries_seen (λ n. n) c.args.a.now.entries c.len.ensures.ordered) i) (sym (entries_seen (λ n. n) c.args.b.now.entries c.len-2.ensures.ordered) i))
+    apart_shown (λ n. n) (λ p q. bytes_eq p.0 q.0 && nat_eq p.1 q.1) c.args.a.now.entries c.args.b.now.entries
+    (λ e. c.if-len.true (c.len.ensures.len ∙ e ∙ sym c.len-2.ensures.len))
+    ∙ (λ i. pointwise (λ p q. bytes_eq p.0 q.0 && nat_eq p.1 q.1)
+    (sym (entries_seen (λ n. n) c.args.a.now.entries c.len.ensures.ordered) i)
+    (sym (entries_seen (λ n. n) c.args.b.now.entries c.len-2.ensures.ordered) i))
 
 pub returns : goal.returns
 returns c =
-    c.eq.ensures ∙ pointwise_shown (λ n. n) (λ p q. bytes_eq p.0 q.0 && nat_eq p.1 q.1) c.args.a.now.entries c.args.b.now.entries
-    ∙ (λ i. pointwise (λ p q. bytes_eq p.0 q.0 && nat_eq p.1 q.1) (sym (entries_seen (λ n. n) c.args.a.now.entries c.len.ensures.ordered) i) (sym (entries_seen (λ n. n) c.args.b.now.entries c.len-2.ensures.ordered) i))
+    c.eq.ensures ∙ pointwise_shown (λ n. n) (λ p q. bytes_eq p.0 q.0 && nat_eq p.1 q.1) c.args.a.now.entries
+    c.args.b.now.entries
+    ∙ (λ i. pointwise (λ p q. bytes_eq p.0 q.0 && nat_eq p.1 q.1)
+    (sym (entries_seen (λ n. n) c.args.a.now.entries c.len.ensures.ordered) i)
+    (sym (entries_seen (λ n. n) c.args.b.now.entries c.len-2.ensures.ordered) i))

@@ -6,10 +6,16 @@ use Rattle.elasticlunr_store_maps.proofs.same.same_texts.Goals as goal
 
 pub returns-then-len : goal.returns-then-len
 returns-then-len c =
-    apart_shown string_bytes (λ p q. bytes_eq p.0 q.0 && bytes_eq p.1 q.1) c.args.a.now.entries c.args.b.now.entries (λ e. c.if-len.true (c.len.ensures.len ∙ e ∙ sym c.len-2.ensures.len))
-    ∙ (λ i. pointwise (λ p q. bytes_eq p.0 q.0 && bytes_eq p.1 q.1) (sym (entries_seen string_bytes c.args.a.now.entries c.len.ensures.ordered) i) (sym (entries_seen string_bytes c.args.b.now.entries c.len-2.ensures.ordered) i))
+    apart_shown string_bytes (λ p q. bytes_eq p.0 q.0 && bytes_eq p.1 q.1) c.args.a.now.entries c.args.b.now.entries
+    (λ e. c.if-len.true (c.len.ensures.len ∙ e ∙ sym c.len-2.ensures.len))
+    ∙ (λ i. pointwise (λ p q. bytes_eq p.0 q.0 && bytes_eq p.1 q.1)
+    (sym (entries_seen string_bytes c.args.a.now.entries c.len.ensures.ordered) i)
+    (sym (entries_seen string_bytes c.args.b.now.entries c.len-2.ensures.ordered) i))
 
 pub returns : goal.returns
 returns c =
-    c.eq.ensures ∙ pointwise_shown string_bytes (λ p q. bytes_eq p.0 q.0 && bytes_eq p.1 q.1) c.args.a.now.entries c.args.b.now.entries
-    ∙ (λ i. pointwise (λ p q. bytes_eq p.0 q.0 && bytes_eq p.1 q.1) (sym (entries_seen string_bytes c.args.a.now.entries c.len.ensures.ordered) i) (sym (entries_seen string_bytes c.args.b.now.entries c.len-2.ensures.ordered) i))
+    c.eq.ensures ∙ pointwise_shown string_bytes (λ p q. bytes_eq p.0 q.0 && bytes_eq p.1 q.1) c.args.a.now.entries
+    c.args.b.now.entries
+    ∙ (λ i. pointwise (λ p q. bytes_eq p.0 q.0 && bytes_eq p.1 q.1)
+    (sym (entries_seen string_bytes c.args.a.now.entries c.len.ensures.ordered) i)
+    (sym (entries_seen string_bytes c.args.b.now.entries c.len-2.ensures.ordered) i))

@@ -8,4 +8,6 @@ use Rattle.elasticlunr_store_maps.proofs.value.document_texts_value.Given as goa
 
 -- a member for each entry that was read
 abbrev pub invariant-loop-doc_ref : goal.invariant-loop-doc_ref
-invariant-loop-doc_ref l = (done : List (String Global × BTreeMap (String Global) (String Global))) × (done ++ l.doc_ref-iterator ≡ l.docs.entries) × (members_view l.members.entries ≡ members (keyed string) (shown (λ m. text_map m.entries) done))
+invariant-loop-doc_ref l = (done : List (String Global × BTreeMap (String Global) (String Global)))
+    × (done ++ l.doc_ref-iterator ≡ l.docs.entries)
+    × (members_view l.members.entries ≡ members (keyed string) (shown (λ m. text_map m.entries) done))

@@ -9,14 +9,19 @@ use Rattle.elasticlunr_json.proofs.Sorted.{shown, put_last, whole}
 use Rattle.elasticlunr_store_maps.proofs.value.lengths_value.Goals as goal
 
 pub loop-field-init : goal.loop-field-init
-loop-field-init c = ([], c.into_iter-field-iterator.ensures.into_iter_gives ∙ c.iter-field-items.ensures.rest, ap members_view c.new-members.ensures.empty)
+loop-field-init c = (
+  [],
+  c.into_iter-field-iterator.ensures.into_iter_gives ∙ c.iter-field-items.ensures.rest,
+  ap members_view c.new-members.ensures.empty,
+)
 
 pub loop-field-preserved : goal.loop-field-preserved
 loop-field-preserved c =
     let held = c.loop-field.invariant in
     let more = ap (λ es. held.0 ++ es) (sym c.in-Some.ensures.steps) ∙ held.1 in
     let inner = c.from.ensures in
-    let sorted = subst (λ es. IsStrictlySortedBy string_cmp (keys_of es)) (sym more) c.iter-field-items.ensures.ordered in (
+    let sorted = subst (λ es. IsStrictlySortedBy string_cmp (keys_of es)) (sym more) c.iter-field-items.ensures.ordered
+    in (
       held.0 ++ (c.in-Some.field.now, c.in-Some.length.now) ∷ [],
       append_assoc held.0 _ c.next.new.self ∙ more,
       c.in_ok-set_member.ensures.put ∙ (λ i. put (c.deref.ensures i) (inner i) (held.2 i))
@@ -27,4 +32,5 @@ pub returns : goal.returns
 returns c =
     let held = c.loop-field.invariant in
     let all = sym (append-nil held.0) ∙ ap (λ es. held.0 ++ es) (sym c.in-None.ensures.steps.0) ∙ held.1 in
-    view-Object c.loop-field.members ∙ ap object (held.2 ∙ ap (λ es. members count (shown (λ n. n) es)) all) ∙ whole (λ n. n) count c.args.lengths.now.entries c.iter-field-items.ensures.ordered
+    view-Object c.loop-field.members ∙ ap object (held.2 ∙ ap (λ es. members count (shown (λ n. n) es)) all)
+    ∙ whole (λ n. n) count c.args.lengths.now.entries c.iter-field-items.ensures.ordered

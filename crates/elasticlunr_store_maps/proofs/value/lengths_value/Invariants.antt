@@ -6,4 +6,5 @@ use Rattle.elasticlunr_store_maps.proofs.value.lengths_value.Given as goal
 
 -- a member for each entry that was read
 abbrev pub invariant-loop-field : goal.invariant-loop-field
-invariant-loop-field l = (done : List (String Global × ℕ)) × (done ++ l.field-iterator ≡ l.lengths.entries) × (members_view l.members.entries ≡ members count (shown (λ n. n) done))
+invariant-loop-field l = (done : List (String Global × ℕ)) × (done ++ l.field-iterator ≡ l.lengths.entries)
+    × (members_view l.members.entries ≡ members count (shown (λ n. n) done))

@@ -7,4 +7,5 @@ use Rattle.elasticlunr_store_maps.proofs.value.texts_value.Given as goal
 
 -- a member for each entry that was read
 abbrev pub invariant-loop-field : goal.invariant-loop-field
-invariant-loop-field l = (done : List (String Global × String Global)) × (done ++ l.field-iterator ≡ l.texts.entries) × (members_view l.members.entries ≡ members string (shown string_bytes done))
+invariant-loop-field l = (done : List (String Global × String Global)) × (done ++ l.field-iterator ≡ l.texts.entries)
+    × (members_view l.members.entries ≡ members string (shown string_bytes done))

@@ -8,4 +8,6 @@ use Rattle.elasticlunr_store_maps.proofs.write.write_document_lengths.Given as g
 -- what was written, and the entries that are left
 abbrev pub invariant-loop-doc_ref : goal.invariant-loop-doc_ref
 invariant-loop-doc_ref g l =
-    g.W.Tokens.written l.out ++ tokens_of (members (keyed count) (shown (λ m. length_map m.entries) l.doc_ref-iterator)) ≡ g.W.Tokens.written l.initial.out ++ tokens_of (members (keyed count) (shown (λ m. length_map m.entries) l.doc_info.entries))
+    g.W.Tokens.written l.out ++ tokens_of (members (keyed count) (shown (λ m. length_map m.entries) l.doc_ref-iterator))
+    ≡ g.W.Tokens.written l.initial.out ++ tokens_of
+    (members (keyed count) (shown (λ m. length_map m.entries) l.doc_info.entries))

@@ -9,4 +9,6 @@ use Rattle.elasticlunr_store_maps.proofs.write.write_document_texts.Given as goa
 -- what was written, and the entries that are left
 abbrev pub invariant-loop-doc_ref : goal.invariant-loop-doc_ref
 invariant-loop-doc_ref g l =
-    g.W.Tokens.written l.out ++ tokens_of (members (keyed string) (shown (λ m. text_map m.entries) l.doc_ref-iterator)) ≡ g.W.Tokens.written l.initial.out ++ tokens_of (members (keyed string) (shown (λ m. text_map m.entries) l.docs.entries))
+    g.W.Tokens.written l.out ++ tokens_of (members (keyed string) (shown (λ m. text_map m.entries) l.doc_ref-iterator))
+    ≡ g.W.Tokens.written l.initial.out ++ tokens_of
+    (members (keyed string) (shown (λ m. text_map m.entries) l.docs.entries))

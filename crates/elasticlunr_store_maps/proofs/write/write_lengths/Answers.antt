@@ -11,17 +11,24 @@ pub returns : goal.returns
 returns g c =
     let es = c.args.lengths.now.entries in
     let old = g.W.Tokens.written c.args.out.now in
-    let end = ap (λ rest. g.W.Tokens.written c.loop-field.out ++ tokens_of (members (count) (shown (λ n. n) rest))) c.in-None.ensures.steps.0 in
-    on_ok c.token-2.result _ _ (λ last. last ∙ sym end ∙ c.loop-field.invariant ∙ ap (λ ts. ts ++ tokens_of (members (count) (shown (λ n. n) es))) c.in_ok-token.ensures
+    let end = ap (λ rest. g.W.Tokens.written c.loop-field.out ++ tokens_of (members (count) (shown (λ n. n) rest)))
+    c.in-None.ensures.steps.0 in
+    on_ok c.token-2.result _ _ (λ last. last ∙ sym end ∙ c.loop-field.invariant
+    ∙ ap (λ ts. ts ++ tokens_of (members (count) (shown (λ n. n) es))) c.in_ok-token.ensures
     ∙ append_assoc old _ _
-    ∙ ap (λ xs. old ++ Token.begin_object ∷ tokens_of (members (count) xs)) (sym (entries_seen (λ n. n) es c.iter-field-items.ensures.ordered))) c.token-2.ensures
+    ∙ ap (λ xs. old ++ Token.begin_object ∷ tokens_of (members (count) xs))
+    (sym (entries_seen (λ n. n) es c.iter-field-items.ensures.ordered))) c.token-2.ensures
 
 pub loop-field-init : goal.loop-field-init
-loop-field-init g c = ap (λ es. g.W.Tokens.written c.token.new.self ++ tokens_of (members (count) (shown (λ n. n) es))) (c.into_iter-field-iterator.ensures.into_iter_gives ∙ c.iter-field-items.ensures.rest)
+loop-field-init g c = ap (λ es. g.W.Tokens.written c.token.new.self ++ tokens_of (members (count) (shown (λ n. n) es)))
+    (c.into_iter-field-iterator.ensures.into_iter_gives ∙ c.iter-field-items.ensures.rest)
 
 pub loop-field-preserved : goal.loop-field-preserved
 loop-field-preserved g c =
-    let step : c.loop-field.field-iterator ≡ (c.in-Some.field.now, c.in-Some.length.now) ∷ c.next.new.self = search rules in
-    let written_key : g.W.Tokens.written c.token-in-loop-field.new.self ≡ g.W.Tokens.written c.loop-field.out ++ key (string_bytes c.in-Some.field.now) ∷ [] = search rules in
+    let step : c.loop-field.field-iterator ≡ (c.in-Some.field.now, c.in-Some.length.now)
+    ∷ c.next.new.self = search rules in
+    let written_key : g.W.Tokens.written c.token-in-loop-field.new.self
+    ≡ g.W.Tokens.written c.loop-field.out ++ key (string_bytes c.in-Some.field.now) ∷ [] = search rules in
     one_more _ _ _ _ _ _ _ c.in_ok-number.ensures written_key
-    (ap (λ es. g.W.Tokens.written c.loop-field.out ++ tokens_of (members (count) (shown (λ n. n) es))) (sym step) ∙ c.loop-field.invariant)
+    (ap (λ es. g.W.Tokens.written c.loop-field.out ++ tokens_of (members (count) (shown (λ n. n) es))) (sym step)
+    ∙ c.loop-field.invariant)

@@ -8,4 +8,5 @@ use Rattle.elasticlunr_store_maps.proofs.write.write_texts.Given as goal
 -- what was written, and the entries that are left
 abbrev pub invariant-loop-field : goal.invariant-loop-field
 invariant-loop-field g l =
-    g.W.Tokens.written l.out ++ tokens_of (members (string) (shown (string_bytes) l.field-iterator)) ≡ g.W.Tokens.written l.initial.out ++ tokens_of (members (string) (shown (string_bytes) l.texts.entries))
+    g.W.Tokens.written l.out ++ tokens_of (members (string) (shown (string_bytes) l.field-iterator))
+    ≡ g.W.Tokens.written l.initial.out ++ tokens_of (members (string) (shown (string_bytes) l.texts.entries))

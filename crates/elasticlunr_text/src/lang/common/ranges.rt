@@ -5,7 +5,8 @@ ghost use Rattle.elasticlunr_text.specs.Ranges.{AreApart};
 
 use std::alloc::{AllocError, Global};
 
-/// Ranges of characters, in order, with a gap between any two. An ASCII character is looked up from the first range on,
+/// Ranges of characters, in order, with a gap between any two. An ASCII character is looked up
+/// from the first range on,
 /// and any other one by binary search.
 #[derive(Drop)]
 pub struct Ranges {
@@ -17,7 +18,8 @@ impl Ranges {
     /// Sorts the ranges, and joins those that touch.
     pub fn new(alloc: Global, ranges: Vec<(u32, u32)>) -> Result<Self, AllocError>
         requires { AreRanges ranges.items }
-        ensures { IfOk result (λ joined. (c : ℕ) → in_ranges joined.ranges.items c ≡ in_ranges ranges.items c) }
+        ensures { IfOk result (λ joined. (c : ℕ) → in_ranges joined.ranges.items c
+            ≡ in_ranges ranges.items c) }
     {
         let mut ranges = ranges;
         ranges.sort_unstable_by_key(|range| range.0);

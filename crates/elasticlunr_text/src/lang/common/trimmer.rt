@@ -1,5 +1,6 @@
 //! A trimmer of a class of characters.
-ghost use Rattle.std.specs.Prelude.{◌≡◌, ◌⊎◌, ℕ, IfOk, IfErr, IsOk, IsOkUnless, Err, option_map, string_bytes};
+ghost use Rattle.std.specs.Prelude.{◌≡◌, ◌⊎◌, ℕ, IfOk, IfErr, IsOk, IsOkUnless, Err, option_map};
+ghost use Rattle.std.specs.Prelude.{string_bytes};
 ghost use Rattle.std.specs.Str.{chars};
 ghost use Rattle.elasticlunr_text.specs.Text.{text_of};
 ghost use Rattle.elasticlunr_text.specs.ClassTexts.{Names, NamesNone};
@@ -26,7 +27,8 @@ impl RegexTrimmer {
     /// The trimmer of the characters that a class text names.
     ///
     /// A class text is one or more items: a range `x-y`, a character that no `-` follows, or
-    /// `\p{Name}`, the set that the crate `unicode` finds by that name. The characters of `\[]^-&~`
+    /// `\p{Name}`, the set that the crate `unicode` finds by that name. The characters of
+    /// `\[]^-&~`
     /// never stand for themselves. Every other text is `BadClass`.
     pub fn new(alloc: Global, name: &str, word_chars: &str) -> Result<Self, IndexError>
         ensures name { IfOk result (λ trimmer. trimmer_name trimmer ≡ name.now) }
@@ -40,11 +42,13 @@ impl RegexTrimmer {
         Ok(RegexTrimmer { name, class })
     }
 
-    /// The trimmer of the characters of some scripts. No script gives the class without characters,
+    /// The trimmer of the characters of some scripts. No script gives the class without
+    /// characters,
     /// whose trimmer drops every token.
     pub fn of_scripts(alloc: Global, name: &str, scripts: &[Script]) -> Result<Self, IndexError>
         ensures name { IfOk result (λ trimmer. trimmer_name trimmer ≡ name.now) }
-        ensures class { IfOk result (λ trimmer. (c : ℕ) → keeps trimmer c ≡ in_scripts scripts.now c) }
+        ensures class { IfOk result (λ trimmer. (c : ℕ) → keeps trimmer c
+            ≡ in_scripts scripts.now c) }
         ensures memory { IsOkUnless result IndexError.Memory }
     {
         let class = Class::Scripts(Vec::from_slice(alloc, scripts)?);
@@ -86,7 +90,8 @@ impl PipelineFn for RegexTrimmer {
     /// The token from its first to its last character of the class, `None` where there is none. It
     /// is cut in its own buffer: no memory is requested.
     fn filter(&self, _alloc: Global, token: String) -> Result<Option<String>, AllocError>
-        ensures left { IfOk result (λ left. option_map text_of left ≡ cut_to_class self.now (text_of token)) }
+        ensures left { IfOk result (λ left. option_map text_of left
+            ≡ cut_to_class self.now (text_of token)) }
         ensures always { IsOk result }
     {
         let left = self.class.cut(token);

@@ -2,7 +2,8 @@
 ghost use Rattle.std.specs.Prelude.{◌≡◌, ◌≤◌, ◌↔◌, IsTrue, chars, fold};
 ghost use Rattle.elasticlunr_text.specs.Letters.{is_vowel, is_vowel_or_y, is_vowel_or_wxy};
 ghost use Rattle.elasticlunr_text.specs.Blocks.{MAbove0, MAbove1, MIs1, HasVowel, IsShort};
-ghost use Rattle.elasticlunr_text.specs.Reading.{place_after, rank, reading_after, places, short_after};
+ghost use Rattle.elasticlunr_text.specs.Reading.{place_after, rank, reading_after, places};
+ghost use Rattle.elasticlunr_text.specs.Reading.{short_after};
 ghost use Rattle.elasticlunr_text.specs.declared.lang.en.blocks.Place.{Place};
 
 /// Whether the letter is one of `aeiou`.

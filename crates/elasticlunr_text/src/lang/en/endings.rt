@@ -1,7 +1,10 @@
 //! How words end: stems before suffixes, and the suffixes that the steps replace.
-ghost use Rattle.std.specs.Prelude.{◌≡◌, ◌≢◌, ◌≤◌, ◌<◌, ◌++◌, ◌∷◌, ◌↔◌, [], List, ℕ, IsTrue, length, chars, map, IfSome, IfNone, not, ◌==◌, string_len, string_capacity, codes, ◌+◌};
+ghost use Rattle.std.specs.Prelude.{◌≡◌, ◌≢◌, ◌≤◌, ◌<◌, ◌++◌, ◌∷◌, ◌↔◌, [], List, ℕ, IsTrue};
+ghost use Rattle.std.specs.Prelude.{length, chars, map, IfSome, IfNone, not, ◌==◌, string_len};
+ghost use Rattle.std.specs.Prelude.{string_capacity, codes, ◌+◌};
 ghost use Rattle.std.specs.List.{list_all};
-ghost use Rattle.elasticlunr_text.specs.Stems.{IsStem, EndsWith, EndsAfterStem, HasNoCut, LastIs, listed};
+ghost use Rattle.elasticlunr_text.specs.Stems.{IsStem, EndsWith, EndsAfterStem, HasNoCut, LastIs};
+ghost use Rattle.elasticlunr_text.specs.Stems.{listed};
 ghost use Rattle.elasticlunr_text.specs.Endings.{LosesLast, Exchanges, IsCutOf};
 ghost use Rattle.elasticlunr_text.specs.Text.{text_of};
 ghost use Rattle.elasticlunr_text.specs.Ascii.{all_ascii};
@@ -56,7 +59,8 @@ pub fn stem_and_letter_before<'a>(word: &'a str, suffix: &str) -> Option<(&'a st
     requires { IsTrue (all_ascii suffix.now) }
     ensures stem { IfSome result (λ p. IsStem (chars p.0.now)) }
     ensures split { IfSome result (λ p. chars word.now ≡ chars p.0.now ++ p.1 ∷ suffix.now) }
-    ensures none { IfNone result ((s : List ℕ) (c : ℕ) → IsStem s → chars word.now ≢ s ++ c ∷ suffix.now) }
+    ensures none { IfNone result ((s : List ℕ) (c : ℕ) → IsStem s → chars word.now ≢ s ++ c
+        ∷ suffix.now) }
 {
     let front = word.strip_suffix(suffix)?;
     let (stem, c) = split_last(front)?;

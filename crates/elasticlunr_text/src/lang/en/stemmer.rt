@@ -63,8 +63,10 @@ impl PipelineFn for Stemmer {
 
     /// The stem of the token. No memory is requested.
     fn filter(&self, _alloc: Global, token: String) -> Result<Option<String>, AllocError>
-        ensures leaves { IfOk result (λ left. option_map text_of left ≡ Some (stem_of self.now (text_of token))) }
-        ensures stem { IsOkAnd result (λ left. IsSomeAnd (option_map text_of left) (Stem (text_of token))) }
+        ensures leaves { IfOk result (λ left. option_map text_of left
+            ≡ Some (stem_of self.now (text_of token))) }
+        ensures stem { IsOkAnd result (λ left. IsSomeAnd (option_map text_of left)
+            (Stem (text_of token))) }
     {
         Ok(Some(self.stem(token)?))
     }

@@ -1,11 +1,17 @@
 //! The seven steps of the English stemmer, each in the buffer of the word.
-ghost use Rattle.std.specs.Prelude.{◌≡◌, ◌↔◌, ◌≤◌, ◌<◌, ◌∷◌, ℕ, List, IsTrue, length, chars, string_len, string_capacity, codes, nat_le};
+ghost use Rattle.std.specs.Prelude.{◌≡◌, ◌↔◌, ◌≤◌, ◌<◌, ◌∷◌, ℕ, List, IsTrue, length, chars};
+ghost use Rattle.std.specs.Prelude.{string_len, string_capacity, codes, nat_le};
 ghost use Rattle.std.specs.List.{list_all};
 ghost use Rattle.elasticlunr_text.specs.Letters.{is_one_of};
 ghost use Rattle.elasticlunr_text.specs.Endings.{SetsFirst, KeepsLengthAndRoom};
 ghost use Rattle.elasticlunr_text.specs.Text.{text_of};
 ghost use Rattle.elasticlunr_text.specs.Ascii.{all_ascii};
-ghost use Rattle.elasticlunr_text.specs.Stems.{Tries, LosesEs, LosesS, EndsInEed, LosesAndMends, GetsE, LosesDouble, ShortGetsE, YBecomesI, DropsEnding, DropsIon, DropsE, StandsWithoutE, DropsL, Step1a, Step1b, Mended, EndsInDouble, Step1c, Replaces, Step2, Step3, Step4, Step5, Steps, listed};
+ghost use Rattle.elasticlunr_text.specs.Stems.{Tries, LosesEs, LosesS, EndsInEed, LosesAndMends};
+ghost use Rattle.elasticlunr_text.specs.Stems.{GetsE, LosesDouble, ShortGetsE, YBecomesI};
+ghost use Rattle.elasticlunr_text.specs.Stems.{DropsEnding, DropsIon, DropsE, StandsWithoutE};
+ghost use Rattle.elasticlunr_text.specs.Stems.{DropsL, Step1a, Step1b, Mended, EndsInDouble};
+ghost use Rattle.elasticlunr_text.specs.Stems.{Step1c, Replaces, Step2, Step3, Step4, Step5};
+ghost use Rattle.elasticlunr_text.specs.Stems.{Steps, listed};
 ghost use Rattle.std.specs.Bool.{OnFalse};
 
 use super::blocks::{has_vowel, is_short, is_vowel, m_above_0, m_above_1, m_is_1};
@@ -200,7 +206,8 @@ fn step_3(word: &mut String)
 fn replace_ending(word: &mut String, endings: &[Ending]) -> bool
     requires ascii_suffixes { IsTrue (list_all (λ e. all_ascii e.0) (listed endings.now)) }
     requires ascii_endings { IsTrue (list_all (λ e. all_ascii e.1) (listed endings.now)) }
-    requires shorter { IsTrue (list_all (λ e. nat_le (length e.1) (length e.0)) (listed endings.now)) }
+    requires shorter { IsTrue (list_all (λ e. nat_le (length e.1) (length e.0))
+        (listed endings.now)) }
     ensures { Tries result (Replaces (listed endings.now)) (text_of word.old) (text_of word.new) }
 {
     let Some(

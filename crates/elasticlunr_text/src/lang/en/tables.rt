@@ -3,7 +3,8 @@ ghost use Rattle.std.specs.Prelude.{◌≡◌, IsTrue, length, nat_le};
 ghost use Rattle.std.specs.List.{list_all};
 ghost use Rattle.elasticlunr_text.specs.Ascii.{all_ascii};
 ghost use Rattle.elasticlunr_text.specs.Stems.{listed};
-ghost use Rattle.elasticlunr_text.specs.Suffixes.{ending_in, step_2_endings, step_3_endings, step_4_endings};
+ghost use Rattle.elasticlunr_text.specs.Suffixes.{ending_in, step_2_endings, step_3_endings};
+ghost use Rattle.elasticlunr_text.specs.Suffixes.{step_4_endings};
 
 /// A suffix, and what stands in its place.
 pub type Ending = (&'static str, &'static str);

@@ -11,7 +11,8 @@ use std::alloc::{AllocError, Global};
 /// The answer is never `Ok(None)`: a token without such a character becomes the empty text. The
 /// token is cut in its own buffer: no memory is requested.
 pub fn trimmer(_alloc: Global, token: String) -> Result<Option<String>, AllocError>
-    ensures left { IfOk result (λ left. option_map text_of left ≡ Some (trimmed is_word_char (text_of token))) }
+    ensures left { IfOk result (λ left. option_map text_of left
+        ≡ Some (trimmed is_word_char (text_of token))) }
     ensures always { IsOk result }
 {
     Ok(Some(Class::Word.cut(token)))

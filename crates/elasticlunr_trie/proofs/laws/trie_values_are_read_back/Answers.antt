@@ -6,4 +6,5 @@ use Rattle.elasticlunr_trie.proofs.laws.trie_values_are_read_back.Goals as goal
 
 pub returns : goal.returns
 returns c T v answer table value ok err =
-    read_back (λ U. IsTable U × IsTrieValue U v) _ T answer (λ U both. one_table U T (closed U both.0) (closed T table) v both.1 value) (λ none. none T table value) ok err
+    read_back (λ U. IsTable U × IsTrieValue U v) _ T answer (λ U both. one_table U T (closed U both.0) (closed T table)
+    v both.1 value) (λ none. none T table value) ok err

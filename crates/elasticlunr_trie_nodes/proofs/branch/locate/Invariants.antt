@@ -12,7 +12,8 @@ use Rattle.elasticlunr_trie_nodes.proofs.branch.locate.Given as goal
 abbrev pub invariant-loop-c : goal.invariant-loop-c
 invariant-loop-c l =
     shadow (Utf8 l.rest) × (l.rest ≡ chars_rest l.letters)
-    × ((known : Text) × (chars l.start.token.now ≡ known ++ chars l.rest) × (walk (step_of l.root l.nodes) Root known ≡ Some l.place))
+    × ((known : Text) × (chars l.start.token.now ≡ known ++ chars l.rest)
+    × (walk (step_of l.root l.nodes) Root known ≡ Some l.place))
 
 abbrev pub decreases-loop-c : goal.decreases-loop-c
 decreases-loop-c l = length (chars_rest l.letters)

@@ -7,4 +7,5 @@ use Rattle.elasticlunr_trie_nodes.proofs.docs.copy_postings.Given as goal
 
 -- the postings so far
 abbrev pub invariant-loop-posting : goal.invariant-loop-posting
-invariant-loop-posting l = Gathered (λ r. get (postings_of l.docs.entries) r) (under_names l.names (take l.posting-index l.pairs)) (under_names l.names l.pairs)
+invariant-loop-posting l = Gathered (λ r. get (postings_of l.docs.entries) r)
+    (under_names l.names (take l.posting-index l.pairs)) (under_names l.names l.pairs)

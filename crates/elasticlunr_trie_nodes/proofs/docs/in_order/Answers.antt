@@ -7,10 +7,12 @@ use Rattle.elasticlunr_trie_nodes.proofs.docs.in_order.Goals as goal
 pub returns-clause-shown : goal.returns-clause-shown
 returns-clause-shown c =
     let r = c.sort_unstable_by_key.new.self.items in
-    shown c.args.names.now c.requires.names c.args.ranks.now c.requires.ranks c.args.pairs.now c.requires.postings r (subst (λ xs. IsPermutation xs r) c.in_ok-ranked.ensures c.sort_unstable_by_key.ensures.permutation)
+    shown c.args.names.now c.requires.names c.args.ranks.now c.requires.ranks c.args.pairs.now c.requires.postings r
+    (subst (λ xs. IsPermutation xs r) c.in_ok-ranked.ensures c.sort_unstable_by_key.ensures.permutation)
     (IsNonDecreasingBy-from_sort_by_key (λ e. e.0) r c.sort_unstable_by_key.ensures.sorted (λ a q f k. search rules))
 
 pub returns-clause-there : goal.returns-clause-there
 returns-clause-there c =
     let r = c.sort_unstable_by_key.new.self.items in
-    all_there c.args.names.now c.requires.names c.args.ranks.now c.requires.ranks c.args.pairs.now c.requires.postings r (subst (λ xs. IsPermutation xs r) c.in_ok-ranked.ensures c.sort_unstable_by_key.ensures.permutation)
+    all_there c.args.names.now c.requires.names c.args.ranks.now c.requires.ranks c.args.pairs.now c.requires.postings r
+    (subst (λ xs. IsPermutation xs r) c.in_ok-ranked.ensures c.sort_unstable_by_key.ensures.permutation)

@@ -1,4 +1,5 @@
-use Rattle.std.proofs.Common.{◌≡◌, [], ◌∷◌, ◌++◌, ◌-◌, ℕ, refl, sym, ap, subst, ◌∙◌, append_assoc, append-nil, arith, length, length-set, length-append, set, String, Global}
+use Rattle.std.proofs.Common.{◌≡◌, [], ◌∷◌, ◌++◌, ◌-◌, ℕ, refl, sym, ap, subst, ◌∙◌, append_assoc, append-nil, arith}
+use Rattle.std.proofs.Common.{length, length-set, length-append, set, String, Global}
 use Rattle.elasticlunr_trie_nodes.specs.Names.{HasRanks, HasNumbersBelow}
 use Rattle.elasticlunr_trie_nodes.proofs.Naming.{one_more_rank}
 use Rattle.elasticlunr_trie_nodes.proofs.names.set_ranks.Goals as goal
@@ -20,15 +21,25 @@ loop-number-preserved c =
     let e : String Global × ℕ = (c.in-Some.field-0-0.now, c.in-Some.number.now) in
     let es = c.args.numbers.now.entries in
     let ranks = c.loop-number.ranks.items in
-    let split : held.done ++ e ∷ c.next.new.self ≡ es = ap (λ xs. held.done ++ xs) (sym c.in-Some.ensures.steps) ∙ held.split in
-    let place : c.len-count.result - c.loop-number.left ≡ length held.done = omega (arith, c.len-count.ensures.len, ap length held.split, length-append held.done c.loop-number.number-iterator, held.left_is) in
+    let split : held.done ++ e ∷ c.next.new.self ≡ es = ap (λ xs. held.done ++ xs) (sym c.in-Some.ensures.steps)
+    ∙ held.split in
+    let place : c.len-count.result - c.loop-number.left
+    ≡ length held.done = omega (
+      arith,
+      c.len-count.ensures.len,
+      ap length held.split,
+      length-append held.done
+          c.loop-number.number-iterator,
+      held.left_is,
+    ) in
     record {
       same_count = length-set ranks e.1 (c.len-count.result - c.loop-number.left) ∙ held.same_count;
       done = held.done ++ e ∷ [];
       split = append_assoc held.done (e ∷ []) c.next.new.self ∙ split;
       left_is = omega (arith, held.left_is, ap length c.in-Some.ensures.steps);
       has = subst (λ v. HasRanks es (set ranks e.1 v) (length (held.done ++ e ∷ []))) (sym place)
-          (one_more_rank es ranks held.done e c.next.new.self split (subst (HasNumbersBelow es) (sym held.same_count) c.requires.in_range) c.requires.apart held.has);
+          (one_more_rank es ranks held.done e c.next.new.self split
+          (subst (HasNumbersBelow es) (sym held.same_count) c.requires.in_range) c.requires.apart held.has);
     }
 
 pub returns-clause-ranks : goal.returns-clause-ranks

@@ -8,4 +8,5 @@ use Rattle.elasticlunr_trie_nodes.proofs.nodes.find.Given as goal
 -- the rest of the token leads from here to where the token leads
 abbrev pub invariant-loop-c : goal.invariant-loop-c
 invariant-loop-c l =
-    IsUtf8 (chars_rest l.c-iterator) × (walk (step_of l.root l.nodes) l.place (chars (chars_rest l.c-iterator)) ≡ walk (step_of l.root l.nodes) Root (chars l.token))
+    IsUtf8 (chars_rest l.c-iterator) × (walk (step_of l.root l.nodes) l.place (chars (chars_rest l.c-iterator))
+    ≡ walk (step_of l.root l.nodes) Root (chars l.token))

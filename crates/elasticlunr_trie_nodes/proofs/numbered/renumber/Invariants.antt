@@ -12,5 +12,6 @@ invariant-loop-posting l =
       extends : Extends l.fn.names l.names;
       keeps : KeepsLists l.fn.references.items l.references.items;
       listed : IsListed l.names l.references.items l.k l.postings;
-      gathered : Gathered (λ r. at l.names r l.postings) (under_names l.old_names (take l.posting-index l.pairs)) (under_names l.old_names l.pairs);
+      gathered : Gathered (λ r. at l.names r l.postings) (under_names l.old_names (take l.posting-index l.pairs))
+          (under_names l.old_names l.pairs);
     }

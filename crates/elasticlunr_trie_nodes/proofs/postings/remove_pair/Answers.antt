@@ -14,10 +14,13 @@ pub returns-in-Ok-clause-removed : goal.returns-in-Ok-clause-removed
 returns-in-Ok-clause-removed c =
     let here = subst (λ l. IsAt l c.args.number c.in-Ok.at) c.as_slice.ensures c.in-Ok.ensures.found in
     let l = c.args.pairs.now.items in
-    seen_remove l _ c.requires (subst IsStrictlySorted (sym c.remove.ensures) (sorted_remove _ c.requires _ here.in_range)) c.args.number
-    (subst (λ m. GetsAfterRemove l m c.args.number) (sym c.remove.ensures) (value-remove l c.args.number _ here c.requires))
+    seen_remove l _ c.requires (subst IsStrictlySorted (sym c.remove.ensures)
+    (sorted_remove _ c.requires _ here.in_range)) c.args.number
+    (subst (λ m. GetsAfterRemove l m c.args.number) (sym c.remove.ensures)
+    (value-remove l c.args.number _ here c.requires))
 
 pub returns-in_default-clause-removed : goal.returns-in_default-clause-removed
 returns-in_default-clause-removed c =
-    let free = subst (λ l. IsGapFor l c.args.number c.in_default.field-0) c.as_slice.ensures c.in_default.ensures.absent in
+    let free = subst (λ l. IsGapFor l c.args.number c.in_default.field-0) c.as_slice.ensures c.in_default.ensures.absent
+    in
     seen_absent _ c.requires _ (value_in_gap _ _ _ free)

@@ -16,17 +16,21 @@ returns-in-Ok-clause-ok c =
     let here = subst (λ l. IsAt l c.args.number c.in-Ok.at) c.as_slice.ensures c.in-Ok.ensures.found in
     let is = c.set.ensures ∙ ap (λ p. slice_set c.args.pairs.now.items c.in-Ok.at p) c.in_ok-posting.ensures.ok in
     ap frequencies_of is
-    ∙ seen_set _ _ c.requires (sorted_set _ c.requires _ _ here c.args.frequency) c.args.number c.args.frequency (gets_set _ c.requires _ _ here c.args.frequency)
+    ∙ seen_set _ _ c.requires (sorted_set _ c.requires _ _ here c.args.frequency) c.args.number c.args.frequency
+    (gets_set _ c.requires _ _ here c.args.frequency)
 
 pub returns-in_ok-insert-in-Err-clause-sorted : goal.returns-in_ok-insert-in-Err-clause-sorted
 returns-in_ok-insert-in-Err-clause-sorted c =
     let free = subst (λ l. IsGapFor l c.args.number c.in-Err.at) c.as_slice.ensures c.in-Err.ensures.absent in
-    let is = c.in_ok-insert-in-Err.ensures.ok ∙ ap (λ p. insert c.args.pairs.now.items c.in-Err.at p) c.in_ok-posting.ensures.ok in
+    let is = c.in_ok-insert-in-Err.ensures.ok ∙ ap (λ p. insert c.args.pairs.now.items c.in-Err.at p)
+    c.in_ok-posting.ensures.ok in
     subst IsStrictlySorted (sym is) (sorted_insert _ _ _ free c.args.frequency c.requires)
 
 pub returns-in_ok-insert-in-Err-clause-ok : goal.returns-in_ok-insert-in-Err-clause-ok
 returns-in_ok-insert-in-Err-clause-ok c =
     let free = subst (λ l. IsGapFor l c.args.number c.in-Err.at) c.as_slice.ensures c.in-Err.ensures.absent in
-    let is = c.in_ok-insert-in-Err.ensures.ok ∙ ap (λ p. insert c.args.pairs.now.items c.in-Err.at p) c.in_ok-posting.ensures.ok in
+    let is = c.in_ok-insert-in-Err.ensures.ok ∙ ap (λ p. insert c.args.pairs.now.items c.in-Err.at p)
+    c.in_ok-posting.ensures.ok in
     ap frequencies_of is
-    ∙ seen_set _ _ c.requires (sorted_insert _ _ _ free c.args.frequency c.requires) c.args.number c.args.frequency (gets_insert _ _ _ free c.args.frequency)
+    ∙ seen_set _ _ c.requires (sorted_insert _ _ _ free c.args.frequency c.requires) c.args.number c.args.frequency
+    (gets_insert _ _ _ free c.args.frequency)

@@ -5,7 +5,8 @@ use Rattle.elasticlunr_trie_nodes.proofs.postings.value_of.Goals as goal
 
 pub returns-in-Ok : goal.returns-in-Ok
 returns-in-Ok c =
-    let item = get_or_read_under c.args.pairs.now c.in-Ok.at (length c.args.pairs.now) c.index-pairs-at.result (0, 0) c.index-pairs-at.is c.in-Ok.ensures.found.in_range refl in
+    let item = get_or_read_under c.args.pairs.now c.in-Ok.at (length c.args.pairs.now) c.index-pairs-at.result (0, 0)
+    c.index-pairs-at.is c.in-Ok.ensures.found.in_range refl in
     ap Some (c.frequency.ensures ∙ ap (λ e. e.1) item) ∙ sym (value_at_place _ c.requires _ _ c.in-Ok.ensures.found)
 
 pub returns-in-Err : goal.returns-in-Err

@@ -13,7 +13,8 @@ use Rattle.elasticlunr_uses.proofs.OneToken.{only_go}
 use Rattle.elasticlunr_uses.proofs.first.first_index.Goals as goal
 
 -- the value as a text
-as_text : compact_text (word_value (one_field_plan (language_name english) (language_stages english) (codes "id") (codes "body")) (codes "body") (codes "1") (codes "go") (codes "go"))
+as_text : compact_text (word_value (one_field_plan (language_name english) (language_stages english) (codes "id")
+    (codes "body")) (codes "body") (codes "1") (codes "go") (codes "go"))
     ≡ codes "{\"documentStore\":{\"docInfo\":{\"1\":{\"body\":1}},\"docs\":{\"1\":{\"body\":\"go\",\"id\":\"1\"}},"
     ++ codes "\"length\":1,\"save\":true},\"fields\":[\"body\"],\"index\":{\"body\":{\"root\":{\"df\":0,"
     ++ codes "\"docs\":{},\"g\":{\"df\":0,\"docs\":{},\"o\":{\"df\":1,\"docs\":{\"1\":{\"tf\":1000000}}}}}}},"
@@ -27,12 +28,15 @@ returns-in_err-add_doc-clause-errors c =
     let language : English = record {} in
     let was = c.in_ok-index.ensures.after language in
     memory_passed c.from_residual-in_err-add_doc.result _ c.from_residual-in_err-add_doc.ensures.1
-    (adding_wants_memory c.add_doc.result _ (after_works _ _ _ _ _ language _ _ _ was) c.add_doc.ensures.failed _ c.in_err-add_doc.was _ 1 (after_fits _ _ _ _ _ language _ _ _ was 1 (lit≤ tt)) c.add_doc.ensures.too_many c.in_err-add_doc.ensures.errors)
+    (adding_wants_memory c.add_doc.result _ (after_works _ _ _ _ _ language _ _ _ was) c.add_doc.ensures.failed _
+    c.in_err-add_doc.was _ 1 (after_fits _ _ _ _ _ language _ _ _ was 1 (lit≤ tt)) c.add_doc.ensures.too_many
+    c.in_err-add_doc.ensures.errors)
 
 pub returns-clause-text : goal.returns-clause-text
 returns-clause-text c =
     let language : English = record {} in
     let one = c.in_ok-add_doc.ensures.after language _ _ (c.in_ok-index.ensures.after language) in
     if_ok c.to_json.result _ _
-    (λ text printed. c.one_word_is_a_path.ensures english _ _ _ (codes "body") (codes "1") (codes "go") (codes "go") (λ e. cc (e)) (λ e. cc (e)) only_go compact_text _ (printed language _ _ one) ∙ as_text)
+    (λ text printed. c.one_word_is_a_path.ensures english _ _ _ (codes "body") (codes "1") (codes "go") (codes "go")
+    (λ e. cc (e)) (λ e. cc (e)) only_go compact_text _ (printed language _ _ one) ∙ as_text)
     c.to_json.ensures.after

@@ -16,6 +16,17 @@ returns-clause-equal c apart =
     let other = c.args.other.reference.now in
     let text = c.args.one.text.now ∷ [] in
     let another = c.args.other.text.now ∷ [] in
-    c.current_documents_decide_the_text.ensures _ _ (inr (record { documents = (one, text) ∷ (other, another) ∷ []; differ = two_differ one other apart; are = refl }))
-    (inr (record { documents = (other, another) ∷ (one, text) ∷ []; differ = two_differ other one (λ e. apart (sym e)); are = refl }))
-    (λ q. either_order (bytes_eq q one) (bytes_eq q other) (Some text) (Some another) (not_both q one other apart)) english _ compact_text _ _ c.in_ok-forwards.ensures.text c.in_ok-backwards.ensures.text
+    c.current_documents_decide_the_text.ensures _ _
+    (inr (record {
+      documents = (one, text) ∷ (other, another) ∷ [];
+      differ = two_differ one other apart;
+      are =
+          refl;
+    }))
+    (inr (record {
+      documents = (other, another) ∷ (one, text) ∷ [];
+      differ = two_differ other one (λ e. apart (sym e));
+      are = refl;
+    }))
+    (λ q. either_order (bytes_eq q one) (bytes_eq q other) (Some text) (Some another) (not_both q one other apart))
+    english _ compact_text _ _ c.in_ok-forwards.ensures.text c.in_ok-backwards.ensures.text

@@ -17,6 +17,9 @@ returns-clause-text c =
     let stages = c.in_ok-queue.ensures.items in
     if_ok c.text_with_pipeline.result _ _ (λ text is. (
       is.0,
-      subst (λ names. IsPrintOf (fields_plan (codes "Plain") names (codes "about" ∷ [])) (none ▸ add is.0) (string_bytes text)) (names_are own _ there _ c.in_ok-queue.queue.items stages (codes "dropEmpty") (λ value. refl)) is.1,
-      read_as (codes "about" ∷ []) (codes "id") _ _ (λ i value tokens read. trims_and_leaves own _ there _ unless_empty (λ token v. refl) c.in_ok-queue.queue.items stages (words (chars value)) tokens read) _ _ is.0 is.2,
+      subst (λ names. IsPrintOf (fields_plan (codes "Plain") names (codes "about" ∷ [])) (none ▸ add is.0)
+          (string_bytes text)) (names_are own _ there _ c.in_ok-queue.queue.items stages (codes "dropEmpty")
+          (λ value. refl)) is.1,
+      read_as (codes "about" ∷ []) (codes "id") _ _ (λ i value tokens read. trims_and_leaves own _ there _ unless_empty
+          (λ token v. refl) c.in_ok-queue.queue.items stages (words (chars value)) tokens read) _ _ is.0 is.2,
     )) c.text_with_pipeline.ensures.text

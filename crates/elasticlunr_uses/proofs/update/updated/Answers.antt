@@ -9,7 +9,9 @@ returns-in_err-add_doc-clause-errors c =
     let language : English = record {} in
     let was = c.in_ok-index.ensures.after language in
     memory_passed c.from_residual-in_err-add_doc.result _ c.from_residual-in_err-add_doc.ensures.1
-    (adding_wants_memory c.add_doc.result _ (after_works _ _ _ _ _ language _ _ _ was) c.add_doc.ensures.failed _ c.in_err-add_doc.was _ 1 (after_fits _ _ _ _ _ language _ _ _ was 1 (lit≤ tt)) c.add_doc.ensures.too_many c.in_err-add_doc.ensures.errors)
+    (adding_wants_memory c.add_doc.result _ (after_works _ _ _ _ _ language _ _ _ was) c.add_doc.ensures.failed _
+    c.in_err-add_doc.was _ 1 (after_fits _ _ _ _ _ language _ _ _ was 1 (lit≤ tt)) c.add_doc.ensures.too_many
+    c.in_err-add_doc.ensures.errors)
 
 pub returns-clause-text : goal.returns-clause-text
 returns-clause-text c =

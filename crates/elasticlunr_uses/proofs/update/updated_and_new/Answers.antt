@@ -21,7 +21,17 @@ returns-clause-equal c stays_changes stays_goes changes_goes =
     let gone = c.args.goes.text.now ∷ [] in
     let new = c.args.new_text.now ∷ [] in
     c.current_documents_decide_the_text.ensures _ _
-    (inl (record { earlier = adding stays kept ∷ adding changes old ∷ adding goes gone ∷ adding changes new ∷ removing goes ∷ []; are = refl }))
-    (inr (record { documents = (stays, kept) ∷ (changes, new) ∷ []; differ = two_differ stays changes stays_changes; are = refl }))
-    (λ q. after_update (bytes_eq q stays) (bytes_eq q changes) (bytes_eq q goes) (Some kept) (Some old) (Some gone) (Some new) (not_both q stays goes stays_goes) (not_both q changes goes changes_goes))
+    (inl (record {
+      earlier = adding stays kept ∷ adding changes old ∷ adding goes gone ∷ adding changes new
+          ∷ removing goes ∷ [];
+      are = refl;
+    }))
+    (inr (record {
+      documents = (stays, kept) ∷ (changes, new) ∷ [];
+      differ = two_differ stays changes stays_changes;
+      are
+          = refl;
+    }))
+    (λ q. after_update (bytes_eq q stays) (bytes_eq q changes) (bytes_eq q goes) (Some kept) (Some old) (Some gone)
+    (Some new) (not_both q stays goes stays_goes) (not_both q changes goes changes_goes))
     english _ compact_text _ _ c.in_ok-updated.ensures.text c.in_ok-new.ensures.text

@@ -6,8 +6,24 @@ returns-clause-chosen g c = if_ok c.with_field.result _ _ (λ builder is. (
   c.new.result,
   is,
   λ value tokens. (
-    λ may. record { alloc = may.alloc; given = may.given; made = may.made; of_value = may.of_value; answered = rw (← c.new.ensures) may.answered; are = may.are },
-    λ may. record { alloc = may.alloc; given = may.given; made = may.made; of_value = may.of_value; answered = rw c.new.ensures may.answered; are = may.are },
+    λ may. record {
+      alloc = may.alloc;
+      given = may.given;
+      made = may.made;
+      of_value = may.of_value;
+      answered =
+          rw (← c.new.ensures) may.answered;
+      are = may.are;
+    },
+    λ may. record {
+      alloc = may.alloc;
+      given = may.given;
+      made = may.made;
+      of_value = may.of_value;
+      answered =
+          rw c.new.ensures may.answered;
+      are = may.are;
+    },
   ),
 )) c.with_field.ensures.chosen
 

@@ -10,5 +10,6 @@ returns-in-Some-place_of-clause-trie g c = λ commands stands.
     let inside : i < length c.in-Some.contents.tries.items = search rules in (
       i,
       ap (λ names. slice_get (bytes_of names) i) (sym c.deref.ensures.value) ∙ c.in-Some-place_of.ensures.found.1,
-      table_of_held _ commands c.in-Some.contents i c.index.result.now inside c.index.ensures (held _ _ c.in-Some.contents commands c.in-Some.is stands),
+      table_of_held _ commands c.in-Some.contents i c.index.result.now inside c.index.ensures
+          (held _ _ c.in-Some.contents commands c.in-Some.is stands),
     )

@@ -6,4 +6,5 @@ pub returns-clause-reading : goal.returns-clause-reading
 returns-clause-reading c = one_language_reading words c.each_word_has_one_stem.ensures
 
 pub returns-clause-document : goal.returns-clause-document
-returns-clause-document c = λ language fields reference_field. one_document fields reference_field _ (one_language_reading words c.each_word_has_one_stem.ensures language)
+returns-clause-document c = λ language fields reference_field. one_document fields reference_field _
+    (one_language_reading words c.each_word_has_one_stem.ensures language)

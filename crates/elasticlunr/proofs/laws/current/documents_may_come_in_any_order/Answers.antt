@@ -4,5 +4,7 @@ use Rattle.elasticlunr.proofs.laws.current.documents_may_come_in_any_order.Goals
 
 pub returns : goal.returns
 returns c = λ documents others differ also same.
-    c.current_documents_decide_the_text.ensures _ _ (inr (record { documents = documents; differ = differ; are = refl })) (inr (record { documents = others; differ = also; are = refl }))
+    c.current_documents_decide_the_text.ensures _ _
+    (inr (record { documents = documents; differ = differ; are = refl }))
+    (inr (record { documents = others; differ = also; are = refl }))
     (λ r. same_current r documents others differ also same)

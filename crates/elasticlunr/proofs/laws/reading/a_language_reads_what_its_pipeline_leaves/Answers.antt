@@ -7,4 +7,5 @@ returns-clause-reads g c = λ i text made left stages is ran.
 
 pub returns-clause-only : goal.returns-clause-only
 returns-clause-only g c = λ i text made left others stages is ran reads.
-    only_run_by_language _ _ (g.L.Language.tokens_of c.args.language.now) stages c.a_run_has_one_answer.ensures i text made left others is ran reads
+    only_run_by_language _ _ (g.L.Language.tokens_of c.args.language.now) stages c.a_run_has_one_answer.ensures i text
+    made left others is ran reads

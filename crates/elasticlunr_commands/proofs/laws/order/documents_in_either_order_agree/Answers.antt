@@ -3,7 +3,8 @@ use Rattle.std.proofs.lemmas.Slice.Eq.{bytes_eq-Decides}
 use Rattle.elasticlunr_commands.specs.History.{Command, Commands, ◌▸◌, add}
 use Rattle.elasticlunr_commands.proofs.laws.order.documents_in_either_order_agree.Goals as goal
 
-swapped : (a b : Bool) (x : Commands) (d e : Command) → (a ≡ true → b ≡ true → ⊥) → cond b (cond a (x ▸ d) x ▸ e) (cond a (x ▸ d) x) ≡ cond a (cond b (x ▸ e) x ▸ d) (cond b (x ▸ e) x)
+swapped : (a b : Bool) (x : Commands) (d e : Command) → (a ≡ true → b ≡ true → ⊥)
+    → cond b (cond a (x ▸ d) x ▸ e) (cond a (x ▸ d) x) ≡ cond a (cond b (x ▸ e) x ▸ d) (cond b (x ▸ e) x)
 swapped true true x d e apart = absurd (apart refl refl)
 swapped true false x d e apart = refl
 swapped false true x d e apart = refl

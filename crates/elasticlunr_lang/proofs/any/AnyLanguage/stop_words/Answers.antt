@@ -1,5 +1,9 @@
 use Rattle.std.proofs.Common.{sym, ap}
-use Rattle.elasticlunr_lang.specs.StopWords.{language_stop_words, english_stop_words, danish_stop_words, dutch_stop_words, finnish_stop_words, french_stop_words, german_stop_words, italian_stop_words, korean_stop_words, norwegian_stop_words, portuguese_stop_words, romanian_stop_words, russian_stop_words, spanish_stop_words, swedish_stop_words, turkish_stop_words}
+use Rattle.elasticlunr_lang.specs.StopWords.{language_stop_words, english_stop_words, danish_stop_words}
+use Rattle.elasticlunr_lang.specs.StopWords.{dutch_stop_words, finnish_stop_words, french_stop_words, german_stop_words}
+use Rattle.elasticlunr_lang.specs.StopWords.{italian_stop_words, korean_stop_words, norwegian_stop_words}
+use Rattle.elasticlunr_lang.specs.StopWords.{portuguese_stop_words, romanian_stop_words, russian_stop_words}
+use Rattle.elasticlunr_lang.specs.StopWords.{spanish_stop_words, swedish_stop_words, turkish_stop_words}
 use Rattle.elasticlunr_lang.proofs.any.AnyLanguage.stop_words.Goals as goal
 
 pub returns-in-English : goal.returns-in-English

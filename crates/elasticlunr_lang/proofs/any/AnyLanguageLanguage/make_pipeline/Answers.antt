@@ -11,16 +11,25 @@ returns-in-Arabic-clause-leaves g c = rw c.in-Arabic.is c.arabic_pipeline.ensure
 pub returns-in-Korean-clause-leaves : goal.returns-in-Korean-clause-leaves
 returns-in-Korean-clause-leaves g c =
     rw c.in-Korean.is
-    (rw (c.scripts.ensures, c.stop_words-stop_words.ensures, c.in-Korean.is) at c.class_and_keep_pipeline.ensures.leaves)
+    (rw (c.scripts.ensures, c.stop_words-stop_words.ensures, c.in-Korean.is) at
+    c.class_and_keep_pipeline.ensures.leaves)
 
 pub returns-in_default : goal.returns-in_default
 returns-in_default g c =
     record {
       names =
-          rw (language_stages-class c.args.self.now c.in_default.not-English c.in_default.not-Arabic c.in_default.not-Korean, ← c.as_code-in_default.ensures)
+          rw (
+            language_stages-class c.args.self.now c.in_default.not-English c.in_default.not-Arabic
+                c.in_default.not-Korean,
+            ← c.as_code-in_default.ensures,
+          )
           c.class_pipeline.ensures.names;
       leaves =
-          rw (language_leaves-class c.args.self.now c.in_default.not-English c.in_default.not-Arabic, ← c.scripts-in_default.ensures, ← c.stop_words-stop_words.ensures)
+          rw (
+            language_leaves-class c.args.self.now c.in_default.not-English c.in_default.not-Arabic,
+            ← c.scripts-in_default.ensures,
+            ← c.stop_words-stop_words.ensures,
+          )
           c.class_pipeline.ensures.leaves;
       known = c.class_pipeline.ensures.known;
     }

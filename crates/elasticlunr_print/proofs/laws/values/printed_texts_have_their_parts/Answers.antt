@@ -8,5 +8,6 @@ returns c = record {
   parts = parts_held;
   language = λ plan commands text print. language_held plan print.tables print.contents print.value print.printed;
   only = parts_read c.one_table_a_value.ensures c.one_contents_a_value.ensures max_depth;
-  only_within = λ plan commands text limit. parts_read c.one_table_a_value.ensures c.one_contents_a_value.ensures limit plan commands text;
+  only_within = λ plan commands text limit. parts_read c.one_table_a_value.ensures c.one_contents_a_value.ensures limit
+      plan commands text;
 }

@@ -14,7 +14,9 @@ returns-in-Any-clause-found g c = IfOk-weaker c.find_any.result _ _ (λ found h 
       f.place,
       f.of_field,
       subst (λ j. Finds reads j commands f.place c.args.query.now (bytes_of found.items)) (sym c.in-Any.is)
-          (finds_any_word reads f.place c.args.query.now f.tokens f.of_query commands (λ r token. law language plan.fields plan.reference_field commands f.place r token read) (bytes_of found.items) f.are),
+          (finds_any_word reads f.place c.args.query.now f.tokens f.of_query commands
+          (λ r token. law language plan.fields plan.reference_field commands f.place r token read)
+          (bytes_of found.items) f.are),
     )) c.find_any.ensures.found
 
 pub returns-in-All-clause-found : goal.returns-in-All-clause-found
@@ -25,7 +27,9 @@ returns-in-All-clause-found g c = IfOk-weaker c.find_all.result _ _ (λ found h 
       f.place,
       f.of_field,
       subst (λ j. Finds reads j commands f.place c.args.query.now (bytes_of found.items)) (sym c.in-All.is)
-          (finds_all_words reads f.place c.args.query.now f.tokens f.of_query commands (λ r token. law language plan.fields plan.reference_field commands f.place r token read) (bytes_of found.items) f.are),
+          (finds_all_words reads f.place c.args.query.now f.tokens f.of_query commands
+          (λ r token. law language plan.fields plan.reference_field commands f.place r token read)
+          (bytes_of found.items) f.are),
     )) c.find_all.ensures.found
 
 pub returns-in-Any-clause-in_trie : goal.returns-in-Any-clause-in_trie

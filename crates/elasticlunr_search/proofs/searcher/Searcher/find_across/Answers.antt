@@ -12,12 +12,17 @@ returns-clause-in_tries g c =
     let searched = tables_of c.in_ok-tries.tries.items in
     let tokens = texts_of c.in_ok-tokens.tokens.items in
     let found = bytes_of c.in_ok-found.found.items in
-    across_tries g.L.Language.tokens_of _ _ c.args.self.now (borrowed c.args.fields.now) searched c.args.query.now tokens found c.in_ok-tries.ensures.tries c.in_ok-tokens.ensures.read
-    (subst (λ ss. HaveAllAmong searched (texts_of ss) found) c.deref-2.ensures.value (subst (λ ts. HaveAllAmong (tables_of ts) (texts_of c.deref-2.result.now) found) c.deref.ensures.value c.in_ok-found.ensures))
+    across_tries g.L.Language.tokens_of _ _ c.args.self.now (borrowed c.args.fields.now) searched c.args.query.now
+    tokens found c.in_ok-tries.ensures.tries c.in_ok-tokens.ensures.read
+    (subst (λ ss. HaveAllAmong searched (texts_of ss) found) c.deref-2.ensures.value
+    (subst (λ ts. HaveAllAmong (tables_of ts) (texts_of c.deref-2.result.now) found) c.deref.ensures.value
+    c.in_ok-found.ensures))
 
 pub returns-clause-found : goal.returns-clause-found
 returns-clause-found g c language plan commands stands read =
     let reads = LanguageReads (g.L.Language.tokens_of language) (g.L.Language.leaves_of language) in
     let law = c.documents_have_the_tokens_of_their_values.ensures.tokens in
-    across_commands c.postings_tell_tokens.ensures reads plan commands _ _ _ stands.read (λ i r token. law language plan.fields plan.reference_field commands i r token read)
-    (borrowed c.args.fields.now) c.args.query.now (bytes_of c.in_ok-found.found.items) (returns-clause-in_tries g c language stands.speaks)
+    across_commands c.postings_tell_tokens.ensures reads plan commands _ _ _ stands.read
+    (λ i r token. law language plan.fields plan.reference_field commands i r token read)
+    (borrowed c.args.fields.now) c.args.query.now (bytes_of c.in_ok-found.found.items)
+    (returns-clause-in_tries g c language stands.speaks)

@@ -35,10 +35,16 @@ loop-field-preserved g c =
     let before = c.loop-field.found.keys in
     let added = c.in_ok-references.references.items in
     let after = c.extend.new.self.keys in
-    let both = IfOk-at_ok (λ _. (q : Bytes) → is_listed q (bytes_of after) ≡ (is_listed q (bytes_of before) || is_listed q (bytes_of added))) c.in_ok-extend.was
-    (fact_from_extend (λ x. x) c.extend.result c.extend.ensures.ran (λ it b. YieldsList-from_vec {s = it} added b.0 (b.1 ∙ c.in_ok-references.references.ok.0)) (λ xs e h. union_with before xs after added h.0 e)) in (
-      subst (HasFieldsOf searcher) (sym more) (All-push (λ name. IsTrue (has_name name (fields_of searcher))) _ field c.loop-field.invariant.0 (searched (has_name field (fields_of searcher)) c.in_ok-references.ensures.no_field.1)),
-      joined_more _ _ _ (bytes_of before) (bytes_of after) (bytes_of added) field more c.loop-field.invariant.1 (c.in_ok-references.ensures.found, c.in_ok-references.ensures.in_trie) both,
+    let both = IfOk-at_ok (λ _. (q : Bytes) → is_listed q (bytes_of after)
+    ≡ (is_listed q (bytes_of before) || is_listed q (bytes_of added))) c.in_ok-extend.was
+    (fact_from_extend (λ x. x) c.extend.result c.extend.ensures.ran
+    (λ it b. YieldsList-from_vec {s = it} added b.0 (b.1 ∙ c.in_ok-references.references.ok.0))
+    (λ xs e h. union_with before xs after added h.0 e)) in (
+      subst (HasFieldsOf searcher) (sym more) (All-push (λ name. IsTrue (has_name name (fields_of searcher))) _ field
+          c.loop-field.invariant.0 (searched (has_name field (fields_of searcher))
+          c.in_ok-references.ensures.no_field.1)),
+      joined_more _ _ _ (bytes_of before) (bytes_of after) (bytes_of added) field more c.loop-field.invariant.1
+          (c.in_ok-references.ensures.found, c.in_ok-references.ensures.in_trie) both,
     )
 
 pub returns : goal.returns
@@ -48,15 +54,24 @@ returns g c =
     let fields = c.args.fields.now in
     let query = c.args.query.now in
     let keys = c.loop-field.found.keys in
-    let items : c.in_ok-found.found.items ≡ keys = IfOk-at_ok (λ v. v.items ≡ keys) c.in_ok-found.was (items_from_collect c.collect.result c.collect.ensures.ran (YieldsList-from_rest keys c.into_iter.ensures.into_iter_gives.0)) in
-    let joined = all_joined _ fields c.loop-field.field-index (bytes_of keys) c.loop-field-test.false c.loop-field.invariant.1 in
+    let items : c.in_ok-found.found.items ≡ keys = IfOk-at_ok (λ v. v.items ≡ keys) c.in_ok-found.was
+    (items_from_collect c.collect.result c.collect.ensures.ran
+    (YieldsList-from_rest keys c.into_iter.ensures.into_iter_gives.0)) in
+    let joined = all_joined _ fields c.loop-field.field-index (bytes_of keys) c.loop-field-test.false
+    c.loop-field.invariant.1 in
     let order = keys_sorted keys c.into_iter.ensures.into_iter_gives.4 in
     record {
       no_field = search rules;
-      has_fields = subst (λ names. HasFieldsOf searcher (borrowed names)) (take_all c.loop-field.field-index fields c.loop-field-test.false) c.loop-field.invariant.0;
+      has_fields = subst (λ names. HasFieldsOf searcher (borrowed names))
+          (take_all c.loop-field.field-index fields c.loop-field-test.false) c.loop-field.invariant.0;
       errors = search rules;
-      found = λ language plan commands stands. let reads = LanguageReads (g.L.Language.tokens_of language) (g.L.Language.leaves_of language) in rw items
-          (λ read. are_found _ plan.fields (λ i r. IsFoundFor reads join commands i query r) (λ name part finds. finds.0 language plan commands stands read) (borrowed fields) (bytes_of keys) joined order);
-      in_tries = λ language speaks. let reads = LanguageReads (g.L.Language.tokens_of language) (g.L.Language.leaves_of language) in rw items
-          (found_in_tries _ reads (fields_of searcher) searcher.printed.tries.items join query (λ name part finds. finds.1 language speaks) (borrowed fields) (bytes_of keys) joined order);
+      found = λ language plan commands stands. let reads = LanguageReads (g.L.Language.tokens_of language)
+          (g.L.Language.leaves_of language) in rw items
+          (λ read. are_found _ plan.fields (λ i r. IsFoundFor reads join commands i query r)
+          (λ name part finds. finds.0 language plan commands stands read) (borrowed fields) (bytes_of keys) joined
+          order);
+      in_tries = λ language speaks. let reads = LanguageReads (g.L.Language.tokens_of language)
+          (g.L.Language.leaves_of language) in rw items
+          (found_in_tries _ reads (fields_of searcher) searcher.printed.tries.items join query
+          (λ name part finds. finds.1 language speaks) (borrowed fields) (bytes_of keys) joined order);
     }

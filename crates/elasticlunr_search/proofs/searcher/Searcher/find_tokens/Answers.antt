@@ -16,7 +16,8 @@ returns-in_ok-find_any_in-in-Any-clause-in_trie g c =
 pub returns-in_ok-find_any_in-in-Any-clause-found : goal.returns-in_ok-find_any_in-in-Any-clause-found
 returns-in_ok-find_any_in-in-Any-clause-found g c plan commands searches =
     let in_trie = returns-in_ok-find_any_in-in-Any-clause-in_trie g c in
-    of_tokens c.postings_tell_tokens.ensures (fields_of c.args.self.now) _ _ plan commands searches c.args.join c.args.field.now in_trie.0 (texts_of c.args.tokens.now) _ in_trie.1 in_trie.2
+    of_tokens c.postings_tell_tokens.ensures (fields_of c.args.self.now) _ _ plan commands searches c.args.join
+    c.args.field.now in_trie.0 (texts_of c.args.tokens.now) _ in_trie.1 in_trie.2
 
 pub returns-in_ok-find_all_in-in-All-clause-in_trie : goal.returns-in_ok-find_all_in-in-All-clause-in_trie
 returns-in_ok-find_all_in-in-All-clause-in_trie g c =
@@ -29,4 +30,5 @@ returns-in_ok-find_all_in-in-All-clause-in_trie g c =
 pub returns-in_ok-find_all_in-in-All-clause-found : goal.returns-in_ok-find_all_in-in-All-clause-found
 returns-in_ok-find_all_in-in-All-clause-found g c plan commands searches =
     let in_trie = returns-in_ok-find_all_in-in-All-clause-in_trie g c in
-    of_tokens c.postings_tell_tokens.ensures (fields_of c.args.self.now) _ _ plan commands searches c.args.join c.args.field.now in_trie.0 (texts_of c.args.tokens.now) _ in_trie.1 in_trie.2
+    of_tokens c.postings_tell_tokens.ensures (fields_of c.args.self.now) _ _ plan commands searches c.args.join
+    c.args.field.now in_trie.0 (texts_of c.args.tokens.now) _ in_trie.1 in_trie.2

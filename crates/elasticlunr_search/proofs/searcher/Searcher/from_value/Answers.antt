@@ -11,5 +11,7 @@ returns-clause-stands g c plan commands text reads print =
     let law = c.printed_texts_have_their_parts.ensures.only in
     record {
       speaks = record { its_language = refl; stages = c.in_ok-pipeline.ensures.leaves };
-      read = law plan commands text (view c.args.value.now) (bytes_of printed.fields.items) printed.tries.items printed.store print reads (print_parts plan commands text (view c.args.value.now) _ _ _ print (max_depth, reads) c.in_ok-printed.ensures.parts);
+      read = law plan commands text (view c.args.value.now) (bytes_of printed.fields.items) printed.tries.items
+          printed.store print reads (print_parts plan commands text (view c.args.value.now) _ _ _ print
+          (max_depth, reads) c.in_ok-printed.ensures.parts);
     }

@@ -10,7 +10,9 @@ returns-clause-stands g c = IfOk-both c.with_pipeline.result _ _ _ (λ s stands 
 }) c.with_pipeline.ensures.stands c.with_pipeline.ensures.chosen
 
 pub returns-clause-speaks : goal.returns-clause-speaks
-returns-clause-speaks g c = IfOk-weaker c.with_pipeline.result _ _ (λ s chosen. speaks_as_chosen _ _ s c.args.language c.in_ok-pipeline.pipeline chosen c.in_ok-pipeline.ensures.leaves) c.with_pipeline.ensures.chosen
+returns-clause-speaks g c = IfOk-weaker c.with_pipeline.result _ _
+    (λ s chosen. speaks_as_chosen _ _ s c.args.language c.in_ok-pipeline.pipeline chosen
+    c.in_ok-pipeline.ensures.leaves) c.with_pipeline.ensures.chosen
 
 pub returns-clause-refused : goal.returns-clause-refused
 returns-clause-refused g c = rw (c.in_ok-pipeline.ensures.names) at c.with_pipeline.ensures.refused

@@ -24,7 +24,10 @@ loop-field-preserved g c =
     let tries = c.loop-field.tries.items in
     let trie = c.in-Some.trie in
     let longer = ap tables_of c.in_ok-push.ensures.items ∙ map-append (λ (t : Bor Table). t.now) tries (trie ∷ []) in
-    let all = push (IsTrieOf (fields_of searcher) searcher.printed.tries.items) before (tables_of tries) field trie.now c.loop-field.invariant.1 c.in-Some.ensures.trie in (
-      subst (HasFieldsOf searcher) (sym more) (All-push (λ name. IsTrue (has_name name (fields_of searcher))) before field c.loop-field.invariant.0 (c.in-Some.ensures.there.0 refl)),
-      subst (λ names. AreTriesOf searcher names (tables_of c.push.new.self.items)) (sym more) (subst (AreTriesOf searcher (before ++ field ∷ [])) (sym longer) all),
+    let all = push (IsTrieOf (fields_of searcher) searcher.printed.tries.items) before (tables_of tries) field trie.now
+    c.loop-field.invariant.1 c.in-Some.ensures.trie in (
+      subst (HasFieldsOf searcher) (sym more) (All-push (λ name. IsTrue (has_name name (fields_of searcher))) before
+          field c.loop-field.invariant.0 (c.in-Some.ensures.there.0 refl)),
+      subst (λ names. AreTriesOf searcher names (tables_of c.push.new.self.items)) (sym more)
+          (subst (AreTriesOf searcher (before ++ field ∷ [])) (sym longer) all),
     )

@@ -3,10 +3,11 @@ use Rattle.elasticlunr_search.specs.Refusal.{NamesOther}
 use Rattle.elasticlunr_search.proofs.Naming.{names_one}
 use Rattle.elasticlunr_search.proofs.source.Source.names_other.Goals as goal
 
-pub returns-in-Anew : goal.returns-in-Anew
-returns-in-Anew c v is =
-    let made = rw c.in-Anew.is at is in
-    names_one c.args.language.now _ v _ made.language (c.ne.ensures ∙ ap (λ n. not (bytes_eq n c.args.language.now)) c.as_str.ensures.value)
+pub returns-in-RebuiltIndex : goal.returns-in-RebuiltIndex
+returns-in-RebuiltIndex c v is =
+    let made = rw c.in-RebuiltIndex.is at is in
+    names_one c.args.language.now _ v _ made.language (c.ne.ensures ∙ ap (λ n. not (bytes_eq n c.args.language.now))
+    c.as_str.ensures.value)
 
 pub returns-in-Value : goal.returns-in-Value
 returns-in-Value c v is =

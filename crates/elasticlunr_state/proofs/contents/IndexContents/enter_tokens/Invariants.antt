@@ -8,6 +8,7 @@ use Rattle.elasticlunr_state.proofs.contents.IndexContents.enter_tokens.Given as
 abbrev pub invariant-loop-i : goal.invariant-loop-i
 invariant-loop-i l = record {
   adds : AddsTokens l.doc_ref (map (λ e. texts_left e.1) l.yielded) l.fn.self.tries.items l.self.tries.items;
-  store : l.self.store ≡ with_all_tokens l.fn.self.store l.doc_ref (bytes_of l.fields) (map (λ e. texts_left e.1) l.yielded);
+  store : l.self.store ≡ with_all_tokens l.fn.self.store l.doc_ref (bytes_of l.fields)
+      (map (λ e. texts_left e.1) l.yielded);
   others_stay : OthersStay l.doc_ref l.fn.self.tries.items l.self.tries.items l.fn.self.store l.self.store;
 }

@@ -7,11 +7,14 @@ use Rattle.elasticlunr_store.proofs.config.SearchOptions.to_value.Goals as goal
 
 pub returns-clause-whole : goal.returns-clause-whole
 returns-clause-whole c =
-    let value = c.in_ok-whole_value.ensures ∙ ap (options_object (bool_value c.args.self.now.bool) (boolean c.args.self.now.expand)) c.in_ok-fields.ensures in
+    let value = c.in_ok-whole_value.ensures
+    ∙ ap (options_object (bool_value c.args.self.now.bool) (boolean c.args.self.now.expand))
+    c.in_ok-fields.ensures in
     ap has_float value ∙ no_float (options_of c.args.self.now)
 
 pub returns-clause-small : goal.returns-clause-small
 returns-clause-small c = small_boosts (options_of c.args.self.now)
 
 pub returns-clause-value : goal.returns-clause-value
-returns-clause-value c = c.in_ok-whole_value.ensures ∙ ap (options_object (bool_value c.args.self.now.bool) (boolean c.args.self.now.expand)) c.in_ok-fields.ensures
+returns-clause-value c = c.in_ok-whole_value.ensures
+    ∙ ap (options_object (bool_value c.args.self.now.bool) (boolean c.args.self.now.expand)) c.in_ok-fields.ensures

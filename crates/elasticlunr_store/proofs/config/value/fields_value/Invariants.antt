@@ -8,4 +8,6 @@ use Rattle.elasticlunr_store.proofs.config.value.fields_value.Given as goal
 
 -- a member for each entry that was read
 abbrev pub invariant-loop-name : goal.invariant-loop-name
-invariant-loop-name l = (done : List (String Global × SearchOptionsField)) × (done ++ l.name-iterator ≡ l.fields.entries) × (members_view l.members.entries ≡ members field_value (shown (λ field. field) done))
+invariant-loop-name l = (done : List (String Global × SearchOptionsField))
+    × (done ++ l.name-iterator ≡ l.fields.entries)
+    × (members_view l.members.entries ≡ members field_value (shown (λ field. field) done))

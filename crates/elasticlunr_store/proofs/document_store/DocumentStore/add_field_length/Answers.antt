@@ -9,11 +9,18 @@ pub invariant_of-self-2 : goal.invariant_of-self-2
 invariant_of-self-2 c =
     let set = sym c.in_ok-set_length.ensures.ok in
     are_contents c.self.inside.save c.self.inside.docs.entries c.set_length.new.doc_info.entries
-    (subst IsConsistent (λ i. record { save = c.self.inside.save; texts = document_texts c.self.inside.docs.entries; lengths = set i })
-    (length_kept (contents_of c.self.inside.save c.self.inside.docs.entries c.self.inside.doc_info.entries) c.args.doc_ref.now c.args.field.now c.args.length c.self.invariant.consistent))
-    (subst HasSmallLengths set (length_small (document_lengths c.self.inside.doc_info.entries) c.args.doc_ref.now c.args.field.now c.args.length (omega arith) (small_lengths _ c.self.invariant)))
+    (subst IsConsistent (λ i. record {
+      save = c.self.inside.save;
+      texts = document_texts c.self.inside.docs.entries;
+      lengths = set i;
+    })
+    (length_kept (contents_of c.self.inside.save c.self.inside.docs.entries c.self.inside.doc_info.entries)
+    c.args.doc_ref.now c.args.field.now c.args.length c.self.invariant.consistent))
+    (subst HasSmallLengths set (length_small (document_lengths c.self.inside.doc_info.entries) c.args.doc_ref.now
+    c.args.field.now c.args.length (omega arith) (small_lengths _ c.self.invariant)))
 
 pub returns-clause-ok : goal.returns-clause-ok
 returns-clause-ok c =
     let set = c.in_ok-set_length.ensures.ok in
-    (λ i. record { save = c.self.inside.save; texts = document_texts c.self.inside.docs.entries; lengths = set i }) ∙ ap (λ s. with_length s c.args.doc_ref.now c.args.field.now c.args.length) c.self.view_is
+    (λ i. record { save = c.self.inside.save; texts = document_texts c.self.inside.docs.entries; lengths = set i })
+    ∙ ap (λ s. with_length s c.args.doc_ref.now c.args.field.now c.args.length) c.self.view_is

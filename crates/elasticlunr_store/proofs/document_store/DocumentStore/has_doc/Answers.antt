@@ -6,5 +6,6 @@ use Rattle.elasticlunr_store.proofs.document_store.DocumentStore.has_doc.Goals a
 
 pub returns : goal.returns
 returns c =
-    c.contains_key.ensures ∙ sym (is_some_map (λ m. text_map m.entries) _) ∙ ap is_some (sym (get_seen (λ m. text_map m.entries) c.self.inside.docs c.args.doc_ref.now))
+    c.contains_key.ensures ∙ sym (is_some_map (λ m. text_map m.entries) _)
+    ∙ ap is_some (sym (get_seen (λ m. text_map m.entries) c.self.inside.docs c.args.doc_ref.now))
     ∙ ap (λ s. contains_key s.texts c.args.doc_ref.now) c.self.view_is

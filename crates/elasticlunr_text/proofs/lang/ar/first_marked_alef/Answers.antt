@@ -6,8 +6,10 @@ use Rattle.elasticlunr_text.proofs.lang.ar.first_marked_alef.Goals as goal
 
 pub returns-clause-found : goal.returns-clause-found
 returns-clause-found c =
-    IfSome-find is_marked_alef _ c.args.text.now c.find.result c.utf8.text c.find.ensures.cases (always_returns_same _ _ _ (λ a r f' k. search rules))
+    IfSome-find is_marked_alef _ c.args.text.now c.find.result c.utf8.text c.find.ensures.cases
+    (always_returns_same _ _ _ (λ a r f' k. search rules))
 
 pub returns-clause-none : goal.returns-clause-none
 returns-clause-none c =
-    IfNone-find is_marked_alef _ c.args.text.now c.find.result c.utf8.text c.find.ensures.cases (always_returns_same _ _ _ (λ a r f' k. search rules))
+    IfNone-find is_marked_alef _ c.args.text.now c.find.result c.utf8.text c.find.ensures.cases
+    (always_returns_same _ _ _ (λ a r f' k. search rules))

@@ -13,7 +13,8 @@ pub put_names-requires-clause-postings : goal.put_names-requires-clause-postings
 put_names-requires-clause-postings c =
     let found = rw (c.deref.ensures.value, c.deref-2.ensures.value) at c.in-Some.ensures in
     let names = c.self.inside.names in
-    subst (ArePostings names) (sym c.pairs.ensures) (pairs_are names c.in-Some.postings.now (found.numbered names c.self.invariant.0.listed.named))
+    subst (ArePostings names) (sym c.pairs.ensures)
+    (pairs_are names c.in-Some.postings.now (found.numbered names c.self.invariant.0.listed.named))
 
 pub returns-in_ok-put_names-in-Some-clause-listed : goal.returns-in_ok-put_names-in-Some-clause-listed
 returns-in_ok-put_names-in-Some-clause-listed c r =
@@ -22,7 +23,9 @@ returns-in_ok-put_names-in-Some-clause-listed c r =
     let P = c.in-Some.postings.now in
     c.in_ok-put_names-in-Some.ensures.listed r
     ∙ ap (λ Q. is_listed r (texts_in c.args.found.now) || is_some (get Q r))
-    (ap (named_pairs names) c.pairs.ensures ∙ sym (pairs_named names P (found.numbered names c.self.invariant.0.listed.named) c.self.invariant.0.names_are) ∙ sym (found.postings names)
+    (ap (named_pairs names) c.pairs.ensures
+    ∙ sym (pairs_named names P (found.numbered names c.self.invariant.0.listed.named)
+    c.self.invariant.0.names_are) ∙ sym (found.postings names)
     ∙ ap (λ T. postings T (chars c.args.token.now)) c.self.view_is)
 
 pub returns-in_err-put_names-in-Some-clause-err : goal.returns-in_err-put_names-in-Some-clause-err
@@ -32,13 +35,17 @@ returns-in_err-put_names-in-Some-clause-err c =
     let P = c.in-Some.postings.now in
     on_err c.from_residual.result _ (λ r h.
     sym (ap (λ Q. is_listed r (texts_in c.args.found.now) || is_some (get Q r))
-    (ap (named_pairs names) c.pairs.ensures ∙ sym (pairs_named names P (found.numbered names c.self.invariant.0.listed.named) c.self.invariant.0.names_are) ∙ sym (found.postings names)
+    (ap (named_pairs names) c.pairs.ensures
+    ∙ sym (pairs_named names P (found.numbered names c.self.invariant.0.listed.named)
+    c.self.invariant.0.names_are) ∙ sym (found.postings names)
     ∙ ap (λ T. postings T (chars c.args.token.now)) c.self.view_is)) ∙ c.in_err-put_names-in-Some.ensures.err r h)
 
 pub returns-in-None-clause-listed : goal.returns-in-None-clause-listed
 returns-in-None-clause-listed c r =
     let found = rw (c.deref.ensures.value, c.deref-2.ensures.value) at c.in-None.ensures in
     let names = c.self.inside.names in
-    let none = sym (no_names names) ∙ sym (found.postings names) ∙ ap (λ T. postings T (chars c.args.token.now)) c.self.view_is in
+    let none = sym (no_names names) ∙ sym (found.postings names)
+    ∙ ap (λ T. postings T (chars c.args.token.now)) c.self.view_is in
     or_none (is_listed r (texts_in c.args.found.now))
-    ∙ ap (λ b. is_listed r (texts_in c.args.found.now) || b) (sym (ap is_some (get-empty text_cmp r)) ∙ ap (λ Q. is_some (get Q r)) none)
+    ∙ ap (λ b. is_listed r (texts_in c.args.found.now) || b) (sym (ap is_some (get-empty text_cmp r))
+    ∙ ap (λ Q. is_some (get Q r)) none)

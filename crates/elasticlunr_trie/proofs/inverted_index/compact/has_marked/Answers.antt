@@ -12,9 +12,11 @@ bounds-marks-k c =
     let all = c.args.children.now in
     let i = c.loop-child.child-index in
     let e = get_or all i (0, 0) in
-    let item = get_or_read_under all i (length all) c.child-item.result (0, 0) c.child-item.is c.loop-child-test.true refl in
+    let item = get_or_read_under all i (length all) c.child-item.result (0, 0) c.child-item.is c.loop-child-test.true
+    refl in
     let node = c.node-k.ensures ∙ ap (λ p. p.1) item in
-    let here = value_at_place all c.requires.sorted e.0 i (record { in_range = c.loop-child-test.true; has_key = refl }) in
+    let here = value_at_place all c.requires.sorted e.0 i (record { in_range = c.loop-child-test.true; has_key = refl })
+    in
     subst (λ n. n < length c.args.marks.now) (sym node) (c.requires.in_range _ _ here)
 
 pub returns-then-marks-k : goal.returns-then-marks-k
@@ -23,11 +25,21 @@ returns-then-marks-k c =
     let marks = c.args.marks.now in
     let i = c.loop-child.child-index in
     let e = get_or all i (0, 0) in
-    let item = get_or_read_under all i (length all) c.child-item.result (0, 0) c.child-item.is c.loop-child-test.true refl in
+    let item = get_or_read_under all i (length all) c.child-item.result (0, 0) c.child-item.is c.loop-child-test.true
+    refl in
     let node = c.node-k.ensures ∙ ap (λ p. p.1) item in
-    let here = value_at_place all c.requires.sorted e.0 i (record { in_range = c.loop-child-test.true; has_key = refl }) in
-    let there = subst (λ n. n < length marks) (sym node) (c.requires.in_range _ _ here) in
-    (λ _. (e.0, e.1, here, subst (λ n. is_marked marks n ≡ true) node (is_marked_or marks c.node-k.result _ there ∙ c.if-marks-k.true)), λ _. refl)
+    let here = value_at_place all c.requires.sorted e.0 i (record { in_range = c.loop-child-test.true; has_key = refl })
+    in
+    let there = subst (λ n. n < length marks) (sym node) (c.requires.in_range _ _ here) in (
+      λ _. (
+        e.0,
+        e.1,
+        here,
+        subst (λ n. is_marked marks n ≡ true) node (is_marked_or marks c.node-k.result _ there
+            ∙ c.if-marks-k.true),
+      ),
+      λ _. refl,
+    )
 
 pub loop-child-preserved : goal.loop-child-preserved
 loop-child-preserved c q lt =
@@ -35,11 +47,14 @@ loop-child-preserved c q lt =
     let marks = c.args.marks.now in
     let i = c.loop-child.child-index in
     let e = get_or all i (0, 0) in
-    let item = get_or_read_under all i (length all) c.child-item.result (0, 0) c.child-item.is c.loop-child-test.true refl in
+    let item = get_or_read_under all i (length all) c.child-item.result (0, 0) c.child-item.is c.loop-child-test.true
+    refl in
     let node = c.node-k.ensures ∙ ap (λ p. p.1) item in
-    let here = value_at_place all c.requires.sorted e.0 i (record { in_range = c.loop-child-test.true; has_key = refl }) in
+    let here = value_at_place all c.requires.sorted e.0 i (record { in_range = c.loop-child-test.true; has_key = refl })
+    in
     let there = subst (λ n. n < length marks) (sym node) (c.requires.in_range _ _ here) in
-    let unmarked = subst (λ n. is_marked marks n ≡ false) node (is_marked_or marks c.node-k.result _ there ∙ c.if-marks-k.false) in
+    let unmarked = subst (λ n. is_marked marks n ≡ false) node (is_marked_or marks c.node-k.result _ there
+    ∙ c.if-marks-k.false) in
     elim (cases_eq q i) [
       | inl same ↦ ap (λ x. is_marked marks (get_or all x (0, 0)).1) same ∙ unmarked
       | inr apart ↦ c.loop-child.invariant q (omega arith)
@@ -50,5 +65,6 @@ returns c = (
   λ h. absurd (false≢true h),
   λ some.
       let at = child_place c.args.children.now some.0 some.1 some.2 in
-      absurd (false≢true (sym (c.loop-child.invariant at.0 (omega (arith, at.1, c.loop-child-test.false))) ∙ ap (is_marked c.args.marks.now) at.2 ∙ some.3)),
+      absurd (false≢true (sym (c.loop-child.invariant at.0 (omega (arith, at.1, c.loop-child-test.false)))
+      ∙ ap (is_marked c.args.marks.now) at.2 ∙ some.3)),
 )

@@ -1,7 +1,7 @@
 use Rattle.std.proofs.Common.{chars}
 use Rattle.std.proofs.lemmas.Str.{IsUtf8-nil}
 use Rattle.elasticlunr_trie_nodes.specs.Trie.{step_of}
-use Rattle.elasticlunr_trie.proofs.Ends.{all_known}
+use Rattle.elasticlunr_trie.proofs.TokenCache.{all_known}
 use Rattle.elasticlunr_trie.proofs.inverted_index.ends.begin.Goals as goal
 
 pub returns-in-Some-clause-start : goal.returns-in-Some-clause-start

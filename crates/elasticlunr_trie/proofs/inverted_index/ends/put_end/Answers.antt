@@ -1,5 +1,5 @@
 use Rattle.std.proofs.lemmas.List.Elements.{All-set}
-use Rattle.elasticlunr_trie.specs.Ends.{IsEnd}
+use Rattle.elasticlunr_trie.specs.TokenCache.{IsEnd}
 use Rattle.elasticlunr_trie.proofs.inverted_index.ends.put_end.Goals as goal
 
 pub returns : goal.returns

@@ -1,6 +1,6 @@
 use Rattle.std.proofs.Common.{All}
 use Rattle.elasticlunr_trie_nodes.specs.Trie.{Step}
-use Rattle.elasticlunr_trie.specs.Ends.{IsEnd}
+use Rattle.elasticlunr_trie.specs.TokenCache.{IsEnd}
 use Rattle.elasticlunr_trie.proofs.inverted_index.ends.twice_as_many.Given as goal
 
 -- what is in more slots is right, where what is in the first ones is

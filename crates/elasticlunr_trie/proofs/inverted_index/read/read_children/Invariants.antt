@@ -13,5 +13,6 @@ invariant-loop-key l =
       done : List Entry;
       split : done ++ l.key-iterator ≡ l.members.entries;
       sorted : IsStrictlySortedBy string_cmp (keys_of (done ++ l.key-iterator));
-      reads : ReadsChildren l.children.items (borrowed_values l.fn.waiting.items) (borrowed_values l.waiting.items) (members_view done);
+      reads : ReadsChildren l.children.items (borrowed_values l.fn.waiting.items) (borrowed_values l.waiting.items)
+          (members_view done);
     }

@@ -5,7 +5,12 @@ use Rattle.elasticlunr_trie.proofs.References.{in_order, now_behind}
 use Rattle.elasticlunr_trie.proofs.inverted_index.references.copied.Goals as goal
 
 pub loop-text-init : goal.loop-text-init
-loop-text-init c = ([], c.into_iter-text-iterator.ensures.into_iter_gives ∙ c.iter-text-items.ensures.rest, ap bytes_of c.in_ok-copies.ensures.items)
+loop-text-init c = (
+  [],
+  c.into_iter-text-iterator.ensures.into_iter_gives
+      ∙ c.iter-text-items.ensures.rest,
+  ap bytes_of c.in_ok-copies.ensures.items,
+)
 
 pub loop-text-preserved : goal.loop-text-preserved
 loop-text-preserved c =
@@ -14,7 +19,8 @@ loop-text-preserved c =
     let more = ap (λ ts. held.0 ++ ts) (sym c.in-Some.ensures.steps) ∙ held.1 in (
       held.0 ++ text ∷ [],
       append_assoc held.0 (text ∷ []) c.next.new.self ∙ more,
-      ap bytes_of c.in_ok-push.ensures.items ∙ bytes_behind c.loop-text.copies.items c.in_ok-from_str.field-0 ∙ (λ i. held.2 i ++ c.in_ok-from_str.ensures.ok i ∷ []) ∙ sym (now_behind held.0 text),
+      ap bytes_of c.in_ok-push.ensures.items ∙ bytes_behind c.loop-text.copies.items c.in_ok-from_str.field-0
+          ∙ (λ i. held.2 i ++ c.in_ok-from_str.ensures.ok i ∷ []) ∙ sym (now_behind held.0 text),
     )
 
 pub returns-clause-texts : goal.returns-clause-texts

@@ -5,4 +5,5 @@ use Rattle.elasticlunr_trie.proofs.inverted_index.references.copied.Given as goa
 
 -- the texts so far
 abbrev pub invariant-loop-text : goal.invariant-loop-text
-invariant-loop-text l = (done : List (Bor Bytes)) × (done ++ l.text-iterator ≡ l.texts.keys) × (bytes_of l.copies.items ≡ map (λ t. t.now) done)
+invariant-loop-text l = (done : List (Bor Bytes)) × (done ++ l.text-iterator ≡ l.texts.keys)
+    × (bytes_of l.copies.items ≡ map (λ t. t.now) done)

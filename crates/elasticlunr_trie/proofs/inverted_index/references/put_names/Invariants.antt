@@ -6,4 +6,5 @@ use Rattle.elasticlunr_trie.proofs.inverted_index.references.put_names.Given as 
 
 -- the names so far stand in the set, and what stood there
 abbrev pub invariant-loop-posting : goal.invariant-loop-posting
-invariant-loop-posting l = (r : Bytes) → is_listed r (texts_in l.found) ≡ (is_listed r (texts_in l.fn.found) || is_listed r (names_among l.names (take l.posting-index l.pairs)))
+invariant-loop-posting l = (r : Bytes) → is_listed r (texts_in l.found)
+    ≡ (is_listed r (texts_in l.fn.found) || is_listed r (names_among l.names (take l.posting-index l.pairs)))

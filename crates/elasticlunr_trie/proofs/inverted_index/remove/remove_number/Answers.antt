@@ -12,10 +12,14 @@ pub loop-node-preserved : goal.loop-node-preserved
 loop-node-preserved c =
     let list = c.args.list.now in
     let i = c.loop-node.node-index in
-    let same = c.get-at.ensures ∙ get_or_read_under list i (length list) c.node-item.result 0 c.node-item.is c.loop-node-test.true refl in
+    let same = c.get-at.ensures ∙ get_or_read_under list i (length list) c.node-item.result 0 c.node-item.is
+    c.loop-node-test.true refl in
     elim c.if-at-len.branch [
-      | then-at-len w ↦ rw w.nodes-is (loses_step _ _ _ _ _ c.loop-node.invariant _ (subst (λ k. ClearsNumber c.loop-node.nodes.items w.clear_number.new.nodes.items k c.args.number) same w.clear_number.ensures))
-      | else-at-len w ↦ rw w.nodes-is (loses_skip _ _ _ _ _ c.loop-node.invariant (omega (arith, same, w.if-at-len.false, c.len.ensures, c.loop-node.nodes.ok.0)))
+      | then-at-len w ↦ rw w.nodes-is (loses_step _ _ _ _ _ c.loop-node.invariant _
+          (subst (λ k. ClearsNumber c.loop-node.nodes.items w.clear_number.new.nodes.items k c.args.number) same
+          w.clear_number.ensures))
+      | else-at-len w ↦ rw w.nodes-is (loses_skip _ _ _ _ _ c.loop-node.invariant
+          (omega (arith, same, w.if-at-len.false, c.len.ensures, c.loop-node.nodes.ok.0)))
     ]
 
 pub returns : goal.returns

@@ -5,4 +5,5 @@ use Rattle.elasticlunr_trie.proofs.inverted_index.same.includes.Given as goal
 
 -- the pairs so far are on the other side
 abbrev pub invariant-loop-posting : goal.invariant-loop-posting
-invariant-loop-posting l = (i : ℕ) → i < l.posting-index → at l.names2 (get_or l.names (key_at l.pairs i) []) l.postings2 ≡ Some (get_or l.pairs i (0, 0)).1
+invariant-loop-posting l = (i : ℕ) → i < l.posting-index → at l.names2 (get_or l.names (key_at l.pairs i) [])
+    l.postings2 ≡ Some (get_or l.pairs i (0, 0)).1

@@ -17,6 +17,7 @@ returns c = (
   λ yes r is.
       let both : Some c.name.result.now ≡ Some r = sym c.name.ensures ∙ is in
       let name : c.name.result.now ≡ r = cc in
-      ap (λ q. at c.args.names2.now q c.args.postings2.now) (sym name) ∙ sym c.frequency_of.ensures ∙ some_told _ c.args.frequency (sym c.eq.ensures ∙ yes),
+      ap (λ q. at c.args.names2.now q c.args.postings2.now) (sym name) ∙ sym c.frequency_of.ensures
+      ∙ some_told _ c.args.frequency (sym c.eq.ensures ∙ yes),
   λ all. c.eq.ensures ∙ some_same _ c.args.frequency (c.frequency_of.ensures ∙ all _ c.name.ensures),
 )

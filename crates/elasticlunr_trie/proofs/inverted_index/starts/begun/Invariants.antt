@@ -7,4 +7,5 @@ use Rattle.elasticlunr_trie.proofs.inverted_index.starts.begun.Given as goal
 -- the tokens from here on come after those that have a start
 abbrev pub invariant-loop-token : goal.invariant-loop-token
 invariant-loop-token l =
-    All (IsStart (step_of l.root l.nodes)) l.starts.items × (map told l.starts.items ++ told_tokens (drop l.token-index l.tokens) ≡ told_tokens l.tokens)
+    All (IsStart (step_of l.root l.nodes)) l.starts.items
+    × (map told l.starts.items ++ told_tokens (drop l.token-index l.tokens) ≡ told_tokens l.tokens)

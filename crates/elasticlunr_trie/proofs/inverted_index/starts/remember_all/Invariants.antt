@@ -1,5 +1,5 @@
 use Rattle.elasticlunr_trie_nodes.specs.Trie.{step_of}
-use Rattle.elasticlunr_trie.specs.Ends.{AreEnds}
+use Rattle.elasticlunr_trie.specs.TokenCache.{AreEnds}
 use Rattle.elasticlunr_trie.proofs.inverted_index.starts.remember_all.Given as goal
 
 abbrev pub invariant-loop-i : goal.invariant-loop-i

@@ -11,7 +11,8 @@ loop-i-preserved c =
     let starts = c.loop-i.starts in
     let i = c.loop-i.i in
     let new = c.step.result in (
-      All-set (IsStart (step_of c.args.root.now c.args.nodes.now)) starts i new c.step.ensures.start c.loop-i.invariant.0,
+      All-set (IsStart (step_of c.args.root.now c.args.nodes.now)) starts i new c.step.ensures.start
+          c.loop-i.invariant.0,
       map-set_same told starts i new _ c.step.ensures.told ∙ c.loop-i.invariant.1,
       length-set starts i new ∙ c.loop-i.invariant.2,
     )

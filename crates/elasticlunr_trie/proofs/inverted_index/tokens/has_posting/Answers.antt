@@ -17,9 +17,11 @@ more_than_none n = elim (cases_eq n 0) [
 pub returns-then-k-nodes : goal.returns-then-k-nodes
 returns-then-k-nodes c =
     ap not c.is_empty.ensures ∙ more_than_none (length c.pairs.result.now)
-    ∙ ap (λ es. nat_lt 0 (length es)) c.pairs.ensures ∙ ap (nat_lt 0) (sym (len-entries c.postings_at.result.now)) ∙ ap (λ P. nat_lt 0 (len P)) c.postings_at.ensures
+    ∙ ap (λ es. nat_lt 0 (length es)) c.pairs.ensures ∙ ap (nat_lt 0) (sym (len-entries c.postings_at.result.now))
+    ∙ ap (λ P. nat_lt 0 (len P)) c.postings_at.ensures
 
 pub returns-else-k-nodes : goal.returns-else-k-nodes
 returns-else-k-nodes c =
     le-ltb c.args.k (length c.args.nodes.now) c.if-k-nodes.false
-    ∙ sym (ap (λ o. nat_lt 0 (len (entries_of o))) (get_past c.args.nodes.now c.args.k c.if-k-nodes.false) ∙ ap (nat_lt 0) (len-empty nat_cmp ℕ))
+    ∙ sym (ap (λ o. nat_lt 0 (len (entries_of o))) (get_past c.args.nodes.now c.args.k c.if-k-nodes.false)
+    ∙ ap (nat_lt 0) (len-empty nat_cmp ℕ))

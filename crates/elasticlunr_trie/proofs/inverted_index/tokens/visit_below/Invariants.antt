@@ -8,8 +8,11 @@ use Rattle.elasticlunr_trie.proofs.inverted_index.tokens.visit_below.Given as go
 abbrev pub invariant-loop-left : goal.invariant-loop-left
 invariant-loop-left l = record {
   level : l.stack.items ≢ [] → suc (length (text_of l.path)) ≡ length (chars l.text) + length l.stack.items;
-  tokens : texts_of l.found.items ++ posted l.nodes (left l.nodes (length (chars l.text)) (text_of l.path) l.stack.items) ≡ texts_of l.fn.found.items ++ posted l.nodes (below (node_visits l.nodes) (chars l.text) l.children);
+  tokens : texts_of l.found.items ++ posted l.nodes
+      (left l.nodes (length (chars l.text)) (text_of l.path) l.stack.items)
+      ≡ texts_of l.fn.found.items ++ posted l.nodes (below (node_visits l.nodes) (chars l.text) l.children);
 }
 
 abbrev pub decreases-loop-left : goal.decreases-loop-left
-decreases-loop-left l = 2 * length (left l.nodes (length (chars l.text)) (text_of l.path) l.stack.items) + length l.stack.items
+decreases-loop-left l = 2 * length (left l.nodes (length (chars l.text)) (text_of l.path) l.stack.items) + length
+    l.stack.items

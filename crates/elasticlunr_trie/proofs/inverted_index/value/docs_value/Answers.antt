@@ -20,13 +20,18 @@ loop-number-preserved c =
     let names = c.args.names.now in
     let e = get_or r i (0, 0, 0) in
     let name = name_of names e.1 c.name.result.now (c.requires.there i c.loop-number-test.true) c.name.ensures in
-    let inner = view-Object c.set_member.new.members ∙ ap object (c.in_ok-set_member.ensures.put ∙ (λ j. put (codes "tf") (c.from.ensures j) (members_view (c.new-frequency.ensures.empty j)))) in
-    let sorted = subst (λ es. T (is_sorted text_cmp es)) (c.requires.shown.1 ∙ sym (under_behind_split names r i c.loop-number-test.true)) (entries_sorted c.requires.shown.0) in
+    let inner = view-Object c.set_member.new.members
+    ∙ ap object (c.in_ok-set_member.ensures.put
+    ∙ (λ j. put (codes "tf") (c.from.ensures j) (members_view (c.new-frequency.ensures.empty j)))) in
+    let sorted = subst (λ es. T (is_sorted text_cmp es)) (c.requires.shown.1
+    ∙ sym (under_behind_split names r i c.loop-number-test.true)) (entries_sorted c.requires.shown.0) in
     c.in_ok-set_member-2.ensures.put ∙ (λ j. put (name j) (inner j) (c.loop-number.invariant j))
-    ∙ put_behind_all (under_names names (behind (take i r))) (get_or names e.1 [], e.2) (under_names names (behind (drop (suc i) r))) sorted
+    ∙ put_behind_all (under_names names (behind (take i r))) (get_or names e.1 [], e.2)
+    (under_names names (behind (drop (suc i) r))) sorted
     ∙ ap frequencies (sym (under_behind_more names r i c.loop-number-test.true))
 
 pub returns : goal.returns
 returns c =
     let all = take_all c.loop-number.number-index c.args.ranked.now c.loop-number-test.false in
-    view-Object c.loop-number.docs ∙ ap object (c.loop-number.invariant ∙ ap (λ r. frequencies (under_names c.args.names.now (behind r))) all)
+    view-Object c.loop-number.docs ∙ ap object (c.loop-number.invariant
+    ∙ ap (λ r. frequencies (under_names c.args.names.now (behind r))) all)

@@ -7,4 +7,5 @@ use Rattle.elasticlunr_trie.proofs.inverted_index.value.docs_value.Given as goal
 
 -- a member for each posting so far
 abbrev pub invariant-loop-number : goal.invariant-loop-number
-invariant-loop-number l = members_view l.docs.entries ≡ frequencies (under_names l.names (behind (take l.number-index l.ranked)))
+invariant-loop-number l = members_view l.docs.entries
+    ≡ frequencies (under_names l.names (behind (take l.number-index l.ranked)))

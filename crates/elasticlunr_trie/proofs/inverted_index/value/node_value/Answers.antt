@@ -11,8 +11,10 @@ returns-clause-node c =
     let first = members_view c.put_children.new.members.entries in
     let two = c.in_ok-set_member.ensures.put in
     let whole = c.in_ok-set_member-2.ensures.put ∙ (λ i. put (codes "df") (c.from.ensures i) (two i)) in
-    let order = subst HasKeysInOrder whole (ordered_members c.set_member-2.new.members.entries c.in_ok-set_member-2.ensures.ordered) in (
+    let order = subst HasKeysInOrder whole (ordered_members c.set_member-2.new.members.entries
+    c.in_ok-set_member-2.ensures.ordered) in (
       put (codes "df") (number (unsigned c.args.df)) (put (codes "docs") (view c.args.docs) first),
       view-Object c.set_member-2.new.members ∙ ap object whole,
-      made_node c.args.children.now c.args.finished.now (view c.args.docs) c.args.df first c.in_ok-put_children.ensures.put order,
+      made_node c.args.children.now c.args.finished.now (view c.args.docs) c.args.df first
+          c.in_ok-put_children.ensures.put order,
     )

@@ -12,5 +12,7 @@ returns-clause-left g c names =
     let nodes = c.args.nodes.now in
     let old = c.args.stack.now.items in
     ap (stack_tokens names nodes) c.in_ok-push.ensures.items ∙ stack_push names nodes old _
-    ∙ ap (λ es. tokens_of (place_members (node_tree names nodes) (named names (entries_of (slice_get nodes c.node-k.result))) es) ++ stack_tokens names nodes old) c.children_of.ensures
+    ∙ ap (λ es. tokens_of (place_members (node_tree names nodes)
+    (named names (entries_of (slice_get nodes c.node-k.result))) es) ++ stack_tokens names nodes old)
+    c.children_of.ensures
     ∙ ap (λ n. tokens_of (node_members names nodes n) ++ stack_tokens names nodes old) c.node-k.ensures

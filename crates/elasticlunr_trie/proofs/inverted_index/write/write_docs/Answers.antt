@@ -11,7 +11,8 @@ use Rattle.elasticlunr_json.proofs.Rows.{four}
 use Rattle.elasticlunr_trie.proofs.inverted_index.write.write_docs.Goals as goal
 
 pub in_order-requires-clause-postings : goal.in_order-requires-clause-postings
-in_order-requires-clause-postings g c = subst (ArePostings c.args.order.names.now) (sym c.pairs.ensures) (pairs_are c.args.order.names.now c.args.postings.now c.requires.numbered)
+in_order-requires-clause-postings g c = subst (ArePostings c.args.order.names.now) (sym c.pairs.ensures)
+    (pairs_are c.args.order.names.now c.args.postings.now c.requires.numbered)
 
 pub returns : goal.returns
 returns g c =
@@ -20,10 +21,14 @@ returns g c =
     let P = named names c.args.postings.now in
     let r = c.in_ok-ranked.ranked.items in
     let is : entries P ≡ under_names names (behind r) =
-    ap entries (pairs_named names c.args.postings.now c.requires.numbered c.requires.order.0 ∙ ap (named_pairs names) (sym c.pairs.ensures)) ∙ c.in_ok-ranked.ensures.shown in
-    let start = four old _ _ _ _ _ _ _ _ c.in_ok-token.ensures c.in_ok-number.ensures c.in_ok-token-2.ensures c.in_ok-token-3.ensures in
+    ap entries (pairs_named names c.args.postings.now c.requires.numbered c.requires.order.0
+    ∙ ap (named_pairs names) (sym c.pairs.ensures)) ∙ c.in_ok-ranked.ensures.shown in
+    let start = four old _ _ _ _ _ _ _ _ c.in_ok-token.ensures c.in_ok-number.ensures c.in_ok-token-2.ensures
+    c.in_ok-token-3.ensures in
     let count = c.len.ensures ∙ c.in_ok-ranked.ranked.ok.0 ∙ sym (count_shown names P r is) in
     let all = ap (λ es. under_names names (behind es)) c.deref.ensures.value ∙ sym is in
-    c.in_ok-token-4.ensures ∙ c.in_ok-write_ranked.ensures ∙ ap (λ ts. ts ++ tokens_of (frequencies (under_names names (behind c.deref.result.now)))) start
+    c.in_ok-token-4.ensures ∙ c.in_ok-write_ranked.ensures
+    ∙ ap (λ ts. ts ++ tokens_of (frequencies (under_names names (behind c.deref.result.now)))) start
     ∙ append_assoc old _ _
-    ∙ ap (λ ts. old ++ ts) (λ i. Token.key (codes "df") ∷ Token.number (decimal (count i)) ∷ Token.key (codes "docs") ∷ Token.begin_object ∷ tokens_of (frequencies (all i)))
+    ∙ ap (λ ts. old ++ ts) (λ i. Token.key (codes "df") ∷ Token.number (decimal (count i)) ∷ Token.key (codes "docs")
+    ∷ Token.begin_object ∷ tokens_of (frequencies (all i)))

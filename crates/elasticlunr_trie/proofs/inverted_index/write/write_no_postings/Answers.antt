@@ -6,5 +6,6 @@ use Rattle.elasticlunr_trie.proofs.inverted_index.write.write_no_postings.Goals 
 pub returns : goal.returns
 returns g c names =
     let written = g.W.Tokens.written c.args.out.now in
-    five written _ _ _ _ _ _ _ _ _ _ c.in_ok-token.ensures c.in_ok-number.ensures c.in_ok-token-2.ensures c.in_ok-token-3.ensures c.in_ok-token-4.ensures
+    five written _ _ _ _ _ _ _ _ _ _ c.in_ok-token.ensures c.in_ok-number.ensures c.in_ok-token-2.ensures
+    c.in_ok-token-3.ensures c.in_ok-token-4.ensures
     ∙ ap (λ ts. written ++ ts) (sym (no_postings_tokens names))

@@ -8,4 +8,5 @@ use Rattle.elasticlunr_trie.proofs.inverted_index.write.write_ranked.Given as go
 -- what was written, and the postings that are left
 abbrev pub invariant-loop-number : goal.invariant-loop-number
 invariant-loop-number g l =
-    g.W.Tokens.written l.out ++ tokens_of (frequencies (under_names l.names (behind (drop l.number-index l.ranked)))) ≡ g.W.Tokens.written l.initial.out ++ tokens_of (frequencies (under_names l.names (behind l.ranked)))
+    g.W.Tokens.written l.out ++ tokens_of (frequencies (under_names l.names (behind (drop l.number-index l.ranked))))
+    ≡ g.W.Tokens.written l.initial.out ++ tokens_of (frequencies (under_names l.names (behind l.ranked)))

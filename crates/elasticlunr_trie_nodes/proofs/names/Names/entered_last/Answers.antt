@@ -7,6 +7,8 @@ use Rattle.elasticlunr_trie_nodes.proofs.names.Names.entered_last.Goals as goal
 
 pub returns : goal.returns
 returns c =
-    let same : c.name.result.now ≡ c.args.name.now = (bytes_eq-Decides _ _).0 (not-false _ (sym c.ne.ensures ∙ c.if-ne.false)) in
+    let same : c.name.result.now ≡ c.args.name.now = (bytes_eq-Decides _ _).0
+    (not-false _ (sym c.ne.ensures ∙ c.if-ne.false)) in
     let there = c.name.ensures ∙ ap Some same in
-    ap (λ names. number_of names c.args.name.now) (sym c.self.view_is) ∙ c.self.invariant.1 _ _ (ap (λ names. slice_get names c.self.inside.recent) c.self.view_is ∙ there)
+    ap (λ names. number_of names c.args.name.now) (sym c.self.view_is)
+    ∙ c.self.invariant.1 _ _ (ap (λ names. slice_get names c.self.inside.recent) c.self.view_is ∙ there)

@@ -6,5 +6,6 @@ use Rattle.elasticlunr_trie_nodes.proofs.postings.Postings.get.Goals as goal
 
 pub returns : goal.returns
 returns c =
-    c.value_of.ensures ∙ ap (λ l. value_of l c.args.number) c.as_slice.ensures ∙ sym (seen_get _ c.self.invariant c.args.number)
+    c.value_of.ensures ∙ ap (λ l. value_of l c.args.number) c.as_slice.ensures
+    ∙ sym (seen_get _ c.self.invariant c.args.number)
     ∙ ap (λ m. map.get m c.args.number) c.self.view_is

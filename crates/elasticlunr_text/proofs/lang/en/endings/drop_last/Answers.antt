@@ -7,4 +7,5 @@ pub returns : goal.returns
 returns c front d e =
     let w = c.args.word.now in
     let v = c.pop.new.self in
-    dropped_last (string_bytes w) (string_bytes v) front (string_len w) c.pop.result d (IsUtf8-string_bytes w) (IsUtf8-string_bytes v) (omega arith) c.pop.ensures.none c.pop.ensures.bytes e
+    dropped_last (string_bytes w) (string_bytes v) front (string_len w) c.pop.result d (IsUtf8-string_bytes w)
+    (IsUtf8-string_bytes v) (omega arith) c.pop.ensures.none c.pop.ensures.bytes e

@@ -6,7 +6,8 @@ use Rattle.elasticlunr_text.proofs.lang.en.endings.stem_before.Goals as goal
 
 pub returns-in_err-stem-clause-none : goal.returns-in_err-stem-clause-none
 returns-in_err-stem-clause-none c =
-    let none : (s : List ℕ) → IsStem s → chars c.args.word.now ≢ s ++ c.args.suffix.now = λ s stem. not_stripped c.args.word.now c.args.suffix.now s c.utf8.word c.requires c.in_err-stem.ensures.cases in
+    let none : (s : List ℕ) → IsStem s → chars c.args.word.now ≢ s ++ c.args.suffix.now = λ s stem. not_stripped
+    c.args.word.now c.args.suffix.now s c.utf8.word c.requires c.in_err-stem.ensures.cases in
     IfNone-always _ none
 
 pub returns-then-is_stem-clause-split : goal.returns-then-is_stem-clause-split

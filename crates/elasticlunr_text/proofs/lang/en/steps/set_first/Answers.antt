@@ -14,5 +14,7 @@ returns c d rest e =
     let w = c.args.word.now in
     let grown = rw c.unwrap.ensures at c.insert.ensures.bytes in
     let b = c.remove.ensures.bytes in
-    first_set (string_bytes w) (string_bytes c.remove.new.self) _ b.0 c.remove.result c.args.letter (IsUtf8-string_bytes w) c.requires.ascii b.1 b.2
-    (grown ∙ ap (λ t. insert_slice (string_bytes c.remove.new.self) 0 t) (c.insert.ensures.ascii c.requires.ascii)) d rest e
+    first_set (string_bytes w) (string_bytes c.remove.new.self) _ b.0 c.remove.result c.args.letter
+    (IsUtf8-string_bytes w) c.requires.ascii b.1 b.2
+    (grown ∙ ap (λ t. insert_slice (string_bytes c.remove.new.self) 0 t) (c.insert.ensures.ascii c.requires.ascii)) d
+    rest e

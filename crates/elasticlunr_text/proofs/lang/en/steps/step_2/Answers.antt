@@ -9,4 +9,5 @@ pub returns : goal.returns
 returns c =
     let last = subst (λ bs. LastIs c.last_of.result (chars bs)) c.deref.ensures c.last_of.ensures in
     tries-first c.replace_ending.result (Replaces step_2_endings) _ _
-    (tries-replaces step_2_endings refl c.last_of.result _ last c.replace_ending.result _ (rw c.step_2_endings.ensures.endings at c.replace_ending.ensures))
+    (tries-replaces step_2_endings refl c.last_of.result _ last c.replace_ending.result _
+    (rw c.step_2_endings.ensures.endings at c.replace_ending.ensures))

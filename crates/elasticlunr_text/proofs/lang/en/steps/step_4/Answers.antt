@@ -17,4 +17,5 @@ returns-else-drop_ending c =
     let last = subst (λ bs. LastIs c.last_of.result (chars bs)) c.deref.ensures c.last_of.ensures in
     let tried = tries-drops step_4_endings refl c.last_of.result _ last c.drop_ending.result _
     (rw c.step_4_endings.ensures.endings at c.drop_ending.ensures) in
-    then-first (DropsEnding step_4_endings) (FirstOf DropsIon Stays) _ _ _ (rw c.if-drop_ending.false at tried) (tries-first c.drop_ion.result DropsIon _ _ c.drop_ion.ensures)
+    then-first (DropsEnding step_4_endings) (FirstOf DropsIon Stays) _ _ _ (rw c.if-drop_ending.false at tried)
+    (tries-first c.drop_ion.result DropsIon _ _ c.drop_ion.ensures)

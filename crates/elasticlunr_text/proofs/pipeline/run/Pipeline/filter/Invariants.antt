@@ -7,5 +7,7 @@ use Rattle.elasticlunr_text.proofs.pipeline.run.Pipeline.filter.Given as goal
 abbrev pub invariant-loop-stage : goal.invariant-loop-stage
 invariant-loop-stage g l =
     (left : Option (List ℕ)) →
-    MayLeaveAll (λ b. (goal.PipelineFn-dyn g (b.vtable, b.value)).leaves b.value) (drop l.stage-index l.self.queue.items) (text_of l.token) left →
-    MayLeaveAll (λ b. (goal.PipelineFn-dyn g (b.vtable, b.value)).leaves b.value) l.self.queue.items (text_of l.fn.token) left
+    MayLeaveAll (λ b. (goal.PipelineFn-dyn g (b.vtable, b.value)).leaves b.value)
+    (drop l.stage-index l.self.queue.items) (text_of l.token) left →
+    MayLeaveAll (λ b. (goal.PipelineFn-dyn g (b.vtable, b.value)).leaves b.value) l.self.queue.items
+    (text_of l.fn.token) left

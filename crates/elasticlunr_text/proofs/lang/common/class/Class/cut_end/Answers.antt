@@ -10,7 +10,8 @@ truncate-requires c =
     let test = in_class c.args.self.now in
     let t = string_bytes c.args.token.now in
     let u = c.up_to_last-kept.result.now in λ _.
-    (kept-place test t u (IsUtf8-string_bytes c.args.token.now) c.up_to_last-kept.utf8 _ (c.up_to_last-kept.ensures ∙ ap (λ bs. up_to_last test (chars bs)) c.as_str.ensures.value) refl).0
+    (kept-place test t u (IsUtf8-string_bytes c.args.token.now) c.up_to_last-kept.utf8 _ (c.up_to_last-kept.ensures
+    ∙ ap (λ bs. up_to_last test (chars bs)) c.as_str.ensures.value) refl).0
 
 pub returns : goal.returns
 returns c =

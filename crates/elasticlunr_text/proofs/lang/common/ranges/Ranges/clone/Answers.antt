@@ -12,4 +12,8 @@ pub returns : goal.returns
 returns c = same_ranges c.args.self.now.ranges.items c.in_ok-clone.field-0.items c.in_ok-clone.ensures.cases.0
 
 pub invariant_of-result : goal.invariant_of-result
-invariant_of-result c = record { apart = subst AreApart (sym (same_ranges c.args.self.now.ranges.items c.in_ok-clone.field-0.items c.in_ok-clone.ensures.cases.0)) c.args.self.now.apart }
+invariant_of-result c = record {
+  apart = subst AreApart
+      (sym (same_ranges c.args.self.now.ranges.items c.in_ok-clone.field-0.items c.in_ok-clone.ensures.cases.0))
+      c.args.self.now.apart;
+}

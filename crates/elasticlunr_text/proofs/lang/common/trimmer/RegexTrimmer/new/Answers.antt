@@ -2,7 +2,8 @@ use Rattle.std.proofs.Common.{Err, ap, sym, ◌∙◌}
 use Rattle.elasticlunr_text.proofs.lang.common.trimmer.RegexTrimmer.new.Goals as goal
 
 pub returns-in_err-ranges-clause-bad : goal.returns-in_err-ranges-clause-bad
-returns-in_err-ranges-clause-bad c = λ is. c.in_err-ranges.ensures.bad (ap Err (sym (rw is at c.from_residual.ensures.1)))
+returns-in_err-ranges-clause-bad c = λ is. c.in_err-ranges.ensures.bad
+    (ap Err (sym (rw is at c.from_residual.ensures.1)))
 
 pub returns-clause-class : goal.returns-clause-class
 returns-clause-class c =

@@ -1,6 +1,0 @@
-use Rattle.std.proofs.Common.{◌≡◌, vec_len}
-use Rattle.elasticlunr_search.proofs.anew.in_order.Given as goal
-
--- a trie for each field so far
-abbrev pub invariant-loop-field : goal.invariant-loop-field
-invariant-loop-field l = vec_len l.tries ≡ l.field-index

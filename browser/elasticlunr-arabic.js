@@ -14,7 +14,8 @@
   'use strict';
   var FACTS = {"between":[9,14,32,33,45,46,133,134,160,161,5760,5761,8192,8203,8232,8234,8239,8240,8287,8288,12288,12289],"lower":["Aa","Bb","Cc","Dd","Ee","Ff","Gg","Hh","Ii","Jj","Kk","Ll","Mm","Nn","Oo","Pp","Qq","Rr","Ss","Tt","Uu","Vv","Ww","Xx","Yy","Zz","Àà","Áá","Ââ","Ãã","Ää","Åå","Ææ","Çç","Èè","Éé","Êê","Ëë","Ìì","Íí","Îî","Ïï","Ðð","Ññ","Òò","Óó","Ôô","Õõ","Öö","Øø","Ùù","Úú","Ûû","Üü","Ýý","Þþ","Āā","Ăă","Ąą","Ćć","Ĉĉ","Ċċ","Čč","Ďď","Đđ","Ēē","Ĕĕ","Ėė","Ęę","Ěě","Ĝĝ","Ğğ","Ġġ","Ģģ","Ĥĥ","Ħħ","Ĩĩ","Īī","Ĭĭ","Įį","İi̇","Ĳĳ","Ĵĵ","Ķķ","Ĺĺ","Ļļ","Ľľ","Ŀŀ","Łł","Ńń","Ņņ","Ňň","Ŋŋ","Ōō","Ŏŏ","Őő","Œœ","Ŕŕ","Ŗŗ","Řř","Śś","Ŝŝ","Şş","Šš","Ţţ","Ťť","Ŧŧ","Ũũ","Ūū","Ŭŭ","Ůů","Űű","Ųų","Ŵŵ","Ŷŷ","Ÿÿ","Źź","Żż","Žž","Șș","Țț","Ѐѐ","Ёё","Ђђ","Ѓѓ","Єє","Ѕѕ","Іі","Її","Јј","Љљ","Њњ","Ћћ","Ќќ","Ѝѝ","Ўў","Џџ","Аа","Бб","Вв","Гг","Дд","Ее","Жж","Зз","Ии","Йй","Кк","Лл","Мм","Нн","Оо","Пп","Рр","Сс","Тт","Уу","Фф","Хх","Цц","Чч","Шш","Щщ","Ъъ","Ыы","Ьь","Ээ","Юю","Яя"],"stages":[{"changes":["آا","أا","إا","ىا","ٱا"],"drops":[1600,1601,1611,1628],"name":"stemmer-ar"}]};
 
-  // A class is a list of marks: it begins at the first, ends before the second, begins again at the third.
+  // A class is a list of marks: it begins at the first, ends before the second, begins again at
+  // the third.
   function has(marks, character) {
     var code = character.codePointAt(0), low = 0, high = marks.length;
     while (low < high) {
@@ -25,7 +26,7 @@
     return low % 2 === 1;
   }
 
-  // Each character that changes, with what stands for it.
+  // Each character that changes, with what replaces it.
   function table(pairs) {
     return new Map(pairs.map(function (pair) {
       var characters = Array.from(pair);
@@ -94,7 +95,8 @@
     elasticlunr.Pipeline.registerFunction(run, stage.name);
   });
 
-  // A printed trie has one step for each character; one that elasticlunr.js made has two above U+FFFF.
+  // A printed trie has one step for each character; one that elasticlunr.js made has two above
+  // U+FFFF.
   elasticlunr.InvertedIndex.prototype.getNode = function (token) {
     if (!token) return null;
     var node = this.root;

@@ -67,7 +67,7 @@ fn an_index_with_a_long_token_is_searched(rt: HostRuntime) -> Result<(), Fail> {
     let mut index = Index::new(alloc, &["body"])?;
     index.add_doc("1", &[token.as_str()])?;
     index.add_doc("2", &["a fox"])?;
-    let text = index.to_json_pretty()?;
+    let text = index.to_json()?;
     let searcher = Searcher::read(alloc, English::new(), text.as_str())?;
     assert_eq!(rt; searcher.find_all("body", token.as_str())?.len(), 1);
     assert_eq!(rt; searcher.find_all("body", "fox")?.len(), 1);

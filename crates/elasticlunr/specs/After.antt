@@ -15,9 +15,9 @@ use Rattle.elasticlunr.specs.Reading.{LanguageReads, ReadsOnly}
 use Rattle.elasticlunr_commands.specs.Standing.{Plan}
 use Rattle.elasticlunr.specs.declared.index.Index.{Index}
 
--- `name_of` is what a language is called, `tokens_of` what it makes of a text and `leaves_of` what
--- it leaves of a token; `name_text` is what a boxed stage is called and `leaves` what it leaves of
--- a token.
+-- `name_of` is the name of a language, `tokens_of` its tokens of a text and `leaves_of` the output
+-- of its stages for a token; `name_text` is the name of a boxed stage and `leaves` its output for a
+-- token.
 module _ {L P X Y : Type 0} {O : X → Type 0} {F : Y → Type 0} {p : _} {g : _} where
   -- the index is of this plan, reads what this language reads, and holds what these calls of a new
   -- index leave

@@ -6,9 +6,9 @@ use Rattle.std.specs.Str.{chars, all_scalars}
 use Rattle.elasticlunr_text.specs.Text.{Text, Bytes}
 use Rattle.elasticlunr_commands.specs.Standing.{Plan}
 
--- The language, the pipeline, the fields in order with the tokenizer that each has of its own, the
--- field of the reference, and whether documents are saved. The types are those of languages,
--- pipelines and tokenizers.
+-- The language, the pipeline, the fields in order with the custom tokenizer of each, the field of
+-- the reference, and whether documents are saved. The types are those of languages, pipelines and
+-- tokenizers.
 pub record Choices (L P T : Type 0) : Type 0 where
   pub language : L
   pub pipeline : P
@@ -35,8 +35,8 @@ new_plan name_of stages_of language fields = fields_plan (name_of language) (sta
     fields
 
 module _ {L P T : Type 0} where
-  -- what a builder of a language begins with: no pipeline of its own, no fields, the reference
-  -- field `id`, and documents are saved
+  -- what a builder of a language begins with: no custom pipeline, no fields, the reference field
+  -- `id`, and documents are saved
   abbrev pub beginning : L → Choices L (Option P) T
   beginning language = record {
     language = language;
@@ -48,7 +48,7 @@ module _ {L P T : Type 0} where
     save = true;
   }
 
-  -- one more field, with a tokenizer of its own or none
+  -- one more field, with a custom tokenizer or none
   abbrev pub with_field : Bytes → Option T → Choices L P T → Choices L P T
   with_field name tokenizer c = record c {
     fields = c.fields ++ name
@@ -56,7 +56,7 @@ module _ {L P T : Type 0} where
     tokenizers = c.tokenizers ++ tokenizer ∷ [];
   }
 
-  -- more fields, with no tokenizers of their own
+  -- more fields, without custom tokenizers
   abbrev pub with_fields : List Bytes → Choices L P T → Choices L P T
   with_fields names c = record c {
     fields = c.fields ++ names;

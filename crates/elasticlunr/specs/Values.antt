@@ -8,8 +8,8 @@ use Rattle.elasticlunr.specs.Index.{choices, reads}
 use Rattle.elasticlunr_state.specs.Texts.{texts_left}
 use Rattle.elasticlunr.specs.declared.settings.Settings.{Settings}
 
--- In each definition `tokens_of` is what a language makes of a text and `leaves` what a boxed stage
--- leaves of a token.
+-- In each definition `tokens_of` is the tokens of a text in a language and `leaves` the output of a
+-- boxed stage for a token.
 module _ {L P X Y : Type 0} {O : X → Type 0} {F : Y → Type 0} {p : _} {g : _} (tokens_of : L → Text
     → List Text) (leaves : (v : X) × O v → Text → Option Text) where
   -- these tokens may be given with the value for the field of this number

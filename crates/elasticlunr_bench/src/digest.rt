@@ -1,4 +1,4 @@
-//! A number that tells results apart.
+//! A number by which results are compared.
 
 /// The digest of the texts that it took.
 #[derive(Clone, Copy)]

@@ -1,5 +1,4 @@
-//! A site that is edited: pages come again with other texts, others go, the index is compacted,
-//! and
+//! A site that is edited: pages come again with other texts, others go, the index is compacted, and
 //! printed in lines.
 
 use crate::digest::Digest;

@@ -1,10 +1,9 @@
 //! Jobs that users of the library wait for, each on an input that it makes from a seed. For each a
-//! line goes to standard output: its name, and a digest of all its results. The same words give
-//! the
+//! line goes to standard output: its name, and a digest of all its results. The same words give the
 //! same line.
 //!
-//! usage: elasticlunr_bench NAME SIZE SEED, where NAME is `all` or the name of a job, SIZE says
-//! how much of it is done, and SEED is a number.
+//! usage: elasticlunr_bench NAME SIZE SEED, where NAME is `all` or the name of a job, SIZE says how
+//! much of it is done, and SEED is a number.
 #![tactic(auto)]
 
 mod books;

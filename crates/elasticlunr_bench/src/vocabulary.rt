@@ -14,8 +14,7 @@ pub struct Vocabulary {
 }
 
 impl Vocabulary {
-    /// The frequent words of a language, and after them words that are made of its parts, the
-    /// rarer
+    /// The frequent words of a language, and after them words that are made of its parts, the rarer
     /// the longer.
     pub fn new(alloc: Global, random: &mut Random, letters: Letters) -> Result<Self, AllocError> {
         let mut words = Vec::with_capacity(alloc, COUNT)?;

@@ -21,6 +21,6 @@ pub record Pairs (changed : ℕ → Text) (pairs : List Text) : Type 0 where
 abbrev pub StandsFor : Text → ℕ → Option (String Global) → Type 0
 StandsFor changed c text = MatchOption text (changed ≡ c ∷ []) (λ t. text_of t ≡ changed)
 
--- what the Arabic stemmer leaves of a character alone, and the character where it leaves nothing
+-- what the Arabic stemmer makes of a character alone, and the character where it leaves nothing
 abbrev pub arabic_change : ℕ → Text
 arabic_change c = unwrap_or (arabic_stem (c ∷ [])) (c ∷ [])

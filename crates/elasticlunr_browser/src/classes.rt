@@ -44,8 +44,7 @@ impl CharClass for TrimmerClass<'_> {
     }
 }
 
-/// Whether the class has the character of this number. The numbers of no character are of no
-/// class.
+/// Whether the class has the character of this number. The numbers of no character are of no class.
 fn has_code<C: CharClass>(alloc: Global, class: &C, code: u32) -> Result<bool, AllocError>
     ensures { IfOk result (λ b. InScalarRange code → b ≡ C.has class.now code) }
 {

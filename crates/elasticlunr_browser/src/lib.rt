@@ -1,5 +1,4 @@
-//! The script with which elasticlunr.js reads the indexes of languages in a browser: words,
-//! classes
+//! The script with which elasticlunr.js reads the indexes of languages in a browser: words, classes
 //! and lower case of the library, as JavaScript.
 #![tactic(auto)]
 

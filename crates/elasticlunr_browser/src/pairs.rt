@@ -52,7 +52,7 @@ impl CharChange for LowerCase {
     }
 }
 
-/// What the Arabic stemmer leaves of a character alone.
+/// What the Arabic stemmer makes of a character alone.
 #[derive(Clone, Copy)]
 pub struct ArabicChange {}
 
@@ -74,8 +74,8 @@ impl CharChange for ArabicChange {
     }
 }
 
-/// The character of this number and what replaces it; `None` where no other text does, or where
-/// no character has the number.
+/// The character of this number and what replaces it; `None` where no other text does, or where no
+/// character has the number.
 fn pair_of<M: CharChange>(
     alloc: Global,
     change: &M,

@@ -32,8 +32,7 @@ fn of_names(alloc: Global, names: &[&str]) -> Result<Option<Vec<AnyLanguage>>, A
     Ok(Some(chosen))
 }
 
-/// The languages that the lines name, all of them where there is no line; `None` where a line is
-/// no
+/// The languages that the lines name, all of them where there is no line; `None` where a line is no
 /// name of a language.
 fn named(alloc: Global, names: &str) -> Result<Option<Vec<AnyLanguage>>, AllocError>
     ensures some { IfOk result (λ found. IfSome found
@@ -105,8 +104,7 @@ fn text_for(alloc: Global, chosen: &[AnyLanguage]) -> Result<String, AllocError>
     Ok(text)
 }
 
-/// The script for the languages that the lines name, for all where there is no line; `None` where
-/// a
+/// The script for the languages that the lines name, for all where there is no line; `None` where a
 /// line is no name of a language.
 pub fn script_for(alloc: Global, names: &str) -> Result<Option<String>, AllocError>
     ensures some { IfOk result (λ found. IfSome found

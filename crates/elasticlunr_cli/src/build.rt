@@ -66,7 +66,7 @@ struct Watched<'r, 'a> {
     bytes: usize,
     /// After how many it is said again.
     next: usize,
-    /// Whether its end was told.
+    /// Whether the end was reached.
     is_told: bool,
 }
 

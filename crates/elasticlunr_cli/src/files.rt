@@ -58,8 +58,7 @@ pub(crate) fn write_output(rt: &HostRuntime, file: Option<&str>, text: &str) -> 
 }
 
 /// Writes a text to a file, whole or not at all; a file that was there before keeps its mode. What
-/// is
-/// no plain file, as a device or a pipe, is written to as it stands.
+/// is no plain file, as a device or a pipe, is written to as it stands.
 fn write_file(rt: &HostRuntime, path: &str, text: &str) -> io::Result<()> {
     match fs::metadata(rt, path) {
         Ok(old) if old.is_file() => {
@@ -72,14 +71,14 @@ fn write_file(rt: &HostRuntime, path: &str, text: &str) -> io::Result<()> {
     }
 }
 
-/// Writes a text to a new file beside this one, and gives it the name of this one.
+/// Writes a text to a new file next to this one, and gives it the name of this one.
 fn replace(rt: &HostRuntime, path: &str, text: &str, mode: Option<Permissions>) -> io::Result<()> {
     let number = process::id(rt.process());
-    let beside = format!(in rt.alloc(); "{path}.{number}.new")?;
-    write_new(rt, beside.as_str(), text, mode)?;
-    match fs::rename(rt, beside.as_str(), path) {
+    let temporary = format!(in rt.alloc(); "{path}.{number}.new")?;
+    write_new(rt, temporary.as_str(), text, mode)?;
+    match fs::rename(rt, temporary.as_str(), path) {
         Ok(()) => Ok(()),
-        Err(e) => remove_after(rt, beside.as_str(), e),
+        Err(e) => remove_after(rt, temporary.as_str(), e),
     }
 }
 

@@ -37,10 +37,10 @@ abbrev pub line_form : Bytes → Form
 line_form line = if begins_an_array line then Objects else unwrap_or
     (option_map value_form (reading line)) Job
 
--- the form that a text tells by its first line that is not blank
+-- the form of a text, by its first line that is not blank
 abbrev pub told_form : Bytes → Form
 told_form text = unwrap_or (option_map line_form (find is_filled (lines_of text))) Job
 
--- the form that is asked for, or else the one that the text tells
+-- the form that is asked for, or else that of the text
 abbrev pub asked_or_told : Option Form → Bytes → Form
 asked_or_told asked text = unwrap_or asked (told_form text)

@@ -40,11 +40,10 @@ pub fn form_of(word: &str) -> Option<Form>
     }
 }
 
-/// The form that was asked for, or else the one that the text tells by its first line that isn't
-/// blank: one that begins with `[` begins an array of objects; an object with neither `docs` nor
-/// `fields` is the first of lines, and all else is a job, or begins one. So documents as lines,
-/// the
-/// first of which has a key `docs` or `fields`, have to be asked for.
+/// The form that was asked for, or else that of the text, by its first line that isn't blank: one
+/// that begins with `[` begins an array of objects; an object with neither `docs` nor `fields` is
+/// the first of lines, and all else is a job, or begins one. So documents as lines, the first of
+/// which has a key `docs` or `fields`, have to be asked for.
 pub fn asked_or_told(alloc: Global, text: &[u8], asked: Option<Form>) -> Result<Form, AllocError>
     ensures { IfOk result (λ form. form ≡ asked_or_told asked text.now) }
 {
@@ -54,7 +53,7 @@ pub fn asked_or_told(alloc: Global, text: &[u8], asked: Option<Form>) -> Result<
     }
 }
 
-/// The form that a text tells.
+/// The form of a text.
 fn told_form(alloc: Global, text: &[u8]) -> Result<Form, AllocError>
     ensures { IfOk result (λ form. form ≡ told_form text.now) }
 {
@@ -64,7 +63,7 @@ fn told_form(alloc: Global, text: &[u8]) -> Result<Form, AllocError>
     }
 }
 
-/// The form that a first line tells.
+/// The form by a first line.
 fn line_form(alloc: Global, line: &[u8]) -> Result<Form, AllocError>
     ensures { IfOk result (λ form. form ≡ line_form line.now) }
 {
@@ -95,7 +94,7 @@ pub(crate) fn first_byte(line: &[u8]) -> Option<u8>
     line.iter().copied().find(|byte| !is_space(*byte))
 }
 
-/// The form that a first line with this value tells.
+/// The form by a first line with this value.
 fn value_form(value: &Value) -> Form
     ensures { result ≡ value_form (view value.now) }
 {

@@ -1,11 +1,9 @@
-//! What is told of an input and needs no index: its form, the message of what is wrong with it and
-//! the place of that, the language that is asked for, the status of a run; an index as a script;
-//! and
-//! a text as a terminal may show it.
+//! What can be said of an input without an index: its form, the message of what is wrong with it
+//! and the place of that, the language that is asked for, the status of a run; an index as a
+//! script; and a text as a terminal may show it.
 //!
 //! A [`message::Message`] is a line for the user. Those about a value that is no job are made of
-//! the
-//! fault that keeps it from being one ([`job_fault::fault_message`]).
+//! the fault that keeps it from being one ([`job_fault::fault_message`]).
 #![tactic(auto)]
 
 pub mod form;

@@ -26,8 +26,7 @@ fn without_feed(line: &str) -> &str
     line.strip_suffix('\n').unwrap_or(line)
 }
 
-/// The index in a script: from its first object with a member up to the `;` at its end. A text
-/// that
+/// The index in a script: from its first object with a member up to the `;` at its end. A text that
 /// is no script is given back as it is.
 pub fn index_in(text: &[u8]) -> &[u8]
     ensures { IsIndexIn text.now result.now }

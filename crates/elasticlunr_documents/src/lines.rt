@@ -1,7 +1,6 @@
 //! The text of the index of documents as lines of JSON, an object each.
 //!
-//! Lines are read one by one: a line and its value are let go before the next one is read. Lines
-//! of
+//! Lines are read one by one: a line and its value are let go before the next one is read. Lines of
 //! white space are passed over.
 
 ghost use Rattle.std.specs.Prelude.{◌≡◌, [], true, Some, None, option_map, string_bytes, IfOk};
@@ -71,8 +70,7 @@ pub trait Watch {
 pub enum LinesError {
     /// The language is unknown, or a field stands twice.
     Refused(Refusal),
-    /// The number of the first line that is no document, from 1 without the blank ones, and what
-    /// is
+    /// The number of the first line that is no document, from 1 without the blank ones, and what is
     /// wrong with it.
     Document(usize, ObjectFault),
     /// A read of the reader failed.
@@ -131,8 +129,7 @@ fn unread<R: MarkedRead>(reader: &R, error: io::Error) -> LinesError
     }
 }
 
-/// Reads the next line, and its value where it isn't blank: it has this number then. Also whether
-/// a
+/// Reads the next line, and its value where it isn't blank: it has this number then. Also whether a
 /// line feed was after it.
 fn next_value<R: MarkedRead>(
     alloc: Global,

@@ -9,8 +9,7 @@ ghost use Rattle.std.specs.IoError.{error_kind};
 
 use std::io::{self, BufRead, BufReader, Chain, ErrorKind, Read};
 
-/// A reader that keeps a mark that a read has failed. An interrupted read, which is tried again,
-/// is
+/// A reader that keeps a mark that a read has failed. An interrupted read, which is tried again, is
 /// no failure.
 pub trait MarkedRead: BufRead {
     /// Whether a read has failed.

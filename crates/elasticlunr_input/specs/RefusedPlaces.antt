@@ -31,8 +31,7 @@ IsArrayPlace settings text d place = ((as_array d ≡ None) × IsPlaceOf None []
     × IsPlaceInObjects text (options_of settings items) items place)
 
 -- it is in the text, a line of which is not JSON, or it is that of the first problem of the values
--- of the lines, as
--- they are read with these settings
+-- of the lines, as they are read with these settings
 abbrev pub IsLinesPlace : Settings → Bytes → Place → Type 0
 IsLinesPlace settings text place = (HasUnreadLine (options_of settings) text × IsPlaceIn text place)
     ⊎ ((items : List Data) × AreLineValues text items

@@ -9,7 +9,7 @@ use Rattle.elasticlunr_job_format.specs.declared.outcome.Refusal.{Refusal}
 use Rattle.elasticlunr_job_format.specs.declared.outcome.Refusal.TheVariants.{NotJson, NotAJob}
 use Rattle.elasticlunr_input.specs.declared.settings.Settings as declared
 
--- what is said of an index beside its input
+-- the settings of an index that do not come from its input
 pub record Settings : Type 0 where
   pub fields : Option (List Bytes)
   pub reference : Option Bytes

@@ -38,11 +38,9 @@ use std::alloc::{AllocError, Global};
 use std::io::Read;
 
 /// The text of the index of an input, and a line feed; what is suspicious goes to the notes, whose
-/// warnings are of no use after an error. A byte order mark before the input is passed over, and
-/// no
+/// warnings are of no use after an error. A byte order mark before the input is passed over, and no
 /// place counts it. Lines are read one by one, and the value of a line is let go before the next
-/// one
-/// is read; of an input in another form all is read, and held.
+/// one is read; of an input in another form all is read, and held.
 pub fn index_from<R: MarkedRead>(
     alloc: Global,
     reader: &mut R,

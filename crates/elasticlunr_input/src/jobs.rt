@@ -25,7 +25,7 @@ use elasticlunr_json_place::member::Step;
 use serde_json::Value;
 use std::alloc::{AllocError, Global};
 
-/// The text of the index that a job asks for, with the settings instead of its own members.
+/// The text of the index that a job asks for, with the settings instead of its members.
 pub(crate) fn job_text<'a>(
     alloc: Global,
     value: &'a Value,
@@ -40,7 +40,7 @@ pub(crate) fn job_text<'a>(
     job_line(alloc, &job)
 }
 
-/// The message of a refusal of a job, with the settings instead of its own members.
+/// The message of a refusal of a job, with the settings instead of its members.
 pub(crate) fn job_refused(
     alloc: Global,
     text: &[u8],

@@ -33,8 +33,7 @@ use serde_json::{Error, Value};
 use std::alloc::{AllocError, Global};
 use std::io::{BufRead, Read};
 
-/// Reads a text up to the end of its first line that isn't blank, or to its own end, and gives
-/// what
+/// Reads a text up to the end of its first line that isn't blank, or to its own end, and gives what
 /// it read. The line that it read last stays.
 pub(crate) fn read_head<R: BufRead>(
     alloc: Global,
@@ -203,8 +202,7 @@ pub(crate) fn line_refused(
     }
 }
 
-/// Why no index of lines is printed; where a line is no document, it is the one that was read
-/// last.
+/// Why no index of lines is printed; where a line is no document, it is the one that was read last.
 fn input_error_of(
     alloc: Global,
     options: &Options<'_>,

@@ -1,4 +1,4 @@
-//! What is said of an index beside its input.
+//! Settings of an index that do not come from its input.
 ghost use Rattle.std.specs.Prelude.{◌≡◌, map, option_map, string_bytes, unwrap_or, IfOk};
 ghost use Rattle.elasticlunr_text.specs.Text.{bytes_of};
 ghost use Rattle.elasticlunr_job_format.specs.JobTold.{job_told};
@@ -7,7 +7,7 @@ ghost use Rattle.elasticlunr_input.specs.Settled.{settled, settings_told};
 use elasticlunr_job::job::Job;
 use std::alloc::{AllocError, Global};
 
-/// What is said of an index beside its input: each setting stands instead of the input's own.
+/// The settings of an index that do not come from its input: each replaces the input's.
 #[derive(Drop)]
 pub struct Settings {
     /// The key of a document's reference, or the name of its field.

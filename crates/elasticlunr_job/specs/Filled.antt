@@ -1,5 +1,5 @@
--- The index that is built for a job, and the documents that fit it; for private clauses.
--- `made` relates a reference and values to the document that the index makes of them.
+-- The index that is built for a job, and the documents that fit it; for private clauses. `made`
+-- relates a reference and values to the document that the index makes of them.
 use Rattle.std.specs.Prelude.{◌≡◌, ◌≤◌, List, length, All}
 use Rattle.elasticlunr_text.specs.Text.{Bytes}
 use Rattle.elasticlunr_lang.specs.declared.any.AnyLanguage.{AnyLanguage}

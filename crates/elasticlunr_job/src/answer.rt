@@ -122,9 +122,9 @@ fn refusal_line(refusal: Refusal) -> &'static str
     }
 }
 
-/// The outcome for an input, and what is written for it: the text of the index or the reason of
-/// the refusal, and a line feed. The input is let go once it is read; its texts are not copied,
-/// but into the index. The error is out of memory.
+/// The outcome for an input, and what is written for it: the text of the index or the reason of the
+/// refusal, and a line feed. The input is let go once it is read; its texts are not copied, but
+/// into the index. The error is out of memory.
 pub fn answer(alloc: Global, bytes: Vec<u8>) -> Result<(Outcome, String), AllocError>
     ensures { IfOk result (λ a. IsAnswer bytes.items a.0 (string_bytes a.1)) }
 {

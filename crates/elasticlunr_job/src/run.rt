@@ -14,8 +14,7 @@ use elasticlunr_device::outcome::RunError;
 use std::alloc::Global;
 
 /// Reads a job to the end of the reader, and writes its index, or why it was refused, and a line
-/// feed. Nothing is written before the whole text is there. The reader and the writer must not
-/// have
+/// feed. Nothing is written before the whole text is there. The reader and the writer must not have
 /// failed yet.
 pub fn run<S: Source, K: Sink>(
     alloc: Global,

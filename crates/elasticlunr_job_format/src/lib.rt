@@ -1,5 +1,4 @@
-//! Jobs and documents as they are read of JSON: bytes as a value, a value as a job or what keeps
-//! it
+//! Jobs and documents as they are read of JSON: bytes as a value, a value as a job or what keeps it
 //! from being one, an object as a document, and the lines of a text.
 #![tactic(auto)]
 

@@ -5,9 +5,9 @@ ghost use Rattle.elasticlunr_job_format.specs.LineRead.{AreAll, HasNoFeed, fed};
 
 use std::io::{self, BufRead, ErrorKind};
 
-/// Reads the next line over what stands there, and says whether a line feed was after
-/// it, which is read as well. After the last line there is none, and that may be empty. After an
-/// error the line is what was read of it.
+/// Reads the next line over what stands there, and says whether a line feed was after it, which is
+/// read as well. After the last line there is none, and that may be empty. After an error the line
+/// is what was read of it.
 pub fn read_line<R: BufRead>(reader: &mut R, line: &mut Vec<u8>) -> io::Result<bool>
     ensures line { OnOk result (HasNoFeed line.new.items) }
     ensures taken { IfOk result (λ more. Consumes (R.remaining reader.old) (R.remaining reader.new)

@@ -43,8 +43,7 @@ impl<'a> Token<'a> {
     }
 }
 
-/// Takes the tokens of a JSON text one after another. Both printers of a whole value go through
-/// it,
+/// Takes the tokens of a JSON text one after another. Both printers of a whole value go through it,
 /// so each has one body.
 ///
 /// `written` are the tokens so far. Numbers go through `number` alone, so each has 64 bits, and a

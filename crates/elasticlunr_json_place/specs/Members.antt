@@ -57,8 +57,7 @@ abbrev pub with_word : Bytes → ℕ → ℕ → Bytes → Bytes
 with_word text start end word = take start text ++ word ++ drop end text
 
 -- these bytes are what the path leads to: they begin with no white space, are read as its value,
--- and where
--- null, or true, stands in their place, the path leads to that
+-- and where null, or true, stands in their place, the path leads to that
 pub record StandsAt (line : Option ℕ) (path : List Move) (text : Bytes) (start end : ℕ) : Type 0
   where
     pub first : ℕ

@@ -1,4 +1,4 @@
--- What a pipeline leaves of the tokens of a text.
+-- The output of a pipeline for the tokens of a text.
 use Rattle.std.specs.Prelude.{List, Option, IsTrue}
 use Rattle.std.specs.List.{AllByRecursion}
 use Rattle.std.specs.Str.{all_scalars}

@@ -1,4 +1,4 @@
-//! What a built-in language answers as a type of its own.
+//! What a built-in language answers as a type.
 ghost use Rattle.elasticlunr_lang.specs.Known.{language_name, language_code, language_stages};
 ghost use Rattle.elasticlunr_lang.specs.Known.{language_leaves};
 ghost use Rattle.elasticlunr_lang.specs.Words.{words};

@@ -30,8 +30,7 @@ use crate::language::Language;
 use elasticlunr_text::pipeline::Pipeline;
 
 /// A variant of `AnyLanguage` means what the one definition of the built-in languages says of it,
-/// and
-/// so does the type of its name.
+/// and so does the type of its name.
 pub fn a_type_means_what_its_variant_means()
     ensures any { (language : AnyLanguage) → MeansAs ⟦<AnyLanguage as Language>⟧ language language }
     ensures english { (language : English) → MeansAs ⟦<English as Language>⟧ language

@@ -93,8 +93,7 @@ pub fn tokenize_whitespace(alloc: Global, text: &str) -> Result<Vec<String>, All
     Ok(tokens)
 }
 
-/// Adds what a pipeline leaves of the word of a run to what it left of others, unless the run is
-/// empty.
+/// Adds the output of a pipeline for the word of a run to that for others, unless the run is empty.
 fn read_run(
     alloc: Global,
     run: &str,
@@ -114,7 +113,7 @@ fn read_run(
     Ok(())
 }
 
-/// What a pipeline leaves of the words of the text, in order. Each word passes the stages before
+/// The output of a pipeline for the words of the text, in order. Each word passes the stages before
 /// the next one is made, so that the memory of a word that a stage drops serves another one.
 pub fn run_on_words(
     alloc: Global,

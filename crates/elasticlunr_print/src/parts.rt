@@ -8,8 +8,7 @@ use elasticlunr_trie::InvertedIndex;
 /// The version of elasticlunr.js whose form the printed indexes have.
 pub const ELASTICLUNR_VERSION: &str = "0.9.5";
 
-/// What is printed of an index: a trie for each field, in the order of the fields, and the names
-/// beside them.
+/// What is printed of an index: a trie for each field, in the order of the fields, and their names.
 #[derive(Clone, Copy)]
 pub struct Parts<'a> {
     pub fields: &'a [String],

@@ -1,7 +1,6 @@
 //! Prints the script with which elasticlunr.js reads the index of a language in a browser. Each
-//! line
-//! of standard input is the name of a language, as `German`; where there is none the script is for
-//! all of them.
+//! line of standard input is the name of a language, as `German`; where there is none the script is
+//! for all of them.
 #![tactic(auto)]
 
 use elasticlunr_browser::script::script_for;

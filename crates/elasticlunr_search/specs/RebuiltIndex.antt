@@ -1,4 +1,4 @@
--- What is made anew of a text; for private clauses.
+-- What is rebuilt from a text; for private clauses.
 use Rattle.std.specs.Prelude.{ℕ, List}
 use Rattle.elasticlunr_search.specs.Reading.{ReadsAs}
 use Rattle.elasticlunr_search.specs.Source.{IsOfParts}

@@ -79,7 +79,7 @@ module _ {L P X : Type 0} {O : X → Type 0} {p : _} where
       → (i : ℕ) × (slice_get plan.fields i ≡ Some field) × FindsJoined join commands i tokens found
 
   -- it speaks this language: that is its own, and its pipeline leaves what the language does;
-  -- `leaves_of` is what a language leaves of a token, `leaves` what a boxed stage does
+  -- `leaves_of` is the output of a language's stages for a token, `leaves` that of a boxed stage
   pub record Speaks (leaves_of : L → Text → Option Text → Type 0) (leaves : (v : X) × O v → Text
       → Option Text) (s : Searcher L P X O p) (language : L) : Type 0 where
     pub its_language : s.language ≡ language

@@ -34,7 +34,7 @@ refusal_text NoStore = codes "no document store"
 refusal_text NoSuchField = codes "no such field"
 refusal_text Memory = codes "out of memory"
 
--- how a refusal of the searcher is told
+-- the refusal for an error of the searcher
 abbrev pub refusal_of : SearchError → Refusal
 refusal_of error.NotRead = NotRead
 refusal_of error.OtherLanguage = UnknownLanguage

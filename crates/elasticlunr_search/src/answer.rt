@@ -101,8 +101,7 @@ pub fn reason(refusal: Refusal) -> &'static str
 }
 
 /// The lines of the references that are found: of a text whose first line is a request, with the
-/// text
-/// of an index below it.
+/// text of an index below it.
 pub fn answer(alloc: Global, input: &str) -> Result<String, Refusal>
     ensures found { IfOk result (λ text. IsFoundBelow input.now (string_bytes text)) }
     ensures refused { IfErr result (IsRefusedBelow input.now) }
@@ -147,8 +146,7 @@ fn find_in(alloc: Global, request: &Request<'_>, source: Source) -> Result<Vec<S
 
 /// The lines of the references that are found in the text of an index, by the language that it
 /// names: that have one of the query's tokens, or each, in the field of this name, or else in one
-/// or
-/// more of all.
+/// or more of all.
 pub fn lines_found(
     alloc: Global,
     text: &str,

@@ -10,8 +10,7 @@ pub enum SearchError {
     /// Under the key `lang` is the name of another language than the searcher's.
     OtherLanguage,
     /// Under the key `pipeline` are not the names of the searcher's stages: other ones, or no list
-    /// of
-    /// names.
+    /// of names.
     OtherPipeline,
     /// Under the key `fields` is no list of names.
     BadFields,

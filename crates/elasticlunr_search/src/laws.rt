@@ -15,10 +15,9 @@ use crate::searcher::Searcher;
 use elasticlunr::laws::found::{calls_tell_tokens, printed_documents_are_read};
 use elasticlunr_lang::Language;
 
-/// What a searcher finds in a text that was printed after calls is told by the calls: `find` in
-/// one
-/// field, `find_in` in several, `find_across` in all of several together. The language reads one
-/// list of tokens of each value, as each language of the library does.
+/// What a searcher finds in a text that was printed after calls follows from the calls: `find` in
+/// one field, `find_in` in several, `find_across` in all of several together. The language reads
+/// one list of tokens of each value, as each language of the library does.
 pub fn found_after_calls<L: Language>(searcher: &Searcher<L>)
     ensures field { (language : L) (plan : Plan) (calls : List Call) (text : List ℕ)
         (join : Join) (field query : Bytes) (found : List Bytes)

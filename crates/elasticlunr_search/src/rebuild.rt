@@ -1,7 +1,7 @@
 //! An index rebuilt from the tokens of its printed text, with no JSON value of its tries.
 //!
 //! What is made is well formed, and no clause says more of it: whether it is what was printed is
-//! judged by printing it, token by token, beside the text (`rebuild_and_compare`).
+//! judged by printing it, token by token, next to the text (`rebuild_and_compare`).
 ghost use Rattle.std.specs.Prelude.{◌<◌, IfOk, OnOk, length};
 ghost use Rattle.elasticlunr_store.specs.Contents.{IsConsistent};
 
@@ -158,8 +158,7 @@ fn read_tries<'a>(
 }
 
 /// A trie. Each posting is added under the characters of the keys that lead to it, so it costs a
-/// step
-/// for each of them. Texts that lead to no posting, as a removal leaves them, are known, too.
+/// step for each of them. Texts that lead to no posting, as a removal leaves them, are known, too.
 fn read_trie(alloc: Global, reader: &mut Reader<'_>) -> Result<InvertedIndex, SearchError>
     ensures { OnOk result (length reader.new < length reader.old) }
 {

@@ -32,8 +32,7 @@ pub(crate) struct RebuiltIndex {
     pub printed: Printed,
 }
 
-/// The parts of the index that the text is printed of, in any layout and at any depth. `None`
-/// where
+/// The parts of the index that the text is printed of, in any layout and at any depth. `None` where
 /// the text has other tokens than an index is printed with, and where there are many fields.
 pub(crate) fn rebuild_and_compare(
     alloc: Global,
@@ -50,7 +49,7 @@ pub(crate) fn rebuild_and_compare(
     }
 }
 
-/// What was made anew, if the text is printed of it.
+/// What was rebuilt, if the text is printed of it.
 fn judged(
     alloc: Global,
     text: &str,

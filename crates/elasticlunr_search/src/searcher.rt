@@ -203,8 +203,7 @@ impl<L: Language> Searcher<L> {
         &self.printed.fields
     }
 
-    /// `find_any` or `find_all`, as the join says: the references whose current document has in
-    /// the
+    /// `find_any` or `find_all`, as the join says: the references whose current document has in the
     /// field a token, or each token, that the query has.
     pub fn find(&self, join: Join, field: &str, query: &str) -> Result<Vec<String>, SearchError>
         ensures no_field { (result ≡ Err NoSuchField)
@@ -227,8 +226,7 @@ impl<L: Language> Searcher<L> {
         }
     }
 
-    /// What `find` finds in one or more of these fields: each reference once, in the order of
-    /// their
+    /// What `find` finds in one or more of these fields: each reference once, in the order of their
     /// bytes. It costs what `find` costs in each of them.
     pub fn find_in(
         &self,
@@ -257,9 +255,8 @@ impl<L: Language> Searcher<L> {
 
     /// The references whose current document has each of the query's tokens, of which there is one
     /// at least, in one or more of these fields: one token in a title and another one in a body,
-    /// too.
-    /// Each once, in the order of their bytes. It costs the postings of the first token in each of
-    /// the fields, and for each of these the look-ups of the others.
+    /// too. Each once, in the order of their bytes. It costs the postings of the first token in
+    /// each of the fields, and for each of these the look-ups of the others.
     pub fn find_across(&self, fields: &[&str], query: &str) -> Result<Vec<String>, SearchError>
         ensures no_field { result ≡ Err NoSuchField → LacksFieldOf self.now (borrowed fields.now) }
         ensures has_fields { OnOk result (HasFieldsOf self.now (borrowed fields.now)) }
@@ -360,8 +357,7 @@ impl<L: Language> Searcher<L> {
     }
 
     /// The references whose current document has, in the field, each of the query's tokens, of
-    /// which there is one at least, in the order of their bytes. It costs the postings of the
-    /// first
+    /// which there is one at least, in the order of their bytes. It costs the postings of the first
     /// token, and for each of these the look-ups of the others.
     pub fn find_all(&self, field: &str, query: &str) -> Result<Vec<String>, SearchError>
         ensures no_field { (result ≡ Err NoSuchField)
@@ -387,9 +383,8 @@ impl<L: Language> Searcher<L> {
     }
 
     /// What `find` finds of tokens that the caller made of a query, by the tokenizer and the
-    /// pipeline
-    /// that the field was built with. They are looked up as they stand. An empty token has no
-    /// posting, so with one `All` finds nothing.
+    /// pipeline that the field was built with. They are looked up as they stand. An empty token has
+    /// no posting, so with one `All` finds nothing.
     pub fn find_tokens(
         &self,
         join: Join,

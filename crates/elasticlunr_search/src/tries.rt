@@ -12,8 +12,7 @@ use elasticlunr_trie::{InvertedIndex, copied};
 use std::alloc::{AllocError, Global};
 use std::collections::BTreeSet;
 
-/// The references that have a posting at one of the tokens, in the order of their bytes, each
-/// once.
+/// The references that have a posting at one of the tokens, in the order of their bytes, each once.
 pub(crate) fn find_any_in(
     alloc: Global,
     trie: &InvertedIndex,
@@ -50,8 +49,7 @@ pub(crate) fn find_all_in(
     }
 }
 
-/// The references that have, at each token, of which there is one at least, a posting in one of
-/// the
+/// The references that have, at each token, of which there is one at least, a posting in one of the
 /// tries. Only those of the first token are copied.
 pub(crate) fn find_all_among(
     alloc: Global,

@@ -45,9 +45,8 @@ impl IndexContents {
     }
 
     /// Puts a document in, which replaces what its reference had. The tokens are those of the
-    /// values,
-    /// in their order, none for the field that holds the reference. What other references have
-    /// stays; after an error, what this one has may be anything between the old and the new.
+    /// values, in their order, none for the field that holds the reference. What other references
+    /// have stays; after an error, what this one has may be anything between the old and the new.
     pub fn add_document(
         &mut self,
         alloc: Global,
@@ -78,8 +77,7 @@ impl IndexContents {
         self.store.add_doc(doc_ref, document)
     }
 
-    /// Takes out what the reference has, if it is there. A new reference is not searched for in
-    /// any
+    /// Takes out what the reference has, if it is there. A new reference is not searched for in any
     /// trie.
     fn make_room(&mut self, doc_ref: &str)
         ensures as_many { vec_len self.new.tries ≡ vec_len self.old.tries }

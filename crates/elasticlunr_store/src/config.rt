@@ -81,7 +81,7 @@ impl SearchOptions {
     ghost use Rattle.elasticlunr_store.specs.Options.{Options, HasSmallBoosts, options_of};
     ghost use Rattle.elasticlunr_store.specs.Options.{new_options, options_value, ReadsOptions};
 
-    /// `Or`, no expansion, and no field with options of its own. Does not allocate.
+    /// `Or`, no expansion, and no options of single fields. Does not allocate.
     pub fn new(alloc: Global) -> Self
         ensures { options_of result ≡ new_options }
     {
@@ -117,8 +117,7 @@ impl SearchOptions {
         Ok(whole_value(alloc, self.bool, self.expand, fields)?)
     }
 
-    /// The options that a JSON value gives. `bool`, `expand` and `fields` must be there; options
-    /// of
+    /// The options that a JSON value gives. `bool`, `expand` and `fields` must be there; options of
     /// a field may be absent or null. Other keys are skipped.
     pub fn from_value(alloc: Global, value: &Value) -> Result<Self, IndexError>
         ensures ok { IfOk result (λ options. ReadsOptions (view value.now) (options_of options)) }

@@ -33,8 +33,7 @@ use std::marker::Model;
 /// The texts of the documents of an index, where they are kept, and how many tokens their fields
 /// have.
 ///
-/// It represents its contents: whether texts are kept, a map from references to texts by field,
-/// and
+/// It represents its contents: whether texts are kept, a map from references to texts by field, and
 /// a map from references to lengths by field. A reference may have lengths and no texts. Where
 /// texts are not kept each map of texts is empty.
 #[derive(Debug, Drop)]
@@ -202,8 +201,7 @@ impl DocumentStore {
         })
     }
 
-    /// The JSON value of the store: an object with the keys `docInfo`, `docs`, `length` and
-    /// `save`.
+    /// The JSON value of the store: an object with the keys `docInfo`, `docs`, `length` and `save`.
     pub fn to_value(&self) -> Result<Value, IndexError>
         ensures value { IfOk result (λ v. IsStoreValue self.now (view v)) }
         ensures only { IfOk result (λ v. (c : Contents) → IsStoreValue c (view v) → c ≡ self.now) }
@@ -217,8 +215,7 @@ impl DocumentStore {
         Ok(store_value(alloc, self.save, docs, doc_info, self.docs.len())?)
     }
 
-    /// The store whose JSON value this is. Refuses other keys, missing ones, a `length` that is
-    /// not
+    /// The store whose JSON value this is. Refuses other keys, missing ones, a `length` that is not
     /// the number of documents, an empty map of lengths (a reference without lengths is not in
     /// `docInfo`), and texts where `save` is false.
     pub fn from_value(alloc: Global, value: &Value) -> Result<Self, IndexError>

@@ -13,8 +13,8 @@ use elasticlunr::{Index, IndexBuilder, IndexError};
 use std::alloc::{AllocError, Global};
 use std::io;
 
-/// How many stages a pipeline has room for, so that a call that adds one asks for no memory
-/// beside.
+/// How many stages a pipeline has room for, so that a call that adds one allocates for the stage
+/// alone.
 const MOST_STAGES: usize = 64;
 
 /// An index that may begin without naming its language.

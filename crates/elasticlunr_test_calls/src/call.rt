@@ -34,7 +34,7 @@ impl<'a> Call<'a> {
         })
     }
 
-    /// The texts, each in memory of its own.
+    /// The texts, each in its own memory.
     pub fn tokens(&self) -> Result<Vec<String>, AllocError> {
         let mut tokens = Vec::with_capacity(self.alloc, self.texts.len())?;
         for text in &self.texts {

@@ -1,4 +1,4 @@
-//! Makes the calls of the library that standard input lists, and tells what each answers.
+//! Makes the calls of the library that standard input lists, and prints what each returns.
 #![tactic(auto)]
 
 #[cfg(test)]

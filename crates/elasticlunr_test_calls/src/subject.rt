@@ -1,4 +1,4 @@
-//! What calls are made on, and how each call is made and told.
+//! What calls are made on, how each call is made, and what is printed of it.
 use crate::answer::Answer;
 use crate::call::Call;
 use serde_json::Value;
@@ -6,7 +6,7 @@ use std::io;
 
 /// What the calls of a row are made on.
 pub trait Subject {
-    /// Makes the call. `tokens` are its texts, each in memory of its own.
+    /// Makes the call. `tokens` are its texts, each in its own memory.
     fn answer(&mut self, call: &Call<'_>, tokens: Vec<String>) -> Answer;
 }
 

@@ -1,5 +1,5 @@
-//! Tests of what needs a type of its own: stages, languages, tokenizers and functions that a user
-//! hands in to the library, and readers and writers that fail.
+//! Tests of what needs a custom type: stages, languages, tokenizers and functions that a user hands
+//! in to the library, and readers and writers that fail.
 #![tactic(auto)]
 
 #[cfg(test)]

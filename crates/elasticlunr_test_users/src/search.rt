@@ -1,7 +1,6 @@
 //! Searches of what no index of the library's own languages prints: an index with a stage of the
 //! user's own, one with a tokenizer, and one that elasticlunr.js printed; and of an index that
-//! nests
-//! deeper than a JSON value is read.
+//! nests deeper than a JSON value is read.
 use crate::texts::repeated;
 use elasticlunr::lang::English;
 use elasticlunr::pipeline::{Pipeline, PipelineFn, Stage};

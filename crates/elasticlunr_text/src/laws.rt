@@ -14,8 +14,7 @@ pub fn trimming_has_one_answer()
     ensures { (class : ℕ → Bool) (t u : Text) → IsTrimmed class t u ↔ (u ≡ trimmed class t) }
 {}
 
-/// What a trimmer leaves begins and ends with characters of its class, and what was cut holds
-/// none.
+/// What a trimmer leaves begins and ends with characters of its class, and what was cut holds none.
 pub fn a_trimmer_cuts_what_is_not_of_its_class()
     ensures { (trimmer : RegexTrimmer) (token left : Text) → cut_to_class trimmer token ≡ Some left
         → IsTrimmed (keeps trimmer) token left × (left ≢ []) }

@@ -1,4 +1,4 @@
--- What compacting leaves of a table.
+-- A table after a compaction.
 use Rattle.std.specs.Prelude.{◌≡◌, ◌↔◌, ◌⊎◌, [], IsTrue, IsSome}
 use Rattle.elasticlunr_error.specs.Text.{Text, Bytes}
 use Rattle.elasticlunr_trie_nodes.specs.Table.{Table, knows, posting, IsPrefix}

@@ -1,4 +1,4 @@
--- What a value tells of a node, when the values of its children are numbered; for private clauses.
+-- The node of a value, when the values of its children are numbered; for private clauses.
 use Rattle.std.specs.Prelude.{◌≡◌, ◌≢◌, ◌⊎◌, ℕ, ◌<◌, ◌≤◌, List, [], ◌∷◌, ◌++◌, map, length, Some}
 use Rattle.std.specs.Prelude.{IsSome, true, codes, encode_utf8, option_and_then}
 use Rattle.std.specs.Borrow.{Bor}

@@ -28,7 +28,7 @@ module _ (nodes : List Node) where
   unfoldable pub node_visits : Text → ℕ → Visits
   node_visits = visits (length nodes)
 
-  -- the children of each node come behind it
+  -- the children of each node come after it
   abbrev pub HasVisits : Type 0
   HasVisits = (t : Text) (k : ℕ) → node_visits t k ≡ (t, k)
       ∷ below node_visits t (children_of (slice_get nodes k))

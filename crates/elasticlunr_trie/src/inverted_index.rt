@@ -58,17 +58,14 @@ use value::tree_value;
 ///
 /// The nodes stand in one vector, and name their children by number. Each is the child of exactly
 /// one: of the root, or of a node of a lower number. So a trie is dropped without recursion. At
-/// each
-/// character of a text up to 16 children are scanned from the first, and more of them are searched
-/// by binary search. A reference has a number, under which its postings stand; its name is kept
-/// once. A name may stay when its postings go, until the trie is compacted; no call shows it.
+/// each character of a text up to 16 children are scanned from the first, and more of them are
+/// searched by binary search. A reference has a number, under which its postings stand; its name is
+/// kept once. A name may stay when its postings go, until the trie is compacted; no call shows it.
 ///
-/// A node takes 32 bytes, and more where it has several children or several postings. A token of
-/// up
+/// A node takes 32 bytes, and more where it has several children or several postings. A token of up
 /// to 27 bytes that came when it was known already, for the second time or as the beginning of
 /// another one, is remembered with its node, if a slot is free for it: a slot takes 32 bytes, and
-/// at
-/// most three of four are taken. There are numbers for 2^43 nodes and 2^48 references, more than
+/// at most three of four are taken. There are numbers for 2^43 nodes and 2^48 references, more than
 /// memory has room for: a call that would make more of them fails as where memory is refused.
 #[derive(Drop)]
 pub struct InvertedIndex {
@@ -120,8 +117,7 @@ impl InvertedIndex {
     /// Where memory is refused, the table stays as it was. What changes then is shown by no call:
     /// the reference may have a number, or a node in its list, without a posting, and no token is
     /// remembered. The work is in proportion to the token; the reference is looked up among all
-    /// names unless it is the one that was entered last, and by binary search among the postings
-    /// of
+    /// names unless it is the one that was entered last, and by binary search among the postings of
     /// the token unless it is newer than all of them.
     pub fn add_token(
         &mut self,
@@ -155,11 +151,9 @@ impl InvertedIndex {
 
     /// Sets the postings of several tokens, one after the other. An empty token changes nothing.
     ///
-    /// A token that is remembered is at its end by one look-up. The others are walked side by
-    /// side:
+    /// A token that is remembered is at its end by one look-up. The others are walked side by side:
     /// while one walk waits for memory, the others go on, so that in a large trie this takes less
-    /// time than a call for each; and the reference gets room for all of them at once. Where
-    /// memory
+    /// time than a call for each; and the reference gets room for all of them at once. Where memory
     /// is wanting, the postings of some tokens may be set, from the first on, and nothing else has
     /// changed.
     pub fn add_tokens(&mut self, doc_ref: &str, tokens: &[(&str, u64)]) -> Result<(), IndexError>
@@ -185,8 +179,7 @@ impl InvertedIndex {
         Ok(())
     }
 
-    /// Takes every posting of a reference away. The known texts stay. It visits the nodes where
-    /// the
+    /// Takes every posting of a reference away. The known texts stay. It visits the nodes where the
     /// reference has or had a posting, and no others; an unknown reference is looked up and costs
     /// no more. Does not allocate.
     pub fn remove_doc(&mut self, doc_ref: &str)
@@ -248,8 +241,8 @@ impl InvertedIndex {
         find_frequency(&self.root, &self.nodes, &self.names, token, doc_ref).is_some()
     }
 
-    /// How many references have a posting at a token. A step for each character of the token;
-    /// does not allocate.
+    /// How many references have a posting at a token. A step for each character of the token; does
+    /// not allocate.
     pub fn get_doc_frequency(&self, token: &str) -> u64
         ensures { result ≡ len (postings self.now (chars token.now)) }
     {
@@ -259,8 +252,7 @@ impl InvertedIndex {
         }
     }
 
-    /// The JSON value of the trie: an object with the key `root`, under which each node has
-    /// `docs`,
+    /// The JSON value of the trie: an object with the key `root`, under which each node has `docs`,
     /// `df` and a key for each of its children's characters.
     ///
     /// It takes more than a thousand bytes a posting: to print, use `write`. A value is dropped by

@@ -24,8 +24,7 @@ pub fn one_value_a_table()
     ensures { (T : Table) (v : Data) (w : Data) → IsTrieValue T v → IsTrieValue T w → v ≡ w }
 {}
 
-/// An answer that keeps the contract of `InvertedIndex::from_value` on the trie value of a table
-/// is
+/// An answer that keeps the contract of `InvertedIndex::from_value` on the trie value of a table is
 /// that table, or out of memory.
 pub fn trie_values_are_read_back()
     ensures { (T : Table) (v : Data) (answer : Result Table IndexError)

@@ -135,7 +135,7 @@ impl Model for NameTexts {
 }
 
 impl NameTexts {
-    /// A copy of names, in memory of its own.
+    /// A copy of the names that shares no memory with them.
     pub fn of(alloc: Global, names: &Names) -> Result<Self, AllocError>
         ensures { IfOk result (λ texts. texts ≡ names.now) }
     {

@@ -40,7 +40,7 @@ fn put_posting(
     Ok(())
 }
 
-/// The postings that a map tells, for a new node.
+/// The postings of a map, for a new node.
 pub fn number_docs(
     alloc: Global,
     names: &mut Names,

@@ -1,7 +1,7 @@
 //! The first index.
 //!
-//! One document of one word goes into an English index. Proved: the printed text, byte for byte.
-//! A caller has to know nothing more: the law that it calls says what one word becomes.
+//! One document of one word goes into an English index. Proved: the printed text, byte for byte. A
+//! caller has to know nothing more: the law that it calls says what one word becomes.
 ghost use Rattle.std.specs.Prelude.{◌≡◌, ◌++◌, IfErr, IfOk, codes, string_bytes};
 ghost use Rattle.elasticlunr.specs.IndexError.TheVariants.{Memory};
 

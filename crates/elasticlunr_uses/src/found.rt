@@ -2,8 +2,8 @@
 //!
 //! Two documents go into an English index, it is printed, and the text is searched. Proved: found
 //! are exactly the references whose text has a token of the query. A caller has to know that a
-//! token is what the language leaves of a word (trimmed, no stop word, stemmed), and that of two
-//! documents with one reference the later one stays.
+//! token is the output of the language's stages for a word (trimmed, no stop word, stemmed), and
+//! that of two documents with one reference the later one stays.
 ghost use Rattle.std.specs.Prelude.{◌≡◌, ◌≢◌, ◌⊎◌, List, IfOk, Contains};
 ghost use Rattle.elasticlunr.specs.Text.{Text, bytes_of};
 ghost use Rattle.elasticlunr.specs.AnyLanguage.TheVariants.{English as english};

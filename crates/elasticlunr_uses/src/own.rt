@@ -1,8 +1,7 @@
 //! An index with a custom stage and language, those of `elasticlunr_own`.
 //!
 //! What each means stands in its `ghost` lines, in words of the library; the prover holds the body
-//! against them. Proved: the printed text names the language, the stages and the field, and is
-//! that
+//! against them. Proved: the printed text names the language, the stages and the field, and is that
 //! of one document whose tokens are the words of its text, trimmed, without those that are then
 //! empty.
 ghost use Rattle.std.specs.Prelude.{◌≡◌, ◌∷◌, [], IfErr, IfOk, codes, filter_map, string_bytes};

@@ -1,5 +1,4 @@
-//! Runs tables of vectors against the library, and prints for each how many of its lines are
-//! right.
+//! Runs tables of vectors against the library, and prints for each how many of its lines are right.
 #![tactic(auto)]
 
 mod cells;

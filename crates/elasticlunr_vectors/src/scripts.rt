@@ -4,7 +4,7 @@ use elasticlunr::pipeline::PipelineFn;
 use std::alloc::{AllocError, Global};
 use unicode::properties::Script;
 
-/// Whether the class text of a line represents exactly the characters of the script beside it.
+/// Whether the class text of a line represents exactly the characters of the script next to it.
 pub fn is_named(alloc: Global, line: &str) -> Result<bool, AllocError> {
     let Some((class, name)) = line.split_once('\t') else {
         return Ok(false);

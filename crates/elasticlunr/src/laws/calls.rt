@@ -17,8 +17,7 @@ use elasticlunr_lang::Language;
 use elasticlunr_print::laws::values::settings_and_commands_have_one_value;
 use elasticlunr_text::laws::{a_run_has_one_answer, each_word_has_one_stem};
 
-/// Of a value for a field an index reads one list of tokens, and of a reference and values it
-/// makes
+/// Of a value for a field an index reads one list of tokens, and of a reference and values it makes
 /// one document.
 pub fn an_index_makes_one_document<L: Language>(index: &Index<L>)
     ensures reading { HasOneReading (reads_of L.tokens_of leaves index.now) }
@@ -66,8 +65,7 @@ pub fn equal_settings_print_equal_texts<L: Language>(index: &Index<L>, other: &I
 }
 
 /// Equal calls whose documents a built-in language makes are equal commands, and the texts that
-/// indexes
-/// of one plan print after them are equal.
+/// indexes of one plan print after them are equal.
 pub fn kept_languages_print_equal_texts()
     ensures commands { (language : AnyLanguage) (fields : List Bytes) (reference_field : Bytes)
         → let makes = IsKeptDocument language fields reference_field in SameCommands makes makes }

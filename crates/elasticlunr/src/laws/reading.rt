@@ -10,7 +10,7 @@ use elasticlunr_lang::Language;
 use elasticlunr_text::laws::a_run_has_one_answer;
 use elasticlunr_text::pipeline::Pipeline;
 
-/// What a language's pipeline leaves of what the language makes of a text is what the language
+/// The output of a language's pipeline for the language's tokens of a text is what the language
 /// reads of it, and the language reads nothing else.
 pub fn a_language_reads_what_its_pipeline_leaves<L: Language>(language: &L, pipeline: &Pipeline)
     ensures reads { (i : ℕ) (text : Bytes) (made : List (String Global)) (left : List Text)

@@ -7,8 +7,8 @@ ghost use Rattle.elasticlunr.specs.Word.{one_field_plan, PrintsPath};
 
 use elasticlunr_trie::laws::one_value_a_table;
 
-/// An index of one document, in whose one field the language reads one token, prints this value:
-/// a path of the token's characters, and at its end the root of 1 for the reference.
+/// An index of one document, in whose one field the language reads one token, prints this value: a
+/// path of the token's characters, and at its end the root of 1 for the reference.
 pub fn one_word_is_a_path()
     ensures { (language : AnyLanguage) (name : Bytes) (stages : List Bytes)
         (reference_field field reference value : Bytes) (token : Text)

@@ -74,8 +74,7 @@ pub fn equal_texts_have_equal_parts()
     values_tell_what_they_print();
 }
 
-/// A value has its parts under their keys: the names of the fields, the store, the language's
-/// name,
+/// A value has its parts under their keys: the names of the fields, the store, the language's name,
 /// and under each field's name the trie value of its table.
 pub fn values_hold_their_parts()
     ensures fields { (plan : Plan) (tables : List Table) (contents : Contents) (v : Data)
@@ -118,8 +117,7 @@ pub fn readers_agree()
 {}
 
 /// A printed text is read as a value with the parts that it was printed of, and with no others, by
-/// a
-/// reader of any depth, too.
+/// a reader of any depth, too.
 pub fn printed_texts_have_their_parts()
     ensures parts { (plan : Plan) (commands : Commands) (text : List ℕ)
         (print : IsPrintOf plan commands text)

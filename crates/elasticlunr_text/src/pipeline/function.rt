@@ -17,14 +17,14 @@ pub trait PipelineFn: Drop {
     // the name of the step
     ghost name_text: { Self → Bytes };
 
-    // what the step leaves of a token
+    // the output of the stage for a token
     ghost leaves: { Self → Text → Option Text };
 
     /// The name of the step, by which a printed index lists it.
     fn name(&self, alloc: Global) -> Result<String, AllocError>
         ensures { IfOk result (λ name. string_bytes name ≡ name_text self.now) };
 
-    /// What the step leaves of the token, `None` where it drops it.
+    /// The output of the stage for the token, `None` where it drops it.
     fn filter(&self, alloc: Global, token: String) -> Result<Option<String>, AllocError>
         ensures { IfOk result (λ left. option_map text_of left ≡ leaves self.now (text_of token)) };
 }

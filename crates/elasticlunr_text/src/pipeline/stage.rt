@@ -47,8 +47,8 @@ impl Stage {
         }
     }
 
-    /// What the stage leaves of the token, edited in its own buffer: only `Function` and `Own` may
-    /// request memory.
+    /// The output of the stage for the token, edited in its own buffer: only `Function` and `Own`
+    /// may request memory.
     pub fn filter(&self, alloc: Global, token: String) -> Result<Option<String>, AllocError>
         ensures left { IfOk result (λ left. MayLeave leaves self.now (text_of token)
             (option_map text_of left)) }

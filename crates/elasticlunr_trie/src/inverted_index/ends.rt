@@ -133,8 +133,7 @@ fn hash_of(token: &[u8]) -> u64 {
     hash ^ (hash >> 32)
 }
 
-// The number of a slot: so many further than that of the hash. The number of slots is a power of
-// 2.
+// The number of a slot: so many further than that of the hash. The number of slots is a power of 2.
 fn slot(slots: &[CachedToken], hash: u64, further: usize) -> usize {
     (hash as usize).wrapping_add(further) & slots.len().wrapping_sub(1)
 }

@@ -47,7 +47,7 @@ fn read_frequency(value: &Value) -> Option<u64>
     only_member(value, "tf")?.as_u64()
 }
 
-// The postings that the value under `docs` tells.
+// The postings of the value under `docs`.
 fn read_docs(alloc: Global, value: &Value) -> Result<BTreeMap<String, u64>, IndexError>
     ensures ok { IfOk result (λ m. view value.now
         ≡ object (frequencies (entries (postings_of m.entries)))) }
@@ -89,8 +89,8 @@ fn is_own_key(key: &str) -> bool
 }
 
 // The children that the members tell, numbered on from the values that wait. Their values wait
-// after these.
-// Keys come in the order of their bytes, which is that of the characters, so each child goes last.
+// after these. Keys come in the order of their bytes, which is that of the characters, so each
+// child goes last.
 fn read_children<'a>(
     alloc: Global,
     members: &'a Map<String, Value>,
@@ -126,7 +126,7 @@ fn has_count(value: &Value, count: u64) -> bool
     }
 }
 
-// The children and the postings of the node that a value tells.
+// The children and the postings of the node of a value.
 fn read_node<'a>(
     alloc: Global,
     value: &'a Value,
@@ -151,8 +151,7 @@ fn read_node<'a>(
     Ok((children, postings))
 }
 
-// The root's children and the nodes that a value tells, with the names and the lists of their
-// references.
+// The root's children and the nodes of a value, with the names and the lists of their references.
 pub(super) fn read_nodes(
     alloc: Global,
     value: &Value,

@@ -37,8 +37,7 @@ impl InvertedIndex {
 
 impl InvertedIndex {
     /// Puts the references that have a posting at a token into a set, which takes no copies of
-    /// them. The work is in proportion to the token and its postings, with a look-up in the set
-    /// for
+    /// them. The work is in proportion to the token and its postings, with a look-up in the set for
     /// each. Where memory is refused, some of them may stand there.
     pub fn put_references<'a>(
         &'a self,

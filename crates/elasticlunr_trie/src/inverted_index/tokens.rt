@@ -90,8 +90,7 @@ fn visit_below(
     Ok(())
 }
 
-// Visits the first of the children that are left at the end of a path, or goes back by a
-// character.
+// Visits the first of the children that are left at the end of a path, or goes back by a character.
 fn visit_next<'a>(
     nodes: &'a [Node],
     children: &'a [Child],

@@ -42,9 +42,9 @@ struct Order<'a> {
 
 impl InvertedIndex {
     /// Writes the JSON value of the trie, without making it. Takes 32 bytes of memory a reference
-    /// and a copy of its name, and a few a level, beside what is written, and 24 for each posting
-    /// of the node that is
-    /// written. The names are put in order once, and each node's postings by them.
+    /// and a copy of its name, and a few a level, besides what is written, and 24 for each posting
+    /// of the node that is written. The names are put in order once, and each node's postings by
+    /// them.
     pub fn write<W: Tokens>(&self, out: &mut W) -> Result<(), AllocError>
         ensures written { OnOk result ((v : Data) × IsTrieValue self.now v
             × (W.Tokens.written out.new ≡ W.Tokens.written out.old ++ json_tokens (outline v))) }

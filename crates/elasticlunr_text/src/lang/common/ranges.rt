@@ -5,9 +5,8 @@ ghost use Rattle.elasticlunr_text.specs.Ranges.{AreApart};
 
 use std::alloc::{AllocError, Global};
 
-/// Ranges of characters, in order, with a gap between any two. An ASCII character is looked up
-/// from the first range on,
-/// and any other one by binary search.
+/// Ranges of characters, in order, with a gap between any two. An ASCII character is looked up from
+/// the first range on, and any other one by binary search.
 #[derive(Drop)]
 pub struct Ranges {
     ranges: Vec<(u32, u32)>,

@@ -32,7 +32,7 @@ impl StopWordFilter {
         })
     }
 
-    /// The stop words, each once, in no order of their own. No memory is requested.
+    /// The stop words, each once, in no order that is promised. No memory is requested.
     pub fn stop_words(&self) -> &HashSet<String>
         ensures { (token : Text) → has_word self.now token ≡ is_listed token (texts_of result.now.keys) }
     {

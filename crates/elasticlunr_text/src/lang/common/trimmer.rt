@@ -27,9 +27,8 @@ impl RegexTrimmer {
     /// The trimmer of the characters that a class text names.
     ///
     /// A class text is one or more items: a range `x-y`, a character that no `-` follows, or
-    /// `\p{Name}`, the set that the crate `unicode` finds by that name. The characters of
-    /// `\[]^-&~`
-    /// never stand for themselves. Every other text is `BadClass`.
+    /// `\p{Name}`, the set that the crate `unicode` finds by that name. The characters of `\[]^-&~`
+    /// never mean themselves. Every other text is `BadClass`.
     pub fn new(alloc: Global, name: &str, word_chars: &str) -> Result<Self, IndexError>
         ensures name { IfOk result (λ trimmer. trimmer_name trimmer ≡ name.now) }
         ensures class { IfOk result (λ trimmer. Names (chars word_chars.now) (keeps trimmer)) }
@@ -42,8 +41,7 @@ impl RegexTrimmer {
         Ok(RegexTrimmer { name, class })
     }
 
-    /// The trimmer of the characters of some scripts. No script gives the class without
-    /// characters,
+    /// The trimmer of the characters of some scripts. No script gives the class without characters,
     /// whose trimmer drops every token.
     pub fn of_scripts(alloc: Global, name: &str, scripts: &[Script]) -> Result<Self, IndexError>
         ensures name { IfOk result (λ trimmer. trimmer_name trimmer ≡ name.now) }

@@ -247,7 +247,7 @@ def forged_docs(folder):
         ("a page with another line of Rust", readme.replace("    index.compact()?;\n", "", 1), "Rust: no crate has this file"),
         ("a page with one more block of Rust", readme + "```rust\npub fn nothing() {}\n```\n", "Rust: no crate has this file"),
         ("a page with another proof", library.replace("if-is_empty.true", "if-is_empty.false", 1), r"a proof: crates/\S+ is another text"),
-        ("a page with another line of crates.txt", library.replace("site: elasticlunr\n", "site: std\n"), "crates.txt has no line"),
+        ("a page with another line of crates.txt", library.replace("uses: elasticlunr ", "uses: std "), "crates.txt has no line"),
         ("a page with a command that fails", readme + "```console\n$ make no-such-thing\n```\n", "make no-such-thing: status 2"),
         ("a page with a command that doesn't exist", readme.replace("$ make test", "$ make tested"), "make tested: status 2"),
         ("a page with another answer", readme.replace("\nguide/search.html\n", "\nguide/other.html\n"), "it prints "),

@@ -3,7 +3,7 @@
 
 use elasticlunr::lang::English;
 use elasticlunr::{IndexBuilder, IndexError};
-use elasticlunr_own::{index_with_tokenizer, whole};
+use elasticlunr_uses::custom::{index_with_tokenizer, whole};
 use elasticlunr_uses::error::UseError;
 use elasticlunr_uses::first::first_index;
 use elasticlunr_uses::found::built_printed_found;

@@ -5,8 +5,10 @@ use crate::texts::repeated;
 use elasticlunr::lang::English;
 use elasticlunr::pipeline::{Pipeline, PipelineFn, Stage};
 use elasticlunr::{Index, IndexBuilder};
-use elasticlunr_own::{DropEmpty, Plain, Tokenize, index_of_words, index_with_tokenizer, whole};
 use elasticlunr_search::{Join, SearchError, Searcher};
+use elasticlunr_uses::custom::{
+    DropEmpty, Plain, Tokenize, index_of_words, index_with_tokenizer, whole,
+};
 use std::test::Fail;
 
 #[test]

@@ -1,4 +1,4 @@
-//! An index with a custom stage and language, those of `elasticlunr_own`.
+//! An index with a custom stage and language, those of `custom`.
 //!
 //! What each means stands in its `ghost` lines, in words of the library; the prover holds the body
 //! against them. Proved: the printed text names the language, the stages and the field, and is that
@@ -15,9 +15,9 @@ ghost use Rattle.elasticlunr.specs.IndexError.TheVariants.{Memory};
 ghost use Rattle.elasticlunr.specs.History.{Document, none, ◌▸◌, add};
 ghost use Rattle.elasticlunr.specs.Printed.{IsPrintOf};
 
+use crate::custom::{DropEmpty, Plain};
 use elasticlunr::pipeline::{Pipeline, PipelineFn, Stage};
 use elasticlunr::{IndexBuilder, IndexError};
-use elasticlunr_own::{DropEmpty, Plain};
 use std::alloc::Global;
 
 /// The text of an index of trimmed words.

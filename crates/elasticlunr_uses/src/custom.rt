@@ -1,5 +1,4 @@
 //! A custom stage, language and tokenizer.
-#![tactic(auto)]
 
 ghost use Rattle.std.specs.Prelude.{◌≡◌, ◌⊎◌, ◌∷◌, [], Err, IfErr, IfOk, IsTrue, codes};
 ghost use Rattle.elasticlunr.specs.Builder.{chosen};

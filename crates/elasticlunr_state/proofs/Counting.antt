@@ -6,7 +6,8 @@ use Rattle.std.specs.Prelude.{IsSomeAnd, IsTrue, Contains, count_by, string_eq}
 use Rattle.std.specs.List.{slice_get}
 use Rattle.std.proofs.Math.ListN.{set}
 use Rattle.std.specs.Str.{chars, encode_utf8_all}
-use Rattle.std.specs.HashMap.{HashMap, IsUnique, get_by_text}
+use Rattle.std.specs.List.{IsDistinct}
+use Rattle.std.specs.Map.{keys_of}
 use Rattle.std.specs.String.{string_eq_equiv}
 use Rattle.std.proofs.lemmas.List.Sums.{sum_by-cons}
 use Rattle.std.proofs.lemmas.Str.{IsUtf8-string_bytes, encodes-chars}
@@ -17,6 +18,7 @@ use Rattle.elasticlunr_commands.specs.Root.{IsRoot}
 use Rattle.elasticlunr_commands.specs.Standing.{IsPosting}
 use Rattle.elasticlunr_commands.specs.Entered.{BeginsOne, ReplacesPostings}
 use Rattle.elasticlunr_state.specs.Counted.{StandsIn, counted_texts, AreCounts, AreRooted, BeginsCounted, IsPosted}
+use Rattle.elasticlunr_state.specs.Counted.{count_at}
 use Rattle.elasticlunr_state.specs.Counted.{IsLeft, Posts}
 use Rattle.elasticlunr_commands.proofs.Adding.{same, apart, either}
 use Rattle.elasticlunr_state.proofs.Pairing.{FoundIn, early, late, found, set_here}
@@ -210,15 +212,15 @@ mapped_there f [] i x e = cc (e)
 mapped_there f (w ∷ xs) zero x e = cc (e)
 mapped_there f (w ∷ xs) (suc i) x e = mapped_there f xs i x e
 
-module _ {S : Type 0} (tokens : List (String Global)) (counts : HashMap (String Global) ℕ S)
-    (are : AreCounts tokens counts) (unique : IsUnique string_eq counts) where
-  entry_counts : (token : Text) (n : ℕ) → StandsIn (counted_texts counts.entries) (token, n)
+module _ (tokens : List (String Global)) (entries : List (String Global × ℕ))
+    (are : AreCounts tokens (count_at entries)) (unique : IsDistinct string_eq (keys_of entries)) where
+  entry_counts : (token : Text) (n : ℕ) → StandsIn (counted_texts entries) (token, n)
       → (n ≡ count_by (bytes_eq token) (texts_of tokens)) × (n ≢ 0)
   entry_counts token n (i, e) =
-      let entry = mapped_back (λ e. (text_of e.0, e.1)) counts.entries i (token, n) e in
+      let entry = mapped_back (λ e. (text_of e.0, e.1)) entries i (token, n) e in
       let key : String Global = entry.0.0 in
-      let found : get_by_text counts (string_bytes key) ≡ Some entry.0.1 =
-      lookup_from_place string_eq_equiv counts.entries i key entry.0.1 unique entry.1 in
+      let found : count_at entries (string_bytes key) ≡ Some entry.0.1 =
+      lookup_from_place string_eq_equiv entries i key entry.0.1 unique entry.1 in
       let token_is : text_of key ≡ token = ap (λ p. p.0) entry.2 in
       let n_is : entry.0.1 ≡ n = ap (λ p. p.1) entry.2 in
       let counted : entry.0.1 ≡ count_by (bytes_eq (text_of key)) (texts_of tokens) =
@@ -228,30 +230,30 @@ module _ {S : Type 0} (tokens : List (String Global)) (counts : HashMap (String 
       )
 
   token_counted : (token : Text) → Contains (texts_of tokens) token → (n : ℕ)
-      × StandsIn (counted_texts counts.entries) (token, n)
+      × StandsIn (counted_texts entries) (token, n)
   token_counted token among =
       let place = stands_from_contains (texts_of tokens) token among in
       let s = mapped_back text_of tokens place.0 token place.1 in
-      of_found s.0 s.2 (get_by_text counts (string_bytes s.0)) refl where
-        of_found : (s : String Global) → text_of s ≡ token → (o : Option ℕ) → get_by_text counts (string_bytes s) ≡ o
-            → (n : ℕ) × StandsIn (counted_texts counts.entries) (token, n)
+      of_found s.0 s.2 (count_at entries (string_bytes s.0)) refl where
+        of_found : (s : String Global) → text_of s ≡ token → (o : Option ℕ) → count_at entries (string_bytes s) ≡ o
+            → (n : ℕ) × StandsIn (counted_texts entries) (token, n)
         of_found s is None e = absurd (stands_counted token (texts_of tokens) among.0 among.1 among.2
             (ap (λ t. count_by (bytes_eq t) (texts_of tokens)) (sym is) ∙ sym (count_texts s tokens)
             ∙ sym (are.counted (string_bytes s)) ∙ ap (λ o. unwrap_or o 0) e))
         of_found s is (Some n) e =
-            let entry = place_from_lookup (λ k. bytes_eq (string_bytes s) (string_bytes k)) counts.entries n e in
+            let entry = place_from_lookup (λ k. bytes_eq (string_bytes s) (string_bytes k)) entries n e in
             let key_is : text_of entry.1 ≡ token = ap chars (sym (same (string_bytes s) (string_bytes entry.1) entry.3))
             ∙ is in (
               n,
               (
                 entry.0,
-                mapped_there (λ e. (text_of e.0, e.1)) counts.entries entry.0 (entry.1, n) entry.2
+                mapped_there (λ e. (text_of e.0, e.1)) entries entry.0 (entry.1, n) entry.2
                     ∙ ap (λ t. Some (t, n)) key_is,
               ),
             )
 
   pub replaces_from_posts : (old new : Table) (reference : Bytes)
-      → ((token : Text) → posting old token reference ≡ None) → Posts old new reference (counted_texts counts.entries)
+      → ((token : Text) → posting old token reference ≡ None) → Posts old new reference (counted_texts entries)
       → ReplacesPostings old new reference (Some (texts_of tokens))
   replaces_from_posts old new reference none posted = record {
     known = λ text. (
@@ -262,7 +264,7 @@ module _ {S : Type 0} (tokens : List (String Global)) (counts : HashMap (String 
     others = posted.others;
     no_empty = λ r absent. posted.no_empty r ∙ absent;
   } where
-    begins_one : (text : Text) → BeginsCounted (counted_texts counts.entries) text → BeginsOne (texts_of tokens) text
+    begins_one : (text : Text) → BeginsCounted (counted_texts entries) text → BeginsOne (texts_of tokens) text
     begins_one text b = record { token = b.token; not_empty = b.not_empty; among = of_count _ refl; begins = b.begins }
       where
         of_count : (n : ℕ) → count_by (bytes_eq b.token) (texts_of tokens) ≡ n → Contains (texts_of tokens) b.token
@@ -270,11 +272,11 @@ module _ {S : Type 0} (tokens : List (String Global)) (counts : HashMap (String 
         of_count (suc n) e = counted_stands b.token (texts_of tokens) n e
 
     begins_counted : (text : Text) → BeginsOne (texts_of tokens) text
-        → BeginsCounted (counted_texts counts.entries) text
+        → BeginsCounted (counted_texts entries) text
     begins_counted text b = let counted = token_counted b.token b.among in record
         { token = b.token; count = counted.0; not_empty = b.not_empty; among = counted.1; begins = b.begins }
 
-    counted_is : (token : Text) → IsPosted (counted_texts counts.entries) new reference token
+    counted_is : (token : Text) → IsPosted (counted_texts entries) new reference token
         → IsPosting (count_by (bytes_eq token) (texts_of tokens)) (posting new token reference)
     counted_is token p = let counted = entry_counts token p.count p.among in subst
         (λ n. IsPosting n (posting new token reference)) counted.0 (of_count p.count counted.1 p.rooted) where
@@ -283,7 +285,7 @@ module _ {S : Type 0} (tokens : List (String Global)) (counts : HashMap (String 
           of_count zero differs rooted = absurd (differs refl)
           of_count (suc n) differs rooted = rooted
 
-    absent_is : (token : Text) → IsLeft (counted_texts counts.entries) old new reference token
+    absent_is : (token : Text) → IsLeft (counted_texts entries) old new reference token
         → IsPosting (count_by (bytes_eq token) (texts_of tokens)) (posting new token reference)
     absent_is token p = of_count _ refl where
       of_count : (n : ℕ) → count_by (bytes_eq token) (texts_of tokens) ≡ n → IsPosting n (posting new token reference)
@@ -293,7 +295,7 @@ module _ {S : Type 0} (tokens : List (String Global)) (counts : HashMap (String 
 
   -- the same of one table among others
   pub replaced_at : (tables : List Table) (i : ℕ) (old new : Table) (reference : Bytes) → i < length tables
-      → slice_get tables i ≡ Some old → Posts old new reference (counted_texts counts.entries)
+      → slice_get tables i ≡ Some old → Posts old new reference (counted_texts entries)
       → (before after : Table) → slice_get tables i ≡ Some before → slice_get (set tables i new) i ≡ Some after
       → ((token : Text) → posting before token reference ≡ None)
       → ReplacesPostings before after reference (Some (texts_of tokens))
@@ -301,8 +303,8 @@ module _ {S : Type 0} (tokens : List (String Global)) (counts : HashMap (String 
       let was : old ≡ before = cc (is, eb) in
       let becomes : new ≡ after = cc (set_here tables i new inside, ea) in
       replaces_from_posts before after reference none
-      (subst (λ t. Posts t after reference (counted_texts counts.entries)) was
-      (subst (λ t. Posts old t reference (counted_texts counts.entries)) becomes posted))
+      (subst (λ t. Posts t after reference (counted_texts entries)) was
+      (subst (λ t. Posts old t reference (counted_texts entries)) becomes posted))
 
 -- one more rooted token
 pub rooted_more : (counts roots : List (Text × ℕ)) (t u : Text) (n m : ℕ) → AreRooted counts roots → u ≡ t → IsRoot n m

@@ -1,12 +1,14 @@
 -- Tokens with how often they stand, and the postings that these make.
 use Rattle.std.specs.Prelude.{◌≡◌, ◌≢◌, ℕ, List, [], ◌∷◌, ⊤, map, Some, IsSomeAnd, IsTrue}
-use Rattle.std.specs.Prelude.{slice_get, unwrap_or, count_by, ◌↔◌, ◌⊎◌, String, string_bytes}
-use Rattle.std.specs.HashMap.{HashMap, get_by_text}
+use Rattle.std.specs.Prelude.{Option, slice_get, unwrap_or, count_by, ◌↔◌, ◌⊎◌, String, string_bytes}
+use Rattle.std.specs.Map.{lookup}
 use Rattle.std.specs.Str.{bytes_eq}
 use Rattle.std.specs.declared.alloc.Global.{Global}
 use Rattle.elasticlunr_error.specs.Text.{Text, Bytes, text_of}
 use Rattle.elasticlunr_trie.specs.Table.{Table, knows, posting, IsPrefix}
 use Rattle.elasticlunr_commands.specs.Root.{IsRoot}
+use Rattle.elasticlunr_state.specs.declared.counts.Counts.{Counts}
+use Rattle.elasticlunr_state.specs.declared.counts.Counts.TheVariants.{Hashed, Ordered}
 
 -- it stands in the list
 abbrev pub StandsIn : {A : Type 0} → List A → A → Type 0
@@ -23,12 +25,20 @@ AreRooted [] (m ∷ ms) = ⊥
 AreRooted (n ∷ ns) [] = ⊥
 AreRooted (n ∷ ns) (m ∷ ms) = (m.0 ≡ n.0) × IsRoot n.1 m.1 × AreRooted ns ms
 
--- the map has how often each text stands among the tokens
-pub record AreCounts {S : Type 0} (tokens : List (String Global))
-    (counts : HashMap (String Global) ℕ S) : Type 0 where
-  pub counted : (text : Bytes) → unwrap_or (get_by_text counts text) 0
+-- what the map that counts has
+abbrev pub entries_of : Counts → List (String Global × ℕ)
+entries_of (Hashed counts) = counts.entries
+entries_of (Ordered counts) = counts.entries
+
+-- the count at a text
+abbrev pub count_at : List (String Global × ℕ) → Bytes → Option ℕ
+count_at entries text = lookup (λ token. bytes_eq text (string_bytes token)) entries
+
+-- what is found at a text is how often it stands among the tokens
+pub record AreCounts (tokens : List (String Global)) (found : Bytes → Option ℕ) : Type 0 where
+  pub counted : (text : Bytes) → unwrap_or (found text) 0
       ≡ count_by (λ token. bytes_eq text (string_bytes token)) tokens
-  pub positive : (text : Bytes) → get_by_text counts text ≢ Some 0
+  pub positive : (text : Bytes) → found text ≢ Some 0
 
 -- the text begins a counted token that is not empty
 pub record BeginsCounted (counts : List (Text × ℕ)) (text : Text) : Type 0 where

@@ -1,6 +1,6 @@
 use Rattle.std.proofs.Common.{[], Result, Ok, Err, OnOk, subst}
 use Rattle.elasticlunr_trie.specs.Table.{AreChanged, additions, told_tokens}
-use Rattle.elasticlunr_state.specs.Counted.{counted_texts}
+use Rattle.elasticlunr_state.specs.Counted.{counted_texts, entries_of}
 use Rattle.elasticlunr_state.proofs.Counting.{posts_none, posts_all}
 use Rattle.elasticlunr_state.proofs.Others.{either_way, all_added, some_added}
 use Rattle.elasticlunr_state.proofs.counts.add_postings.Goals as goal
@@ -15,7 +15,7 @@ returns-clause-posted c =
     let new = c.add_tokens.new.self in
     let r = c.args.doc_ref.now in
     let rooted = c.in_ok-rooted.rooted.items in
-    on_ok c.add_tokens.result (λ changed. posts_all old old new r [] (counted_texts c.args.counts.now.entries)
+    on_ok c.add_tokens.result (λ changed. posts_all old old new r [] (counted_texts (entries_of c.args.counts.now))
     (told_tokens rooted) (posts_none old r) c.in_ok-rooted.ensures.rooted
     (subst (λ ts. AreChanged (additions r (told_tokens ts)) old new) c.deref.ensures.value changed))
     c.add_tokens.ensures.ok

@@ -6,6 +6,7 @@ use Rattle.std.proofs.lemmas.Option.{slice_get_read}
 use Rattle.elasticlunr_error.specs.Text.{Text}
 use Rattle.elasticlunr_trie.specs.Table.{Table, posting}
 use Rattle.elasticlunr_commands.specs.Entered.{ReplacesPostings}
+use Rattle.elasticlunr_state.specs.Counted.{entries_of}
 use Rattle.elasticlunr_state.specs.Texts.{texts_left}
 use Rattle.elasticlunr_state.specs.Others.{OthersStay}
 use Rattle.elasticlunr_state.proofs.Others.{stay_length, stay_on, stay_set}
@@ -25,7 +26,7 @@ returns-clause-table c =
     → ((token : Text) → posting before token c.args.doc_ref.now ≡ None)
     → ReplacesPostings before after c.args.doc_ref.now (texts_left o))) (sym c.in-Some.is)
     (on_ok_weaker c.add_postings.result
-    (replaced_at c.in-Some.tokens.items c.in_ok-counts.counts c.in_ok-counts.ensures.counted
+    (replaced_at c.in-Some.tokens.items (entries_of c.in_ok-counts.counts) c.in_ok-counts.ensures.counted
     c.add_postings.ensures.unique c.args.self.now.tries.items c.args.i c.index_mut.result.now
     c.add_postings.new.trie c.args.doc_ref.now inside read)
     c.add_postings.ensures.posted)

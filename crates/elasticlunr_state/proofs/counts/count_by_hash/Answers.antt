@@ -6,8 +6,8 @@ use Rattle.std.proofs.lemmas.Iterator.Adapters.{YieldsList-from_vec}
 use Rattle.std.proofs.lemmas.Iterator.Consumers.{YieldsList-turn, YieldsList-end}
 use Rattle.std.proofs.lemmas.List.{map-id}
 use Rattle.std.proofs.lemmas.List.Sums.{count_by-le-length}
-use Rattle.elasticlunr_state.specs.Counted.{AreCounts}
-use Rattle.elasticlunr_state.proofs.counts.count_tokens.Goals as goal
+use Rattle.elasticlunr_state.specs.Counted.{AreCounts, count_at}
+use Rattle.elasticlunr_state.proofs.counts.count_by_hash.Goals as goal
 
 pub overflow_add-counts : goal.overflow_add-counts
 overflow_add-counts c =
@@ -35,5 +35,5 @@ returns-clause-counted c =
     let t = YieldsList-end (YieldsList-from_vec {s = c.into_iter-token-iterator.result} c.args.tokens.items h.0
     (h.1 ∙ c.args.tokens.ok.0)) c.loop-token.yielded c.loop-token.token-iterator c.loop-token.yielded_by
     c.next.result c.next.new.self c.in-None.is c.next.ensures.steps in
-    subst (λ tokens. AreCounts tokens c.loop-token.counts) (sym (map-id c.loop-token.yielded) ∙ t.0)
+    subst (λ tokens. AreCounts tokens (count_at c.loop-token.counts.entries)) (sym (map-id c.loop-token.yielded) ∙ t.0)
     c.loop-token.invariant

@@ -1,4 +1,11 @@
 use Rattle.std.proofs.Common.{◌≡◌, [], ◌∷◌, ◌++◌, map, ap, sym, subst, ◌∙◌}
+use Rattle.std.proofs.Common.{string_bytes, String, Global, List, ℕ, string_eq}
+use Rattle.std.specs.List.Sorted.{IsStrictlySortedBy}
+use Rattle.std.specs.Prelude.{string_cmp}
+use Rattle.std.specs.List.{IsDistinct}
+use Rattle.std.specs.Map.{keys_of}
+use Rattle.std.proofs.lemmas.Map.Keys.{IsDistinct-from_sorted}
+use Rattle.std.proofs.lemmas.Map.Text.{is_eq-slice_cmp}
 use Rattle.std.specs.Str.{chars}
 use Rattle.std.proofs.lemmas.List.{map-append}
 use Rattle.std.proofs.lemmas.Simd.{map-map}
@@ -7,7 +14,7 @@ use Rattle.elasticlunr_error.specs.Text.{text_of}
 use Rattle.elasticlunr_trie.specs.Table.{told_tokens}
 use Rattle.elasticlunr_state.specs.Counted.{AreRooted, counted_texts}
 use Rattle.elasticlunr_state.proofs.Counting.{rooted_more}
-use Rattle.elasticlunr_state.proofs.counts.rooted_counts.Goals as goal
+use Rattle.elasticlunr_state.proofs.counts.rooted_in_order.Goals as goal
 
 pub loop-token-init : goal.loop-token-init
 loop-token-init c = subst (λ ts. AreRooted [] (told_tokens ts)) (sym c.in_ok-rooted.ensures.items) tt
@@ -32,3 +39,19 @@ returns-clause-rooted c =
     c.next.ensures.steps in
     subst (λ cs. AreRooted cs (told_tokens c.loop-token.rooted.items)) (sym (map-map _ _ c.loop-token.yielded)
     ∙ ap counted_texts t.0) c.loop-token.invariant
+
+-- keys that rise differ, and strings are equal where their order ties them
+apart : (entries : List (String Global × ℕ)) → IsStrictlySortedBy string_cmp (keys_of entries)
+    → IsDistinct string_eq (keys_of entries)
+apart entries rise = subst (λ eq. IsDistinct eq (keys_of entries))
+    (λ i x y. is_eq-slice_cmp (string_bytes x) (string_bytes y) i)
+    (IsDistinct-from_sorted string_cmp (keys_of entries) rise)
+
+pub returns-clause-unique : goal.returns-clause-unique
+returns-clause-unique c = apart c.args.counts.now.entries c.len.ensures.ordered
+
+pub returns-in_err-rooted-clause-unique : goal.returns-in_err-rooted-clause-unique
+returns-in_err-rooted-clause-unique c = apart c.args.counts.now.entries c.len.ensures.ordered
+
+pub returns-in_err-push-clause-unique : goal.returns-in_err-push-clause-unique
+returns-in_err-push-clause-unique c = apart c.args.counts.now.entries c.len.ensures.ordered

@@ -9,3 +9,4 @@ pub mod OneLanguage
 pub mod OneLine
 pub mod OneAnswer
 pub mod Calls
+pub mod LineFeed

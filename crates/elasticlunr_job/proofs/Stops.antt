@@ -98,6 +98,11 @@ pub ok_both : {T E : Type 0} (r : Result T E) (F : Type 0) (P Q : T → Type 0) 
 ok_both (Ok x) F P Q f fits h = f x fits h
 ok_both (Err e) F P Q f fits h = h
 
+pub ok_two : {T E : Type 0} (r : Result T E) (P Q R : T → Type 0) → ((x : T) → P x → Q x → R x) → IfOk r P → IfOk r Q
+    → IfOk r R
+ok_two (Ok x) P Q R f p q = f x p q
+ok_two (Err e) P Q R f p q = p
+
 pub err_more : {T E : Type 0} (r : Result T E) (P Q : E → Type 0) → ((e : E) → P e → Q e) → IfErr r P → IfErr r Q
 err_more (Ok x) P Q f h = h
 err_more (Err e) P Q f h = f e h

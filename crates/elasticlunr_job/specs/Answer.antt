@@ -6,9 +6,12 @@ use Rattle.serde_json.specs.Written.{compact_text}
 use Rattle.elasticlunr_text.specs.Text.{Bytes}
 use Rattle.elasticlunr_lang.specs.declared.any.AnyLanguage.{AnyLanguage}
 use Rattle.elasticlunr_lang.specs.Known.{language_name}
+use Rattle.elasticlunr.specs.Current.{IsReadableAfter}
 use Rattle.elasticlunr.specs.Fields.{all_differ}
 use Rattle.elasticlunr.specs.History.{Commands}
+use Rattle.elasticlunr.specs.Kept.{KeptReads}
 use Rattle.elasticlunr.specs.Printed.{IsValue, pretty_text}
+use Rattle.elasticlunr_job.specs.Calls.{job_calls}
 use Rattle.elasticlunr_job.specs.Commands.{AreCommandsOf, job_plan}
 use Rattle.elasticlunr_job_format.specs.Job.{Document, Job, IsJob, IsNoJob}
 use Rattle.elasticlunr_job_format.specs.Reading.{reading}
@@ -77,6 +80,16 @@ pub record IsIndexLine (job : Job) (language : AnyLanguage) (text : Bytes) : Typ
 -- the job passes all checks, and this is the text of its index in its language, and a line feed
 abbrev pub IsLineOf : Job → Bytes → Type 0
 IsLineOf job text = (language : AnyLanguage) × Passes job language × IsIndexLine job language text
+
+-- the text is read as that of an index of the job in this language, after the calls of the job
+abbrev pub IsReadableIn : Job → AnyLanguage → Bytes → Type 0
+IsReadableIn job language text = IsReadableAfter (KeptReads language) (job_plan job language)
+    (job_calls job) text
+
+-- the job passes all checks, and the text is read so in its language
+abbrev pub IsReadableOf : Job → Bytes → Type 0
+IsReadableOf job text = (language : AnyLanguage) × Passes job language
+    × IsReadableIn job language text
 
 -- to the input the answer is this outcome, and this is written
 abbrev pub IsAnswer : Bytes → Outcome → Bytes → Type 0

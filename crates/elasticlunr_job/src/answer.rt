@@ -4,10 +4,11 @@ ghost use Rattle.std.specs.Prelude.{◌≡◌, ◌↔◌, ◌⊎◌, Any, Err, S
 ghost use Rattle.std.specs.Prelude.{IsErr, OnOk};
 ghost use Rattle.elasticlunr.specs.History.{Commands};
 ghost use Rattle.elasticlunr.specs.Index.{fields_of, plan_of, IsDocument, IsFailed, StandsFor};
-ghost use Rattle.elasticlunr.specs.Printed.{IsTextAfter};
+ghost use Rattle.elasticlunr.specs.Printed.{IsPrintOf, IsTextAfter};
 ghost use Rattle.elasticlunr_lang.specs.Known.{language_name};
 ghost use Rattle.elasticlunr_text.specs.Text.{Bytes};
 ghost use Rattle.elasticlunr_job.specs.Answer.{FailsAt, HasTooMany, IsIndexLine, IsLineOf};
+ghost use Rattle.elasticlunr_job.specs.Answer.{IsReadableIn, IsReadableOf};
 ghost use Rattle.elasticlunr_job.specs.Answer.{IsRefused, IsAnswer, line, printed_text};
 ghost use Rattle.elasticlunr_job.specs.Answer.{refusal_text};
 ghost use Rattle.elasticlunr_job.specs.Commands.{language_tokens};
@@ -32,6 +33,9 @@ fn text_of(index: &Index<AnyLanguage>, pretty: bool) -> Result<String, IndexErro
         → StandsFor language_name name_text index.now commands
         → IsTextAfter (printed_text pretty) (plan_of language_name name_text index.now)
         commands (string_bytes text)) }
+    ensures print { IfOk result (λ text. (commands : Commands)
+        → StandsFor language_name name_text index.now commands
+        → IsPrintOf (plan_of language_name name_text index.now) commands (string_bytes text)) }
     ensures failed { (result ≡ Err IndexError.Failed) ↔ IsFailed index.now }
     ensures errors { IfErr result (λ e. (e ≡ IndexError.Failed) ⊎ (e ≡ IndexError.Memory)) }
 {
@@ -50,6 +54,10 @@ pub fn line_of(index: &Index<AnyLanguage>, pretty: bool) -> Result<String, JobEr
         × IsTextAfter (printed_text pretty) (plan_of language_name name_text index.now) commands
         text
         × (string_bytes line_text ≡ line text)) }
+    ensures print { IfOk result (λ line_text. (commands : Commands)
+        → StandsFor language_name name_text index.now commands
+        → IsPrintOf (plan_of language_name name_text index.now) commands
+        (string_bytes line_text)) }
     ensures failed { IsFailed index.now → IsErr result }
     ensures err { IfErr result (λ stop. stop ≡ JobError.Memory) }
 {
@@ -64,7 +72,8 @@ fn fill_and_print(mut index: Index<AnyLanguage>, job: &Job<'_>) -> Result<String
     ensures ok { IfOk result (λ text. (language : AnyLanguage)
         → IsBuiltFor (job_told job.now) language (plan_of language_name name_text index)
         (IsDocument language_tokens leaves index) (StandsFor language_name name_text index)
-        → IsIndexLine (job_told job.now) language (string_bytes text)) }
+        → IsIndexLine (job_told job.now) language (string_bytes text)
+        × IsReadableIn (job_told job.now) language (string_bytes text)) }
     ensures err { IfErr result (λ stop. ¬ IsFailed index
         → StopsOnlyBy TooManyValues (Any (HasTooMany (fields_of index)) (job_told job.now).docs)
         stop) }
@@ -84,6 +93,8 @@ fn fill_and_print(mut index: Index<AnyLanguage>, job: &Job<'_>) -> Result<String
 /// The text of a job's index, and a line feed. Its texts are not copied, but into the index.
 pub fn job_line(alloc: Global, job: &Job<'_>) -> Result<String, JobError>
     ensures ok { IfOk result (λ text. IsLineOf (job_told job.now) (string_bytes text)) }
+    ensures readable { IfOk result (λ text.
+        IsReadableOf (job_told job.now) (string_bytes text)) }
     ensures err { IfErr result (StopsWithReason (FailsAt (job_told job.now))) }
 {
     let Some(language) = from_name(job.language) else {

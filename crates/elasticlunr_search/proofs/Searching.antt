@@ -11,7 +11,7 @@ use Rattle.elasticlunr.specs.Shape.{ArePartsOf}
 use Rattle.elasticlunr.specs.Standing.{IsTableOf, Plan}
 use Rattle.elasticlunr_search.specs.Query.{AreTokensOf, IsFound, RunReads}
 use Rattle.elasticlunr_search.specs.Standing.{AreFoundAsChosen, AreFoundInTrie, AreFoundWithinTries, AreTriesOf}
-use Rattle.elasticlunr_search.specs.Standing.{fields_of}
+use Rattle.elasticlunr_search.specs.Standing.{AreFoundWithinTriesAsChosen, fields_of}
 use Rattle.elasticlunr_search.specs.Tries.{FindsInTrie, Have, HaveAllAmong, IsTrieOf}
 use Rattle.elasticlunr_search.specs.Words.{FindsJoined}
 use Rattle.elasticlunr_search.specs.declared.searcher.Searcher.{Searcher}
@@ -71,6 +71,24 @@ across_tries tokens_of leaves_of leaves s names searched query tokens found are 
       speaks.stages));
   are = have;
 }
+
+pub across_chosen : {L P X : Type 0} {O : X → Type 0} {p : _} (tokens_of : L → Text → List Text) (leaves_of : L → Text
+    → Option Text → Type 0) (leaves : (v : X) × O v → Text → Option Text) (s : Searcher L P X O p)
+    → (names : List Bytes) (searched : List Table) (query : Bytes) (tokens : List Text) (found : List Bytes)
+    → AreTriesOf s names searched
+    → ((i : ℕ) → AreTokensOf (RunReads (tokens_of s.language) (IsRunBy leaves s.pipeline)) i query tokens)
+    → HaveAllAmong searched tokens found
+    → AreFoundWithinTriesAsChosen tokens_of leaves_of leaves s All names query found
+across_chosen tokens_of leaves_of leaves s names searched query tokens found are asks have language pipeline chosen =
+    record {
+      searched = searched;
+      of_fields = are;
+      tokens = tokens;
+      of_query = λ i. subst (λ l. AreTokensOf (RunReads (tokens_of l) (IsRunBy leaves pipeline)) i query tokens)
+          chosen.its_language (subst (λ ps. AreTokensOf (RunReads (tokens_of s.language) (IsRunBy leaves ps)) i query
+          tokens) chosen.its_pipeline (asks i));
+      are = have;
+    }
 
 -- what is found in the tries that commands left is found of the commands
 pub of_commands : (reads : ℕ → Bytes → List Text → Type 0) (plan : Plan) (commands : Commands) (names : List Bytes)

@@ -108,6 +108,25 @@ module _ {L P X : Type 0} {O : X → Type 0} {p : _} where
         → FindsInTrie (RunReads (tokens_of language) (IsRunBy leaves pipeline)) (fields_of s)
         s.printed.tries.items join field query found
 
+    -- whatever language and pipeline it has, these references are found so in one or more of the
+    -- tries of the fields of these names
+    abbrev pub AreFoundInTriesAsChosen : Join → (names : List Bytes) → (query : Bytes)
+        → (found : List Bytes) → Type 0
+    AreFoundInTriesAsChosen join names query found = (language : L) (pipeline : Pipeline P X O p)
+        → IsChosen s language pipeline
+        → FindsInTries (RunReads (tokens_of language) (IsRunBy leaves pipeline)) (fields_of s)
+        s.printed.tries.items join names query found
+
+    -- and in one or more of the tries of the fields of these names they have a token of the query,
+    -- or each, as the join says
+    abbrev pub AreFoundWithinTriesAsChosen : Join → (names : List Bytes) → (query : Bytes)
+        → (found : List Bytes) → Type 0
+    AreFoundWithinTriesAsChosen join names query found = (language : L)
+        (pipeline : Pipeline P X O p)
+        → IsChosen s language pipeline
+        → FindsWithin (RunReads (tokens_of language) (IsRunBy leaves pipeline)) (fields_of s)
+        s.printed.tries.items join names query found
+
     -- whatever language it speaks, these references are found of it in one or more of the tries of
     -- the fields of these names
     abbrev pub AreFoundInTries : Join → (names : List Bytes) → (query : Bytes)

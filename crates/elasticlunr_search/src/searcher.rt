@@ -58,6 +58,8 @@ impl<L: Language> Searcher<L> {
     ghost use Rattle.elasticlunr_search.specs.Standing.{AreFoundAsChosen, AreFoundInFields};
     ghost use Rattle.elasticlunr_search.specs.Standing.{AreFoundInTexts, AreFoundInTrie};
     ghost use Rattle.elasticlunr_search.specs.Standing.{AreFoundInTries, AreFoundOfTokens};
+    ghost use Rattle.elasticlunr_search.specs.Standing.{AreFoundInTriesAsChosen};
+    ghost use Rattle.elasticlunr_search.specs.Standing.{AreFoundWithinTriesAsChosen};
     ghost use Rattle.elasticlunr_search.specs.Standing.{AreFoundWithinFields, AreFoundWithinTries};
     ghost use Rattle.elasticlunr_search.specs.Standing.{AreTriesOf, FindsTokens, HasFieldsOf};
     ghost use Rattle.elasticlunr_search.specs.Standing.{HasPartsOf, IsChosen, LacksFieldOf};
@@ -243,6 +245,9 @@ impl<L: Language> Searcher<L> {
         ensures in_tries { IfOk result (λ found. AreFoundInTries L.tokens_of L.leaves_of leaves
             self.now
             join (borrowed fields.now) query.now (bytes_of found.items)) }
+        ensures as_chosen { IfOk result (λ found. AreFoundInTriesAsChosen L.tokens_of L.leaves_of
+            leaves self.now
+            join (borrowed fields.now) query.now (bytes_of found.items)) }
     {
         let mut found = BTreeSet::new(self.alloc);
         for field in fields {
@@ -266,6 +271,9 @@ impl<L: Language> Searcher<L> {
             Join.All (borrowed fields.now) query.now (bytes_of found.items)) }
         ensures in_tries { IfOk result (λ found. AreFoundWithinTries L.tokens_of L.leaves_of leaves
             self.now
+            Join.All (borrowed fields.now) query.now (bytes_of found.items)) }
+        ensures as_chosen { IfOk result (λ found. AreFoundWithinTriesAsChosen L.tokens_of
+            L.leaves_of leaves self.now
             Join.All (borrowed fields.now) query.now (bytes_of found.items)) }
     {
         postings_tell_tokens();

@@ -8,7 +8,7 @@ use Rattle.elasticlunr_job.proofs.Alike.{compacted_not, compacted_then, document
 use Rattle.elasticlunr_job.proofs.Alike.{plan_alike, same_settings, still_works, too_many_told, works_then}
 use Rattle.elasticlunr_job.proofs.Filling.{Any_at, All_more, All_whole, done, next_removed, next_taken}
 use Rattle.elasticlunr_job.proofs.Printing.{carried_line}
-use Rattle.elasticlunr_job.proofs.Stops.{err_more, later_too_many, ok_always, ok_more}
+use Rattle.elasticlunr_job.proofs.Stops.{err_more, later_too_many, ok_always, ok_two}
 use Rattle.elasticlunr_job.proofs.answer.fill_and_print.Goals as goal
 use Rattle.elasticlunr_job.proofs.answer.fill_and_print.Goals.{then-job+in_ok-compact, else-job}
 
@@ -86,7 +86,7 @@ returns-clause-fits g c = ok_always c.line_of.result (subst (λ ds. Fits (fields
     c.loop-doc.doc-index c.loop-doc-test.false c.loop-doc.invariant.fits))
 
 pub returns-clause-ok : goal.returns-clause-ok
-returns-clause-ok g c = ok_more c.line_of.result _ _ (λ text printed language built. elim c.if-job.branch [
+returns-clause-ok g c = ok_two c.line_of.result _ _ _ (λ text printed reads language built. elim c.if-job.branch [
   | then-job+in_ok-compact w ↦ carried_line (job_told c.args.job.now) language _ _ _ _ _ (string_bytes text)
       (plan_alike language_name (λ z. (goal.PipelineFn-dyn g z).name_text z.1) c.args.index c.if-job.index
       (same_settings c.args.index c.loop-reference.index w.compact.new.self c.if-job.index w.index-is
@@ -99,7 +99,7 @@ returns-clause-ok g c = ok_more c.line_of.result _ _ (λ text printed language b
       (compacted_then language_name (λ z. (goal.PipelineFn-dyn g z).name_text z.1) c.loop-reference.index
       w.compact.new.self c.if-job.index c.args.job.now.compact w.index-is w.if-job.true
       w.in_ok-compact.ensures.compacted))
-      printed
+      printed reads
   | else-job w ↦ carried_line (job_told c.args.job.now) language _ _ _ _ _ (string_bytes text)
       (plan_alike language_name (λ z. (goal.PipelineFn-dyn g z).name_text z.1) c.args.index c.if-job.index
       (same_settings c.args.index c.loop-reference.index c.loop-reference.index c.if-job.index w.index-is refl
@@ -111,6 +111,6 @@ returns-clause-ok g c = ok_more c.line_of.result _ _ (λ text printed language b
       c.loop-reference-test.false c.loop-doc.invariant.taken c.loop-reference.invariant.follows
       (compacted_not language_name (λ z. (goal.PipelineFn-dyn g z).name_text z.1) c.loop-reference.index c.if-job.index
       c.args.job.now.compact w.index-is w.if-job.false))
-      printed
+      printed reads
 ])
-    c.line_of.ensures.ok
+    c.line_of.ensures.ok c.line_of.ensures.print

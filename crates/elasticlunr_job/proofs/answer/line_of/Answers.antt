@@ -1,4 +1,6 @@
-use Rattle.std.proofs.Common.{string_bytes}
+use Rattle.std.proofs.Common.{string_bytes, subst, sym}
+use Rattle.elasticlunr.specs.Printed.{IsPrintOf}
+use Rattle.elasticlunr_job.proofs.LineFeed.{print_more}
 use Rattle.elasticlunr_job.proofs.answer.line_of.Goals as goal
 
 pub returns-clause-ok : goal.returns-clause-ok
@@ -8,3 +10,8 @@ returns-clause-ok g c commands stands = (
   c.in_ok-text.ensures.ok commands stands,
   c.in_ok-push.ensures.bytes,
 )
+
+pub returns-clause-print : goal.returns-clause-print
+unfolding lib.Utf8.encode
+returns-clause-print g c commands stands = subst (IsPrintOf _ commands) (sym c.in_ok-push.ensures.bytes)
+    (print_more _ commands (string_bytes c.in_ok-text.text) (c.in_ok-text.ensures.print commands stands))

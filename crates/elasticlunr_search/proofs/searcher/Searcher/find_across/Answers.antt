@@ -4,7 +4,7 @@ use Rattle.elasticlunr.specs.Fields.{borrowed}
 use Rattle.elasticlunr.specs.Reading.{LanguageReads}
 use Rattle.elasticlunr_search.specs.Tries.{HaveAllAmong, tables_of}
 use Rattle.elasticlunr_search.proofs.Across.{across_commands}
-use Rattle.elasticlunr_search.proofs.Searching.{across_tries}
+use Rattle.elasticlunr_search.proofs.Searching.{across_chosen, across_tries}
 use Rattle.elasticlunr_search.proofs.searcher.Searcher.find_across.Goals as goal
 
 pub returns-clause-in_tries : goal.returns-clause-in_tries
@@ -14,6 +14,17 @@ returns-clause-in_tries g c =
     let found = bytes_of c.in_ok-found.found.items in
     across_tries g.L.Language.tokens_of _ _ c.args.self.now (borrowed c.args.fields.now) searched c.args.query.now
     tokens found c.in_ok-tries.ensures.tries c.in_ok-tokens.ensures.read
+    (subst (λ ss. HaveAllAmong searched (texts_of ss) found) c.deref-2.ensures.value
+    (subst (λ ts. HaveAllAmong (tables_of ts) (texts_of c.deref-2.result.now) found) c.deref.ensures.value
+    c.in_ok-found.ensures))
+
+pub returns-clause-as_chosen : goal.returns-clause-as_chosen
+returns-clause-as_chosen g c =
+    let searched = tables_of c.in_ok-tries.tries.items in
+    let found = bytes_of c.in_ok-found.found.items in
+    across_chosen g.L.Language.tokens_of g.L.Language.leaves_of (λ b. (goal.PipelineFn-dyn g b).leaves b.1)
+    c.args.self.now (borrowed c.args.fields.now) searched c.args.query.now (texts_of c.in_ok-tokens.tokens.items) found
+    c.in_ok-tries.ensures.tries c.in_ok-tokens.ensures.run
     (subst (λ ss. HaveAllAmong searched (texts_of ss) found) c.deref-2.ensures.value
     (subst (λ ts. HaveAllAmong (tables_of ts) (texts_of c.deref-2.result.now) found) c.deref.ensures.value
     c.in_ok-found.ensures))

@@ -7,10 +7,12 @@ use Rattle.std.proofs.lemmas.List.Elements.{All-nil, All-push}
 use Rattle.std.proofs.lemmas.Result.{IfOk-at_ok}
 use Rattle.std.specs.Prelude.{IsTrue}
 use Rattle.std.specs.Borrow.{Bor}
+use Rattle.elasticlunr_text.specs.Stages.{IsRunBy}
 use Rattle.elasticlunr_text.specs.Text.{Bytes, bytes_of, is_listed}
 use Rattle.elasticlunr_trie.proofs.Keys.{keys_sorted}
 use Rattle.elasticlunr.specs.Fields.{borrowed, has_name}
 use Rattle.elasticlunr.specs.Reading.{LanguageReads}
+use Rattle.elasticlunr_search.specs.Query.{RunReads}
 use Rattle.elasticlunr_search.specs.Standing.{fields_of, HasFieldsOf}
 use Rattle.elasticlunr_search.specs.Words.{IsFoundFor}
 use Rattle.elasticlunr_search.proofs.Requested.{searched}
@@ -44,7 +46,8 @@ loop-field-preserved g c =
           c.loop-field.invariant.0 (searched (has_name field (fields_of searcher))
           c.in_ok-references.ensures.no_field.1)),
       joined_more _ _ _ (bytes_of before) (bytes_of after) (bytes_of added) field more c.loop-field.invariant.1
-          (c.in_ok-references.ensures.found, c.in_ok-references.ensures.in_trie) both,
+          (c.in_ok-references.ensures.found, c.in_ok-references.ensures.in_trie, c.in_ok-references.ensures.as_chosen)
+          both,
     )
 
 pub returns : goal.returns
@@ -74,4 +77,8 @@ returns g c =
           (g.L.Language.leaves_of language) in rw items
           (found_in_tries _ reads (fields_of searcher) searcher.printed.tries.items join query
           (λ name part finds. finds.1 language speaks) (borrowed fields) (bytes_of keys) joined order);
+      as_chosen = λ language pipeline chosen. let reads = RunReads (g.L.Language.tokens_of language)
+          (IsRunBy (λ b. (goal.PipelineFn-dyn g b).leaves b.1) pipeline) in rw items
+          (found_in_tries _ reads (fields_of searcher) searcher.printed.tries.items join query
+          (λ name part finds. finds.2 language pipeline chosen) (borrowed fields) (bytes_of keys) joined order);
     }

@@ -150,25 +150,32 @@ fn build_of(
             Err(ended) => Ok(ended),
         };
     };
-    let cutting = Cutting {
-        rt,
-        folder,
-        size: task
-            .given
-            .get_str("piece-size")
-            .and_then(size_of)
-            .unwrap_or(PIECE_SIZE),
-        with_text: task.given.get_str("output").is_some(),
-    };
+    let cutting = cutting_of(rt, task, folder);
     match made_in(rt, task, settings, input, &mut notes, &cutting)? {
-        Ok(Ok(cut)) => use_pieces(rt, task, folder, &cut, &notes),
+        Ok(Ok(cut)) => {
+            let ended = use_pieces(rt, task, folder, &cut, &notes);
+            if !matches!(ended, Ok(Outcome::Done)) {
+                discard(rt, &cut);
+            }
+            ended
+        }
         Ok(Err(fault)) => failed(rt, fault.file.as_str(), &fault.error),
         Err(ended) => Ok(ended),
     }
 }
 
-/// What is made of the index of an input, of which warnings are printed; or how it ended without
-/// an index.
+/// What is asked for pieces in this folder.
+fn cutting_of<'r>(rt: &'r HostRuntime, task: &Task<'_, '_>, folder: &'r str) -> Cutting<'r> {
+    let size = task.given.get_str("piece-size").and_then(size_of);
+    Cutting {
+        rt,
+        folder,
+        size: size.unwrap_or(PIECE_SIZE),
+        with_text: task.given.get_str("output").is_some(),
+    }
+}
+
+/// What is made of the index of an input, or how it ended without an index.
 fn made_in<M: Make>(
     rt: &HostRuntime,
     task: &Task<'_, '_>,
@@ -189,17 +196,16 @@ fn made_in<M: Make>(
     };
     let mut reader = BufReader::with_capacity(rt.alloc(), BUFFER, Marked::new(watched))?;
     match made_from(rt.alloc(), &mut reader, form, settings, notes, maker) {
-        Ok(made) => {
-            warn(rt, name, &notes.warnings)?;
-            Ok(Ok(made))
-        }
+        Ok(made) => Ok(Ok(made)),
         Err(trouble) => Ok(Err(troubled(rt, name, trouble)?)),
     }
 }
 
-/// Whether a warning is a refusal, and there is one.
-fn is_refused(task: &Task<'_, '_>, notes: &Notes) -> bool {
-    task.given.get_flag("strict") && !notes.warnings.is_empty()
+/// Prints the warnings, and says whether they are refusals and there is one.
+fn is_refused(rt: &HostRuntime, task: &Task<'_, '_>, notes: &Notes) -> io::Result<bool> {
+    let name = input_name(task.given.get_str("file"));
+    warn(rt, name, &notes.warnings)?;
+    Ok(task.given.get_flag("strict") && !notes.warnings.is_empty())
 }
 
 /// Does with the text of an index what is wanted.
@@ -210,7 +216,7 @@ fn use_index(
     notes: &Notes,
 ) -> io::Result<Outcome> {
     task.progress(rt, "made an index of", line.len())?;
-    if is_refused(task, notes) {
+    if is_refused(rt, task, notes)? {
         return Ok(Outcome::Refused);
     }
     match task.wanted {
@@ -262,8 +268,8 @@ fn output_name<'a>(task: &'a Task<'_, '_>) -> &'a str {
     task.given.get_str("output").unwrap_or("standard output")
 }
 
-/// Writes the text of an index where that is wanted, puts the pieces in their place, and says how
-/// many there are.
+/// Writes the text of an index where that is wanted, publishes the pieces, and says how many there
+/// are.
 fn use_pieces(
     rt: &HostRuntime,
     task: &Task<'_, '_>,
@@ -272,14 +278,12 @@ fn use_pieces(
     notes: &Notes,
 ) -> io::Result<Outcome> {
     task.progress(rt, "made pieces of", cut.bytes)?;
-    if is_refused(task, notes) {
-        discard(rt, cut);
+    if is_refused(rt, task, notes)? {
         return Ok(Outcome::Refused);
     }
     let counted = counted_pieces(rt, cut, notes)?;
     if let Some(text) = &cut.text {
         if let Err(e) = write_text(rt, task, text.as_str()) {
-            discard(rt, cut);
             return failed(rt, output_name(task), &e);
         }
     }

@@ -161,12 +161,12 @@ fn make_folder(rt: &HostRuntime, folder: &str, temporary: &str) -> io::Result<()
     fs::create_dir(rt, temporary)
 }
 
-/// Removes a folder of pieces after a fault, of which is said more than that this fails, too.
+/// Removes a folder of pieces after a fault. Where this fails, too, the first fault is reported.
 fn remove_folder(rt: &HostRuntime, folder: &str) {
     let _ = fs::remove_dir_all(rt, folder);
 }
 
-/// Removes the pieces again.
+/// Removes the pieces again, unless they were published.
 pub(crate) fn discard(rt: &HostRuntime, cut: &Cut) {
     remove_folder(rt, cut.temporary.as_str());
 }
@@ -178,7 +178,6 @@ pub(crate) fn publish(rt: &HostRuntime, folder: &str, cut: &Cut) -> io::Result<R
     match places(rt, folder, name) {
         Ok(places) => publish_at(rt, places, cut),
         Err(error) => {
-            discard(rt, cut);
             let file = String::from_str(rt.alloc(), folder)?;
             Ok(Err(Fault { file, error }))
         }
@@ -254,7 +253,6 @@ fn publish_at(rt: &HostRuntime, places: Places, cut: &Cut) -> io::Result<Result<
     let is_new = match give_name(rt, cut, pieces.as_str()) {
         Ok(is_new) => is_new,
         Err(error) => {
-            discard(rt, cut);
             return Ok(Err(Fault {
                 file: pieces,
                 error,

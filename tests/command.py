@@ -25,6 +25,7 @@ import tempfile
 sys.path.insert(0, os.path.join(os.path.dirname(__file__), ".."))
 
 from bench.measure import measured
+from tests.command_pieces import check_pieces
 from tests.memory_shim import Refusing
 from tests.report import Results
 from tests.tables import rows_missing
@@ -364,7 +365,7 @@ def check_memory(results):
         results.check(f"memory refused in turn, {form}", wrong == 0 and refused >= LEAST, f"{refused} refused, {wrong} wrong")
 
 
-CHECKS = [check_forms, check_search, check_deep_search, check_terminal, check_files, check_many, check_one_line, check_memory]
+CHECKS = [check_forms, check_search, check_deep_search, check_terminal, check_files, check_many, check_one_line, check_memory, check_pieces]
 
 
 def main():

@@ -90,6 +90,11 @@ CHANGES = {  # whose program is run, what is changed of its run, and how
     "finds any word for all": (FIND, CHANGES_INPUT, 'given = given.replace(b\'"all"]\', b\'"any"]\', 1)'),
     "finds one reference less": (FIND, CHANGES_ANSWER, 'out = out[: out[:-1].rfind(b"\\n") + 1]'),
     "searches any word for all": (COMMAND, CHANGES_WORDS, 'words = [word for word in words if word != "--all"]'),
+    "a command that cuts by another size": (
+        COMMAND,
+        CHANGES_WORDS,
+        'words = [str(2 * int(word)) if before == "--piece-size" else word for before, word in zip(["", *words], words)]',
+    ),
     "always ends well": (COMMAND, CHANGES_ANSWER, "status = 0"),
     "reads an index the slow way": (
         COMMAND,
@@ -222,6 +227,8 @@ def forged_readers(folder):
         path = write(os.path.join(folder, name.replace(" ", "-") + ".js"), reader.replace(old, new))
         yield Forgery(name, "pieces", f"^{says}", arguments=("--indexes", "20", "--reader", path))
     yield Forgery("no reader", "pieces", "^pieces: there is no /none.js", arguments=("--reader", "/none.js"))
+    size = "a command that cuts by another size"
+    yield Forgery(size, "pieces", "the command writes other files than the model$", size, ("--indexes", "20"), COMMAND)
     yield Forgery("a program that crashes", "pieces", "^pieces: elasticlunr_index prints no index: ", "crashes", ("--indexes", "20"))
 
 

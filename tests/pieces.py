@@ -4,7 +4,8 @@
 usage: pieces.py [--indexes N] [--seed N] [--reader FILE] [--folder DIR]
 
 The program prints the indexes: of examples/, of the paragraphs of this project's pages, and of random documents, some of them
-in characters whose order in UTF-16 isn't that of their bytes. pieces_model.py cuts them. For each query the reader of pieces
+in characters whose order in UTF-16 isn't that of their bytes. pieces_model.py cuts them, and `elasticlunr build --pieces` must
+write the same files, which are the ones that are searched. For each query the reader of pieces
 (browser/elasticlunr-pieces.js, or --reader) must give the references, the scores to the last bit and the order that
 elasticlunr.js gives for the whole index, may fetch only what it needs, and must give each stored document. pieces.js has these
 comparisons and the cases of faults. LEAST says how many queries there must be, and how many must find something.
@@ -22,16 +23,18 @@ import random
 import shutil
 import statistics
 import sys
+import tempfile
 from typing import NamedTuple
 
 sys.path.insert(0, os.path.join(os.path.dirname(__file__), ".."))
 
 from tests import pieces_model, random_jobs
+from tests.command_pieces import files_in
 from tests.compare_search import paragraphs
 from tests.model_tokens import LANGUAGES
 from tests.report import Results
 from tools import search_page
-from tools.repository import TOP, lines_of, printed, read, run
+from tools.repository import TOP, lines_of, printed, program, read, run
 
 LANGUAGES_SCRIPT = os.path.join(TOP, "browser/elasticlunr-languages.js")
 READER = os.path.join(TOP, "browser/elasticlunr-pieces.js")
@@ -167,6 +170,16 @@ def postings_of_tries(index):
                 yield (token, number, reference), posting["tf"]
 
 
+def written(given):
+    """The files that the command writes for a job. Raises a ValueError if it fails."""
+    with tempfile.TemporaryDirectory() as folder:
+        words = ["build", "--format", "job", "--pieces", folder, "--piece-size", str(given.size)]
+        ended = run([program("elasticlunr_cli"), *words], json.dumps(given.job).encode())
+        if ended.status != 0 or ended.out:
+            raise ValueError(f"elasticlunr writes no pieces: status {ended.status}, {(ended.out + ended.err)[:200]!r}")
+        return {name: text.decode() for name, text in files_in(folder).items()}
+
+
 def wrong_files(files, index, size):
     """What is wrong with the files of an index, or None. Put together, they are the index."""
     head = json.loads(files[pieces_model.HEAD])
@@ -259,12 +272,10 @@ class Tried:
     def __init__(self):
         self.given, self.indexes, self.queries, self.cases = [], [], [], {}
 
-    def add(self, given, text):
-        files = pieces_model.files(text, given.size)
+    def add(self, given, text, files):
         whole, names = renamed(text)
         self.given.append(given)
         self.indexes.append({"whole": whole, "files": files, "names": names})
-        return files
 
     def kind(self, query):
         return self.given[query[0]].kind
@@ -279,11 +290,13 @@ def collect(options, results):
     named = [("", given) for given in all_indexes(rng, options.indexes)] + list(cases())
     for name, given in named:
         try:
-            text = printed(given.job)
+            text, files = printed(given.job), written(given)
         except ValueError as error:
             results.note(False, f"pieces: {error}")
             continue
-        files = tried.add(given, text)
+        tried.add(given, text, files)
+        same = files == pieces_model.files(text, given.size)
+        results.note(same, f"pieces, {given.kind}: {json.dumps(given.job)[:300]}: the command writes other files than the model")
         wrong = wrong_files(files, json.loads(text), given.size)
         results.note(wrong is None, f"pieces, {given.kind}: {json.dumps(given.job)[:300]}: {wrong}")
         number = len(tried.indexes) - 1

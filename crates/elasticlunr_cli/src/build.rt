@@ -2,6 +2,7 @@
 
 use crate::files::{Input, input_name, open_input, write_output};
 use crate::given::settings_given;
+use crate::pieces::{Cut, Cutting, Fault, PIECE_SIZE, discard, publish};
 use crate::tell::{failed, say, troubled, warn};
 use clap::ArgMatches;
 use elasticlunr_diagnostics::form::form_of;
@@ -9,7 +10,7 @@ use elasticlunr_diagnostics::language::{language_name, unknown_language};
 use elasticlunr_diagnostics::message::counted;
 use elasticlunr_diagnostics::outcome::Outcome;
 use elasticlunr_diagnostics::script::script_of;
-use elasticlunr_input::index::{Marked, index_from};
+use elasticlunr_input::index::{Line, Make, Marked, made_from};
 use elasticlunr_input::notes::Notes;
 use elasticlunr_input::settings::Settings;
 use std::io::{self, BufReader, IsTerminal, Read};
@@ -86,6 +87,14 @@ impl Read for Watched<'_, '_> {
 
 /// Builds an index in the language that is asked for.
 pub(crate) fn build(rt: &HostRuntime, given: &ArgMatches<'_>, wanted: Use) -> io::Result<Outcome> {
+    if let Some(said) = given.get_str("piece-size") {
+        if size_of(said).is_none() {
+            let wants = "expected a whole number of bytes, at least 1, found";
+            let line = format!(in rt.alloc(); "elasticlunr: --piece-size: {wants} \"{said}\"")?;
+            say(rt, line.as_str())?;
+            return Ok(Outcome::Misused);
+        }
+    }
     let task = Task {
         given,
         wanted,
@@ -119,6 +128,14 @@ fn build_from(
     }
 }
 
+/// The bytes that a text asks for, where it is a number from 1.
+fn size_of(text: &str) -> Option<usize> {
+    match text.parse::<usize>() {
+        Ok(size) if size > 0 => Some(size),
+        _ => None,
+    }
+}
+
 /// Builds the index of an input, and does with it what is wanted.
 fn build_of(
     rt: &HostRuntime,
@@ -126,9 +143,49 @@ fn build_of(
     settings: &Settings,
     input: Input,
 ) -> io::Result<Outcome> {
+    let mut notes = Notes::new(rt.alloc());
+    let Some(folder) = task.given.get_str("pieces") else {
+        return match made_in(rt, task, settings, input, &mut notes, &Line)? {
+            Ok(line) => use_index(rt, task, line.as_str(), &notes),
+            Err(ended) => Ok(ended),
+        };
+    };
+    let cutting = cutting_of(rt, task, folder);
+    match made_in(rt, task, settings, input, &mut notes, &cutting)? {
+        Ok(Ok(cut)) => {
+            let ended = use_pieces(rt, task, folder, &cut, &notes);
+            if !matches!(ended, Ok(Outcome::Done)) {
+                discard(rt, &cut);
+            }
+            ended
+        }
+        Ok(Err(fault)) => failed(rt, fault.file.as_str(), &fault.error),
+        Err(ended) => Ok(ended),
+    }
+}
+
+/// What is asked for pieces in this folder.
+fn cutting_of<'r>(rt: &'r HostRuntime, task: &Task<'_, '_>, folder: &'r str) -> Cutting<'r> {
+    let size = task.given.get_str("piece-size").and_then(size_of);
+    Cutting {
+        rt,
+        folder,
+        size: size.unwrap_or(PIECE_SIZE),
+        with_text: task.given.get_str("output").is_some(),
+    }
+}
+
+/// What is made of the index of an input, or how it ended without an index.
+fn made_in<M: Make>(
+    rt: &HostRuntime,
+    task: &Task<'_, '_>,
+    settings: &Settings,
+    input: Input,
+    notes: &mut Notes,
+    maker: &M,
+) -> io::Result<Result<M::Made, Outcome>> {
     let name = input_name(task.given.get_str("file"));
     let form = task.given.get_str("format").and_then(form_of);
-    let mut notes = Notes::new(rt.alloc());
     let watched = Watched {
         input,
         rt,
@@ -138,14 +195,17 @@ fn build_of(
         is_told: false,
     };
     let mut reader = BufReader::with_capacity(rt.alloc(), BUFFER, Marked::new(watched))?;
-    match index_from(rt.alloc(), &mut reader, form, settings, &mut notes) {
-        Ok(line) => {
-            task.progress(rt, "made an index of", line.len())?;
-            warn(rt, name, &notes.warnings)?;
-            use_index(rt, task, line.as_str(), &notes)
-        }
-        Err(trouble) => troubled(rt, name, trouble),
+    match made_from(rt.alloc(), &mut reader, form, settings, notes, maker) {
+        Ok(made) => Ok(Ok(made)),
+        Err(trouble) => Ok(Err(troubled(rt, name, trouble)?)),
     }
+}
+
+/// Prints the warnings, and says whether they are refusals and there is one.
+fn is_refused(rt: &HostRuntime, task: &Task<'_, '_>, notes: &Notes) -> io::Result<bool> {
+    let name = input_name(task.given.get_str("file"));
+    warn(rt, name, &notes.warnings)?;
+    Ok(task.given.get_flag("strict") && !notes.warnings.is_empty())
 }
 
 /// Does with the text of an index what is wanted.
@@ -155,7 +215,8 @@ fn use_index(
     line: &str,
     notes: &Notes,
 ) -> io::Result<Outcome> {
-    if task.given.get_flag("strict") && !notes.warnings.is_empty() {
+    task.progress(rt, "made an index of", line.len())?;
+    if is_refused(rt, task, notes)? {
         return Ok(Outcome::Refused);
     }
     match task.wanted {
@@ -171,23 +232,84 @@ fn write_index(
     line: &str,
     notes: &Notes,
 ) -> io::Result<Outcome> {
-    let output = task.given.get_str("output");
     // Made before anything is written, so that no memory is asked for after that.
+    let counted = counted_of(rt, notes)?;
+    match write_text(rt, task, line) {
+        Ok(()) => {
+            let (bytes, seconds) = (line.len(), task.seconds(rt)?);
+            eprintln!(rt; "elasticlunr: {counted}, {bytes} bytes, {seconds:.1} s")?;
+            Ok(Outcome::Done)
+        }
+        Err(e) => failed(rt, output_name(task), &e),
+    }
+}
+
+/// How many documents and tokens there are.
+fn counted_of(rt: &HostRuntime, notes: &Notes) -> io::Result<String> {
     let documents = counted(rt.alloc(), notes.documents, "document")?;
     let tokens = counted(rt.alloc(), notes.token_count(), "token")?;
-    let written = match task.given.get_str("js") {
+    Ok(format!(in rt.alloc(); "{documents}, {tokens}")?)
+}
+
+/// Writes the text of an index, in a script where that is asked for.
+fn write_text(rt: &HostRuntime, task: &Task<'_, '_>, line: &str) -> io::Result<()> {
+    let output = task.given.get_str("output");
+    match task.given.get_str("js") {
         Some(before) => {
             let script = script_of(rt.alloc(), before, line)?;
             write_output(rt, output, script.as_str())
         }
         None => write_output(rt, output, line),
-    };
-    match written {
+    }
+}
+
+/// The name of the output in a message.
+fn output_name<'a>(task: &'a Task<'_, '_>) -> &'a str {
+    task.given.get_str("output").unwrap_or("standard output")
+}
+
+/// Writes the text of an index where that is wanted, publishes the pieces, and says how many there
+/// are.
+fn use_pieces(
+    rt: &HostRuntime,
+    task: &Task<'_, '_>,
+    folder: &str,
+    cut: &Cut,
+    notes: &Notes,
+) -> io::Result<Outcome> {
+    task.progress(rt, "made pieces of", cut.bytes)?;
+    if is_refused(rt, task, notes)? {
+        return Ok(Outcome::Refused);
+    }
+    let counted = counted_pieces(rt, cut, notes)?;
+    if let Some(text) = &cut.text {
+        if let Err(e) = write_text(rt, task, text.as_str()) {
+            return failed(rt, output_name(task), &e);
+        }
+    }
+    match publish(rt, folder, cut)? {
         Ok(()) => {
-            let (bytes, seconds) = (line.len(), task.seconds(rt)?);
-            eprintln!(rt; "elasticlunr: {documents}, {tokens}, {bytes} bytes, {seconds:.1} s")?;
+            let seconds = task.seconds(rt)?;
+            eprintln!(rt; "elasticlunr: {counted}, {seconds:.1} s")?;
             Ok(Outcome::Done)
         }
-        Err(e) => failed(rt, output.unwrap_or("standard output"), &e),
+        Err(Fault { file, error }) => failed(rt, file.as_str(), &error),
+    }
+}
+
+/// How many documents, tokens and pieces there are, and the bytes of head, pieces and text.
+fn counted_pieces(rt: &HostRuntime, cut: &Cut, notes: &Notes) -> io::Result<String> {
+    let counted_notes = counted_of(rt, notes)?;
+    let pieces = counted(rt.alloc(), cut.count, "piece")?;
+    let (head, largest) = (cut.head.text.len(), cut.largest);
+    let sizes = format!(in rt.alloc();
+        "{pieces}, {head} bytes in the head, {largest} in the largest piece"
+    )?;
+    match &cut.text {
+        Some(text) => {
+            let bytes = text.len();
+            Ok(format!(in rt.alloc(); "{counted_notes}, {bytes} bytes, {sizes}")?)
+        }
+        None => Ok(format!(in rt.alloc(); "{counted_notes}, {sizes}")?),
     }
 }

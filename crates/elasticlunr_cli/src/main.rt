@@ -7,6 +7,7 @@ mod build;
 mod files;
 mod given;
 mod languages;
+mod pieces;
 mod search;
 mod tell;
 mod words;

@@ -33,11 +33,15 @@ fn build_words<'a>(alloc: Global) -> Result<Command<'a>, AllocError> {
     let output = "Writes the index there, whole or not at all";
     let script = "Writes this text before the index and `;` after it";
     let pretty = "Prints the index with a line for each member";
+    let pieces = "Writes the index there in pieces, and removes the pieces of an earlier one";
+    let size = "The bytes of a piece [default: 16384]";
     let arguments = vec![in alloc;
         option(alloc, "output", "FILE", output).short('o'),
         flag(alloc, "no-save", "Keeps no texts of documents in the index"),
         flag(alloc, "pretty", pretty),
         option(alloc, "js", "TEXT", script),
+        option(alloc, "pieces", "DIR", pieces),
+        option(alloc, "piece-size", "BYTES", size).requires_arg("pieces")?,
     ]?;
     input_words(alloc, Command::new(alloc, "build").about(about))?.args(arguments)
 }

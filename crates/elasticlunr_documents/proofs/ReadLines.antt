@@ -14,13 +14,12 @@ use Rattle.elasticlunr_text.specs.Text.{Bytes}
 use Rattle.elasticlunr_lang.specs.declared.any.AnyLanguage.{AnyLanguage}
 use Rattle.elasticlunr.specs.History as history
 use Rattle.elasticlunr.specs.History.{Commands, add, ◌▸◌}
-use Rattle.elasticlunr.specs.Printed.{IsTextAfter}
 use Rattle.elasticlunr.specs.Standing.{Plan}
-use Rattle.elasticlunr_job.specs.Answer.{line, printed_text}
+use Rattle.elasticlunr_job.specs.Answer.{OfIndex}
 use Rattle.elasticlunr_job.specs.Commands.{in_order}
 use Rattle.elasticlunr_job.specs.Filled.{IsBuiltFor}
 use Rattle.elasticlunr_documents.specs.Lines.{HasLineProblem, IsFirstNoDocument}
-use Rattle.elasticlunr_documents.specs.LinesTold.{IsFilledLine, IsTaken, IsValueOf}
+use Rattle.elasticlunr_documents.specs.LinesTold.{IsFilledBy, IsTaken, IsValueOf}
 use Rattle.elasticlunr_job_format.specs.declared.objects.ObjectFault.{ObjectFault}
 use Rattle.serde_json.specs.View.{view}
 use Rattle.serde_json.specs.declared.value.Value.{Value}
@@ -35,7 +34,7 @@ use Rattle.elasticlunr_job_format.proofs.LineSplits.{split_none}
 use Rattle.elasticlunr_job_format.proofs.WholeLines.{filled_append}
 use Rattle.elasticlunr_documents.proofs.FilledLines.{blank_first, filled_first, taken_one}
 use Rattle.elasticlunr_job.proofs.Taken.{Follows, HasTaken, Makes, Standing}
-use Rattle.elasticlunr_job.proofs.Printing.{carried_line}
+use Rattle.elasticlunr_job.proofs.Printing.{carried}
 
 module _ (line : Bytes) (none : HasNoFeed line) where
   no_cut : All (λ b. (b == 10) ≡ false) line
@@ -167,13 +166,12 @@ feeds_next text line none =
 
 -- all lines were added
 pub all_filled : (options : Options) (language : AnyLanguage) (left : Option Bytes) (text : Bytes) (number : ℕ)
-    (made : Makes) (old new : Standing) (before after : Plan) (line_text : Bytes) → AreAll left text
+    (made : Makes) (old new : Standing) (before after : Plan) (Is : OfIndex) → AreAll left text
     → Added options text number made old new → after ≡ before → IsBuiltFor (job_of options []) language before made
     old
-    → ((commands : Commands) → new commands → (printed : Bytes) × IsTextAfter (printed_text options.pretty) after
-    commands printed × (line_text ≡ line printed)) → (all : Bytes) × AreAll left all
-    × IsFilledLine options language all line_text
-all_filled options language left text number made old new before after line_text all added same built prints =
+    → ((commands : Commands) → new commands → Is options.pretty after commands) → (all : Bytes) × AreAll left all
+    × IsFilledBy options language all Is
+all_filled options language left text number made old new before after Is all added same built holds =
     let job = job_of options added.documents in
     let entered = added.taken.documents in
     let order : in_order job entered ≡ map add entered = append-nil (map add entered ++ [])
@@ -185,7 +183,7 @@ all_filled options language left text number made old new before after line_text
         documents = added.documents;
         are_values = added.are_values;
         are_documents = added.are_documents;
-        is_line = carried_line job language made old new before after line_text same
+        made = carried job language made old new before after Is same
             (record { its_plan = built.its_plan; adds = built.adds; empty = built.empty })
             (record {
               documents = entered;
@@ -193,6 +191,6 @@ all_filled options language left text number made old new before after line_text
               follows = subst (Follows old new) (sym order)
                   added.taken.follows;
             })
-            prints;
+            holds;
       },
     )

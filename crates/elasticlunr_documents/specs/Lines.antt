@@ -3,23 +3,27 @@ use Rattle.std.specs.Prelude.{◌≡◌, ◌+◌, ⊤, ℕ, true, List, [], leng
 use Rattle.serde_json.specs.Data.{Data}
 use Rattle.elasticlunr_text.specs.Text.{Bytes}
 use Rattle.elasticlunr.specs.Fields.{all_differ}
-use Rattle.elasticlunr_job.specs.Answer.{FailsAt, NamesLanguage}
+use Rattle.elasticlunr_job.specs.Answer.{FailsAt, IsPrintedLine, NamesLanguage, OfIndex}
 use Rattle.elasticlunr_job_format.specs.Job.{Document}
 use Rattle.elasticlunr_job_format.specs.LineRead.{IsLineAfter}
 use Rattle.elasticlunr_job_format.specs.Lines.{AreLineValues}
 use Rattle.elasticlunr_job_format.specs.Objects.{Options, AreDocumentsOf, HasProblem}
 use Rattle.elasticlunr_job_format.specs.Reading.{reading}
-use Rattle.elasticlunr_documents.specs.Objects.{IsLineOfObjects, job_of}
+use Rattle.elasticlunr_documents.specs.Objects.{IsMadeOfObjects, job_of}
 use Rattle.elasticlunr_documents.specs.declared.lines.LastLine.{LastLine}
 use Rattle.elasticlunr_documents.specs.declared.lines.LinesError.{LinesError}
 use Rattle.elasticlunr_documents.specs.declared.lines.LinesError.TheVariants as error
 use Rattle.elasticlunr_job_format.specs.declared.objects.ObjectFault.{ObjectFault}
 use Rattle.elasticlunr_job_format.specs.declared.objects.ObjectFault.TheVariants.{NotJson}
 
+-- this holds of the index of the documents that the lines are
+abbrev pub IsMadeOfLines : Options → Bytes → OfIndex → Type 0
+IsMadeOfLines options input Is = (items : List Data) × AreLineValues input items
+    × IsMadeOfObjects options items Is
+
 -- the text of the index of the documents that the lines are, and a line feed
 abbrev pub IsLineOfLines : Options → Bytes → Bytes → Type 0
-IsLineOfLines options input text = (items : List Data) × AreLineValues input items
-    × IsLineOfObjects options items text
+IsLineOfLines options input text = IsMadeOfLines options input (IsPrintedLine text)
 
 -- what is wrong with a line that is read so: it is not JSON, or its value is no document
 abbrev pub HasLineProblem : Options → Option Data → ObjectFault → Type 0

@@ -6,7 +6,7 @@ use Rattle.elasticlunr_text.specs.Text.{Bytes}
 use Rattle.elasticlunr_text.specs.IndexError.{IndexError}
 use Rattle.elasticlunr_text.specs.IndexError.TheVariants.{DuplicateField}
 use Rattle.elasticlunr_lang.specs.declared.any.AnyLanguage.{AnyLanguage}
-use Rattle.elasticlunr_job.specs.Answer.{IsIndexLine}
+use Rattle.elasticlunr_job.specs.Answer.{IsMadeIn, OfIndex}
 use Rattle.elasticlunr_job_format.specs.Job.{Document}
 use Rattle.elasticlunr_job_format.specs.LineRead.{AreAll, HasNoFeed, fed}
 use Rattle.elasticlunr_job_format.specs.Lines.{AreLineValues, is_blank}
@@ -63,14 +63,14 @@ StopsFilling options left last (error.Refused _) = ⊥
 StopsFilling options left last (error.Document number problem) = StopsAtLine options left last
     number problem
 
--- the text of the index, in this language, of the documents that the lines are
-pub record IsFilledLine (options : Options) (language : AnyLanguage) (input text : Bytes) : Type 0
-  where
-    pub items : List Data
-    pub documents : List Document
-    pub are_values : AreLineValues input items
-    pub are_documents : AreDocumentsOf options items documents
-    pub is_line : IsIndexLine (job_of options documents) language text
+-- this holds of the index, in this language, of the documents that the lines are
+pub record IsFilledBy (options : Options) (language : AnyLanguage) (input : Bytes) (Is : OfIndex) :
+    Type 0 where
+  pub items : List Data
+  pub documents : List Document
+  pub are_values : AreLineValues input items
+  pub are_documents : AreDocumentsOf options items documents
+  pub made : IsMadeIn (job_of options documents) language Is
 
 -- how a refusal of the builder ends the work on lines; the others are out of memory
 abbrev pub index_error_of : IndexError → LinesError

@@ -2,7 +2,7 @@
 use Rattle.std.specs.Prelude.{List, [], ⊤, false}
 use Rattle.serde_json.specs.Data.{Data}
 use Rattle.elasticlunr_text.specs.Text.{Bytes}
-use Rattle.elasticlunr_job.specs.Answer.{FailsAt, IsLineOf}
+use Rattle.elasticlunr_job.specs.Answer.{FailsAt, IsMadeOf, IsPrintedLine, OfIndex}
 use Rattle.elasticlunr_job_format.specs.Job.{Document, Job}
 use Rattle.elasticlunr_job_format.specs.Objects.{Options, AreDocumentsOf, IsFirstProblem}
 use Rattle.elasticlunr_documents.specs.declared.objects.ObjectsError.{ObjectsError}
@@ -21,10 +21,14 @@ job_of options docs = record {
   compact = false;
 }
 
+-- this holds of the index of the documents that the values are
+abbrev pub IsMadeOfObjects : Options → List Data → OfIndex → Type 0
+IsMadeOfObjects options items Is = (docs : List Document) × AreDocumentsOf options items docs
+    × IsMadeOf (job_of options docs) Is
+
 -- the text of the index of the documents that the values are, and a line feed
 abbrev pub IsLineOfObjects : Options → List Data → Bytes → Type 0
-IsLineOfObjects options items text = (docs : List Document) × AreDocumentsOf options items docs
-    × IsLineOf (job_of options docs) text
+IsLineOfObjects options items text = IsMadeOfObjects options items (IsPrintedLine text)
 
 -- why no index of the values is printed: the first that is no document, or else the check that
 -- their job fails first

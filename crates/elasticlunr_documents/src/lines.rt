@@ -7,14 +7,13 @@ ghost use Rattle.std.specs.Prelude.{◌≡◌, [], true, Some, None, option_map,
 ghost use Rattle.std.specs.Prelude.{IfErr};
 ghost use Rattle.elasticlunr.specs.Index.{plan_of, IsDocument, StandsFor};
 ghost use Rattle.elasticlunr.specs.History.{Commands};
-ghost use Rattle.elasticlunr.specs.Printed.{IsTextAfter};
 ghost use Rattle.elasticlunr_lang.specs.Known.{language_name};
-ghost use Rattle.elasticlunr_job.specs.Answer.{line, printed_text};
 ghost use Rattle.elasticlunr_text.specs.Text.{Bytes};
 ghost use Rattle.elasticlunr_job.specs.Commands.{language_tokens};
 ghost use Rattle.elasticlunr_job.specs.Filled.{IsBuiltFor};
 ghost use Rattle.elasticlunr_documents.specs.Lines.{FailsLines, IfDevice, IsLineOfLines};
-ghost use Rattle.elasticlunr_documents.specs.LinesTold.{IsFilledLine, IsTaken, IsUnread};
+ghost use Rattle.elasticlunr_documents.specs.Lines.{IsMadeOfLines};
+ghost use Rattle.elasticlunr_documents.specs.LinesTold.{IsFilledBy, IsTaken, IsUnread};
 ghost use Rattle.elasticlunr_documents.specs.LinesTold.{IsUnreadAfter, IsValueOf, StopsFilling};
 ghost use Rattle.elasticlunr_documents.specs.LinesTold.{StopsOn, StopsReading};
 ghost use Rattle.elasticlunr_documents.specs.Objects.{job_of};
@@ -29,7 +28,7 @@ use crate::objects::{AddError, Object, ObjectFault, Options, object_of};
 use elasticlunr::lang::{AnyLanguage, from_name};
 use elasticlunr::laws::calls::an_index_makes_what_its_language_makes;
 use elasticlunr::{Index, IndexBuilder, IndexError};
-use elasticlunr_job::answer::line_of;
+use elasticlunr_job::make::{Line, Make};
 use elasticlunr_job::outcome::{JobError, Refusal};
 pub use elasticlunr_job_format::lines::is_blank;
 use elasticlunr_job_format::read::read_json;
@@ -178,37 +177,35 @@ fn object_on<'a, W: Watch>(
     }
 }
 
-/// The text of an index, and a line feed.
-fn printed(index: &Index<AnyLanguage>, pretty: bool) -> Result<String, LinesError>
-    ensures ok { IfOk result (λ line_text. (commands : Commands)
+/// What is made of an index.
+fn made<M: Make>(maker: &M, index: &Index<AnyLanguage>, pretty: bool) -> Result<M::Made, LinesError>
+    ensures ok { IfOk result (λ made. (commands : Commands)
         → StandsFor language_name name_text index.now commands
-        → (text : Bytes)
-        × IsTextAfter (printed_text pretty) (plan_of language_name name_text index.now) commands
-        text
-        × (string_bytes line_text ≡ line text)) }
+        → M.makes maker.now made pretty (plan_of language_name name_text index.now) commands) }
     ensures err { IfErr result (λ e. e ≡ LinesError.Memory) }
 {
-    match line_of(index, pretty) {
-        Ok(line) => Ok(line),
+    match maker.make(index, pretty) {
+        Ok(made) => Ok(made),
         Err(_) => Err(LinesError::Memory),
     }
 }
 
-/// Adds the documents in the lines of a reader to a new index: its text then, and a line feed.
-fn fill_and_print<R: MarkedRead, W: Watch>(
+/// Adds the documents in the lines of a reader to a new index: what is made of it then.
+fn fill_and_make<R: MarkedRead, W: Watch, M: Make>(
     alloc: Global,
     options: &Options<'_>,
     reader: &mut R,
     last: &mut LastLine,
     watch: &mut W,
+    maker: &M,
     mut index: Index<AnyLanguage>,
-) -> Result<String, LinesError>
-    ensures ok { IfOk result (λ line. (language : AnyLanguage)
+) -> Result<M::Made, LinesError>
+    ensures ok { IfOk result (λ made. (language : AnyLanguage)
         → IsBuiltFor (job_of (options_told options.now) []) language
         (plan_of language_name name_text index)
         (IsDocument language_tokens leaves index) (StandsFor language_name name_text index)
         → (text : Bytes) × AreAll (R.remaining reader.old) text
-        × IsFilledLine (options_told options.now) language text (string_bytes line)) }
+        × IsFilledBy (options_told options.now) language text (M.makes maker.now made)) }
     ensures err { IfErr result (StopsFilling (options_told options.now) (R.remaining reader.old)
         last.new) }
     ensures device { IfErr result (IfDevice (R.has_failed reader.new ≡ true)) }
@@ -221,7 +218,7 @@ fn fill_and_print<R: MarkedRead, W: Watch>(
             if more {
                 continue;
             }
-            return printed(&index, options.pretty);
+            return made(maker, &index, options.pretty);
         };
         number += 1;
         let object = object_on(alloc, options, &value, number, watch)?;
@@ -230,24 +227,25 @@ fn fill_and_print<R: MarkedRead, W: Watch>(
             return Err(LinesError::Memory);
         };
         if !more {
-            return printed(&index, options.pretty);
+            return made(maker, &index, options.pretty);
         }
     }
     Err(LinesError::Memory)
 }
 
-/// The text of the index of the documents in the lines of a reader, and a line feed. It takes the
-/// memory of the index, of one line and of its value. The watch sees each document before it is
-/// added. After an error of a document its line is the one that was read last.
-pub fn lines_line<R: MarkedRead, W: Watch>(
+/// What is made of the index of the documents in the lines of a reader. It takes the memory of the
+/// index, of one line and of its value. The watch sees each document before it is added. After an
+/// error of a document its line is the one that was read last.
+pub fn lines_made<R: MarkedRead, W: Watch, M: Make>(
     alloc: Global,
     options: &Options<'_>,
     reader: &mut R,
     last: &mut LastLine,
     watch: &mut W,
-) -> Result<String, LinesError>
-    ensures ok { IfOk result (λ line. (text : Bytes) × AreAll (R.remaining reader.old) text
-        × IsLineOfLines (options_told options.now) text (string_bytes line)) }
+    maker: &M,
+) -> Result<M::Made, LinesError>
+    ensures ok { IfOk result (λ made. (text : Bytes) × AreAll (R.remaining reader.old) text
+        × IsMadeOfLines (options_told options.now) text (M.makes maker.now made)) }
     ensures err { IfErr result (FailsLines (options_told options.now) (R.remaining reader.old)
         last.new) }
     ensures device { IfErr result (IfDevice (R.has_failed reader.new ≡ true)) }
@@ -261,5 +259,22 @@ pub fn lines_line<R: MarkedRead, W: Watch>(
         .add_fields(&options.fields)?
         .build()?;
     an_index_makes_what_its_language_makes(&index);
-    fill_and_print(alloc, options, reader, last, watch, index)
+    fill_and_make(alloc, options, reader, last, watch, maker, index)
+}
+
+/// The text of the index of the documents in the lines of a reader, and a line feed.
+pub fn lines_line<R: MarkedRead, W: Watch>(
+    alloc: Global,
+    options: &Options<'_>,
+    reader: &mut R,
+    last: &mut LastLine,
+    watch: &mut W,
+) -> Result<String, LinesError>
+    ensures ok { IfOk result (λ line. (text : Bytes) × AreAll (R.remaining reader.old) text
+        × IsLineOfLines (options_told options.now) text (string_bytes line)) }
+    ensures err { IfErr result (FailsLines (options_told options.now) (R.remaining reader.old)
+        last.new) }
+    ensures device { IfErr result (IfDevice (R.has_failed reader.new ≡ true)) }
+{
+    lines_made(alloc, options, reader, last, watch, &Line)
 }

@@ -6,10 +6,12 @@ ghost use Rattle.serde_json.specs.View.{view};
 ghost use Rattle.elasticlunr_job_format.specs.JobTold.{document_told, job_told};
 ghost use Rattle.elasticlunr_job_format.specs.Objects.{AreDocumentsOf};
 ghost use Rattle.elasticlunr_job_format.specs.ObjectsTold.{object_told, options_told};
-ghost use Rattle.elasticlunr_documents.specs.Objects.{FailsObjects, IsLineOfObjects, job_of};
+ghost use Rattle.elasticlunr_documents.specs.Objects.{FailsObjects, IsLineOfObjects};
+ghost use Rattle.elasticlunr_documents.specs.Objects.{IsMadeOfObjects, job_of};
 ghost use Rattle.elasticlunr_documents.specs.ObjectsTold.{stop_at};
 
-use elasticlunr_job::answer::job_line;
+use elasticlunr_job::answer::job_made;
+use elasticlunr_job::make::{Line, Make};
 use elasticlunr_job::outcome::{JobError, Refusal};
 use elasticlunr_job_format::job::{Document, Job};
 pub use elasticlunr_job_format::objects::{AddError, Object, ObjectFault, Options, object_of};
@@ -113,8 +115,28 @@ fn job_of<'a>(
     })
 }
 
-/// The text of the index of these objects, and a line feed. Their texts are not copied, but into
-/// the index. All are read before the first is added.
+/// What is made of the index of these objects. Their texts are not copied, but into the index. All
+/// are read before the first is added.
+pub fn objects_made<M: Make>(
+    alloc: Global,
+    options: &Options<'_>,
+    items: &[Value],
+    maker: &M,
+) -> Result<M::Made, ObjectsError>
+    ensures ok { IfOk result (λ made.
+        IsMadeOfObjects (options_told options.now) (map view items.now) (M.makes maker.now made)) }
+    ensures err { IfErr result (FailsObjects (options_told options.now) (map view items.now)) }
+{
+    let objects = objects_of(alloc, options, items)?;
+    let job = job_of(alloc, options, &objects)?;
+    match job_made(alloc, &job, maker) {
+        Ok(made) => Ok(made),
+        Err(JobError::Refused(refusal)) => Err(ObjectsError::Refused(refusal)),
+        Err(JobError::Memory) => Err(ObjectsError::Memory),
+    }
+}
+
+/// The text of the index of these objects, and a line feed.
 pub fn objects_line(
     alloc: Global,
     options: &Options<'_>,
@@ -124,11 +146,5 @@ pub fn objects_line(
         IsLineOfObjects (options_told options.now) (map view items.now) (string_bytes text)) }
     ensures err { IfErr result (FailsObjects (options_told options.now) (map view items.now)) }
 {
-    let objects = objects_of(alloc, options, items)?;
-    let job = job_of(alloc, options, &objects)?;
-    match job_line(alloc, &job) {
-        Ok(text) => Ok(text),
-        Err(JobError::Refused(refusal)) => Err(ObjectsError::Refused(refusal)),
-        Err(JobError::Memory) => Err(ObjectsError::Memory),
-    }
+    objects_made(alloc, options, items, &Line)
 }

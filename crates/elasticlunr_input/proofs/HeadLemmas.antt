@@ -16,8 +16,8 @@ use Rattle.elasticlunr_job_format.specs.Objects.{AreDocumentsOf, HasProblem, IsD
 use Rattle.elasticlunr_job_format.specs.Reading.{reading}
 use Rattle.elasticlunr_job_format.specs.declared.objects.ObjectFault.{ObjectFault}
 use Rattle.std.specs.Fmt.{option_append}
-use Rattle.elasticlunr_job.specs.Answer.{FailsAt}
-use Rattle.elasticlunr_documents.specs.Lines.{FailsLines, HasLineProblem, IsFirstNoDocument, IsLineOfLines, StopsAtLine}
+use Rattle.elasticlunr_job.specs.Answer.{FailsAt, OfIndex}
+use Rattle.elasticlunr_documents.specs.Lines.{FailsLines, HasLineProblem, IsFirstNoDocument, IsMadeOfLines, StopsAtLine}
 use Rattle.elasticlunr_documents.specs.Objects.{job_of}
 use Rattle.elasticlunr_documents.specs.declared.objects.ObjectsError.TheVariants as error
 use Rattle.elasticlunr_job_format.specs.declared.outcome.Refusal.{Refusal}
@@ -36,7 +36,7 @@ use Rattle.elasticlunr_json_place.proofs.WholeLines.{place_below}
 use Rattle.elasticlunr_input.specs.Asked.{options_of}
 use Rattle.elasticlunr_input.specs.FaultPlaces.{object_fault_path}
 use Rattle.elasticlunr_diagnostics.specs.Forms.{asked_or_told, line_form, told_form}
-use Rattle.elasticlunr_input.specs.Lines.{IsLinesLineWith}
+use Rattle.elasticlunr_input.specs.Lines.{IsLinesMadeWith}
 use Rattle.elasticlunr_input.specs.Inputs.{AreRefusedLines, HasHead, IsBelow, IsHeadOf, IsPlaceInLine, IsRefusedFirst}
 use Rattle.elasticlunr_input.specs.Refused.{FailObjects, HasUnreadLine}
 use Rattle.elasticlunr_diagnostics.specs.Messages.{IsMemoryOr}
@@ -50,7 +50,7 @@ use Rattle.elasticlunr_diagnostics.specs.declared.message.Message.{Message}
 use Rattle.elasticlunr_diagnostics.specs.declared.message.InputError.{InputError}
 use Rattle.elasticlunr_diagnostics.specs.declared.message.InputError.TheVariants.{Refused, Memory, Device}
 use Rattle.elasticlunr_input.proofs.LinesBy.{FailLinesOf, IsPlaceInLines}
-use Rattle.elasticlunr_input.proofs.LineLemmas.{fail_with, fails_also, first_among, line_with, object_fault_among}
+use Rattle.elasticlunr_input.proofs.LineLemmas.{fail_with, fails_also, first_among, made_with, object_fault_among}
 use Rattle.elasticlunr_input.proofs.LinePlaces.{place_with, placed_for}
 
 -- lines after others, up to the end of a line
@@ -389,16 +389,16 @@ one_read line d rest are = at (is_filled line) refl are where
   at false is same = absurd (cc)
 
 -- what is said of a text whose bytes are known
-pub chained_line : (head : Bytes) (left : Option Bytes) (settings : Settings) (options : objects.Options)
-    (first : List Data) (last : LastLine) (line : Bytes) → map Some first
+pub chained_made : (head : Bytes) (left : Option Bytes) (settings : Settings) (options : objects.Options)
+    (first : List Data) (last : LastLine) (Is : OfIndex) → map Some first
     ≡ map reading (filter is_filled (last.text.items ∷ [])) → options ≡ options_of settings first
-    → (text : Bytes) × AreAll (option_append (Some head) left) text × IsLineOfLines options text line
+    → (text : Bytes) × AreAll (option_append (Some head) left) text × IsMadeOfLines options text Is
     → IfSome left (λ rest. IsHeadOf head rest last.text.items last.before
-    → IsLinesLineWith settings (head ++ rest) line)
-chained_line head None settings options first last line are told is = tt
-chained_line head (Some rest) settings options first last line are told is = λ is_head.
-    line_with settings (head ++ rest) options first (first_begins head rest last.text.items last.before is_head first
-    are) told line (subst (λ t. IsLineOfLines options t line) (sym is.1) is.2)
+    → IsLinesMadeWith settings (head ++ rest) Is)
+chained_made head None settings options first last Is are told is = tt
+chained_made head (Some rest) settings options first last Is are told is = λ is_head.
+    made_with settings (head ++ rest) options first (first_begins head rest last.text.items last.before is_head first
+    are) told Is (subst (λ t. IsMadeOfLines options t Is) (sym is.1) is.2)
 
 module _ (head : Bytes) (left : Option Bytes) (settings : Settings) (last : LastLine) (trouble : InputError) where
   -- the first line is not JSON

@@ -1,11 +1,12 @@
 -- On an input in the form that its head tells.
 use Rattle.std.proofs.Common.{◌≡◌, ◌++◌, Option, None, Some, IfSome, Result, Ok, Err, IfErr, inr, sym, subst, ◌∙◌}
 use Rattle.elasticlunr_text.specs.Text.{Bytes}
+use Rattle.elasticlunr_job.specs.Answer.{OfIndex}
 use Rattle.elasticlunr_documents.specs.declared.lines.LastLine.{LastLine}
 use Rattle.elasticlunr_diagnostics.specs.Forms.{asked_or_told}
-use Rattle.elasticlunr_input.specs.Indexes.{IsIndexAs, IsIndexOf, IsPlacedIfNotJson, IsRefusedInput}
+use Rattle.elasticlunr_input.specs.Indexes.{IsMadeAs, IsMadeFrom, IsPlacedIfNotJson, IsRefusedInput}
 use Rattle.elasticlunr_input.specs.Inputs.{HasHead, IsHeadOf}
-use Rattle.elasticlunr_input.specs.Lines.{IsLinesLineWith}
+use Rattle.elasticlunr_input.specs.Lines.{IsLinesMadeWith}
 use Rattle.elasticlunr_diagnostics.specs.Messages.{IfPlaced, IsMemoryOrDevice}
 use Rattle.elasticlunr_input.specs.RefusedPlaces.{IsInputPlace, IsLinesPlace}
 use Rattle.elasticlunr_input.specs.RefusedRead.{AreRefusedFrom, IsReadOf, IsRefusedFrom}
@@ -38,15 +39,15 @@ module _ (asked : Option Form) (settings : Settings) where
   not_read (Some text) (Refused message) other = absurd other
 
   -- lines
-  pub lines_ok : (left now : Option Bytes) (head line : Bytes) (last : LastLine) → HasHead left now head last
+  pub lines_ok : (left now : Option Bytes) (head : Bytes) (Is : OfIndex) (last : LastLine) → HasHead left now head last
       → asked_or_told asked head ≡ Lines
       → IfSome now (λ rest. IsHeadOf head rest last.text.items last.before
-      → IsLinesLineWith settings (head ++ rest) line) → IfSome left (λ text. IsIndexOf asked settings text line)
-  lines_ok None now head line last has told is = tt
-  lines_ok (Some text) None head line last has told is = absurd has
-  lines_ok (Some text) (Some rest) head line last has told is =
-      subst (λ t. IsIndexOf asked settings t line) (sym has.0)
-      (subst (λ f. IsIndexAs f settings (head ++ rest) line)
+      → IsLinesMadeWith settings (head ++ rest) Is) → IfSome left (λ text. IsMadeFrom asked settings text Is)
+  lines_ok None now head Is last has told is = tt
+  lines_ok (Some text) None head Is last has told is = absurd has
+  lines_ok (Some text) (Some rest) head Is last has told is =
+      subst (λ t. IsMadeFrom asked settings t Is) (sym has.0)
+      (subst (λ f. IsMadeAs f settings (head ++ rest) Is)
       (sym (told_head head rest last.text.items last.before has.1 asked ∙ told)) (is has.1))
 
   as_input : (text : Bytes) (e : InputError) → AreRefusedFrom settings text e → IsRefusedFrom Lines settings text e
@@ -74,16 +75,16 @@ module _ (asked : Option Form) (settings : Settings) where
       (as_input (head ++ rest) e (is has.1)))
 
   -- the other forms, whose text is all read
-  pub whole_ok : (form : Form) (left now : Option Bytes) (head all line : Bytes) (last : LastLine)
+  pub whole_ok : (form : Form) (left now : Option Bytes) (head all : Bytes) (Is : OfIndex) (last : LastLine)
       → HasHead left now head last → asked_or_told asked head ≡ form → IfSome now (λ rest. all ≡ head ++ rest)
-      → IsIndexAs form settings all line → IfSome left (λ text. IsIndexOf asked settings text line)
-  whole_ok form None now head all line last has told whole is = tt
-  whole_ok form (Some text) None head all line last has told whole is = absurd has
-  whole_ok form (Some text) (Some rest) head all line last has told whole is =
-      subst (λ t. IsIndexOf asked settings t line) (sym has.0)
-      (subst (λ f. IsIndexAs f settings (head ++ rest) line)
+      → IsMadeAs form settings all Is → IfSome left (λ text. IsMadeFrom asked settings text Is)
+  whole_ok form None now head all Is last has told whole is = tt
+  whole_ok form (Some text) None head all Is last has told whole is = absurd has
+  whole_ok form (Some text) (Some rest) head all Is last has told whole is =
+      subst (λ t. IsMadeFrom asked settings t Is) (sym has.0)
+      (subst (λ f. IsMadeAs f settings (head ++ rest) Is)
       (sym (told_head head rest last.text.items last.before has.1 asked ∙ told))
-      (subst (λ t. IsIndexAs form settings t line) whole is))
+      (subst (λ t. IsMadeAs form settings t Is) whole is))
 
   refused_whole : (form : Form) (text : Bytes) (e : InputError) → IsReadOf form text text
       → IsRefusedInput form settings text e → IfPlaced (IsInputPlace form settings text) e

@@ -4,13 +4,13 @@ use Rattle.std.proofs.Common.{refl, sym, ap, subst, ◌∙◌, arith}
 use Rattle.std.specs.List.{slice_get}
 use Rattle.serde_json.specs.Data.{Data}
 use Rattle.elasticlunr_text.specs.Text.{Bytes}
-use Rattle.elasticlunr_job.specs.Answer.{FailsAt}
+use Rattle.elasticlunr_job.specs.Answer.{FailsAt, OfIndex}
 use Rattle.elasticlunr_job_format.specs.Job.{Document}
 use Rattle.elasticlunr_job_format.specs.Lines.{readings, AreLineValues}
-use Rattle.elasticlunr_documents.specs.Lines.{IsLineOfLines}
+use Rattle.elasticlunr_documents.specs.Lines.{IsMadeOfLines}
 use Rattle.elasticlunr_job_format.specs.Objects as objects
 use Rattle.elasticlunr_job_format.specs.Objects.{AreDocumentsOf, HasProblem, IsDocumentOf, IsFirstProblem}
-use Rattle.elasticlunr_documents.specs.Objects.{IsLineOfObjects, job_of}
+use Rattle.elasticlunr_documents.specs.Objects.{IsMadeOfObjects, job_of}
 use Rattle.elasticlunr_documents.specs.declared.objects.ObjectsError.TheVariants as error
 use Rattle.elasticlunr_job_format.specs.declared.objects.ObjectFault.{ObjectFault}
 use Rattle.elasticlunr_job_format.specs.declared.outcome.Refusal.{Refusal}
@@ -18,7 +18,7 @@ use Rattle.elasticlunr_job_format.specs.declared.outcome.Refusal.TheVariants.{No
 use Rattle.elasticlunr_job_format.specs.declared.outcome.Refusal.TheVariants.{DuplicateField, TooManyValues}
 use Rattle.elasticlunr_input.specs.Asked.{options_of, reference_key_of}
 use Rattle.elasticlunr_input.specs.Fields.{fields_of_first, text_keys}
-use Rattle.elasticlunr_input.specs.Lines.{IsLinesLineWith}
+use Rattle.elasticlunr_input.specs.Lines.{IsLinesMadeWith}
 use Rattle.elasticlunr_input.specs.Refused.{FailLines, FailObjects, HasUnreadLine}
 use Rattle.elasticlunr_input.specs.Settled.{Settings}
 use Rattle.elasticlunr_input.proofs.LinesBy.{FailLinesOf}
@@ -77,8 +77,8 @@ module _ (settings : Settings) (text : Bytes) (options : objects.Options) (first
       { fields = unwrap_or settings.fields fs })
       (first_alike (reference_key_of settings) first items (begins ∙ ap (take 1) (sym are)))
 
-  pub line_with : (line : Bytes) → IsLineOfLines options text line → IsLinesLineWith settings text line
-  line_with line is = (is.0, is.1, subst (λ o. IsLineOfObjects o is.0 line) (first_options is.0 is.1) is.2)
+  pub made_with : (Is : OfIndex) → IsMadeOfLines options text Is → IsLinesMadeWith settings text Is
+  made_with Is is = (is.0, is.1, subst (λ o. IsMadeOfObjects o is.0 Is) (first_options is.0 is.1) is.2)
 
   -- the options for the first values are the same
   pub unread_with : HasUnreadLine (λ _. options) text → HasUnreadLine (options_of settings) text

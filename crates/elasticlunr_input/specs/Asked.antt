@@ -4,8 +4,9 @@ use Rattle.serde_json.specs.Data.{Data}
 use Rattle.serde_json.specs.Find.{as_array}
 use Rattle.serde_json.specs.View.{items_of}
 use Rattle.elasticlunr_text.specs.Text.{Bytes}
+use Rattle.elasticlunr_job.specs.Answer.{OfIndex}
 use Rattle.elasticlunr_job_format.specs.Objects.{Options}
-use Rattle.elasticlunr_documents.specs.Objects.{IsLineOfObjects}
+use Rattle.elasticlunr_documents.specs.Objects.{IsMadeOfObjects}
 use Rattle.elasticlunr_input.specs.Fields.{fields_of_first}
 use Rattle.elasticlunr_input.specs.Settled.{Settings}
 
@@ -28,11 +29,11 @@ options_of settings items = record {
   pretty = settings.pretty;
 }
 
--- the text of the index of these objects
-abbrev pub IsObjectsLineWith : Settings → List Data → Bytes → Type 0
-IsObjectsLineWith settings items text = IsLineOfObjects (options_of settings items) items text
+-- this holds of the index of these objects
+abbrev pub AreMadeWith : Settings → List Data → OfIndex → Type 0
+AreMadeWith settings items Is = IsMadeOfObjects (options_of settings items) items Is
 
--- the text of the index of the objects in an array
-abbrev pub IsArrayLineWith : Settings → Data → Bytes → Type 0
-IsArrayLineWith settings d text = (items : List Data) × (as_array d ≡ Some (items_of items))
-    × IsObjectsLineWith settings items text
+-- this holds of the index of the objects in an array
+abbrev pub IsArrayMadeWith : Settings → Data → OfIndex → Type 0
+IsArrayMadeWith settings d Is = (items : List Data) × (as_array d ≡ Some (items_of items))
+    × AreMadeWith settings items Is

@@ -2,28 +2,29 @@
 use Rattle.std.specs.Prelude.{◌≡◌, ◌⊎◌, Option, Some, None}
 use Rattle.serde_json.specs.Data.{Data}
 use Rattle.elasticlunr_text.specs.Text.{Bytes}
+use Rattle.elasticlunr_job.specs.Answer.{IsPrintedLine, OfIndex}
 use Rattle.elasticlunr_job_format.specs.Reading.{reading}
 use Rattle.elasticlunr_diagnostics.specs.Forms.{asked_or_told}
 use Rattle.elasticlunr_diagnostics.specs.Messages.{IsMemoryOr, IsMemoryOrPlaced}
 use Rattle.elasticlunr_diagnostics.specs.declared.form.Form.{Form}
 use Rattle.elasticlunr_diagnostics.specs.declared.form.Form.TheVariants.{Job, Objects, Lines}
 use Rattle.elasticlunr_diagnostics.specs.declared.message.InputError.{InputError}
-use Rattle.elasticlunr_input.specs.Asked.{IsArrayLineWith}
-use Rattle.elasticlunr_input.specs.Lines.{IsLinesLineWith}
+use Rattle.elasticlunr_input.specs.Asked.{IsArrayMadeWith}
+use Rattle.elasticlunr_input.specs.Lines.{IsLinesMadeWith}
 use Rattle.elasticlunr_input.specs.Refused.{FailsJob, FailsArray, FailLines}
-use Rattle.elasticlunr_input.specs.Settled.{Settings, IsLineWith}
+use Rattle.elasticlunr_input.specs.Settled.{Settings, IsMadeWith}
 
 -- a text of this form has to be JSON, and is not
 abbrev pub IsNotJson : Form → Bytes → Type 0
 IsNotJson Lines text = ⊥
 IsNotJson _ text = reading text ≡ None
 
--- the text of the index of an input of this form, and a line feed
-abbrev pub IsIndexAs : Form → Settings → Bytes → Bytes → Type 0
-IsIndexAs Job settings text line = (d : Data) × (reading text ≡ Some d) × IsLineWith settings d line
-IsIndexAs Objects settings text line = (d : Data) × (reading text ≡ Some d)
-    × IsArrayLineWith settings d line
-IsIndexAs Lines settings text line = IsLinesLineWith settings text line
+-- this holds of the index of an input of this form
+abbrev pub IsMadeAs : Form → Settings → Bytes → OfIndex → Type 0
+IsMadeAs Job settings text Is = (d : Data) × (reading text ≡ Some d) × IsMadeWith settings d Is
+IsMadeAs Objects settings text Is = (d : Data) × (reading text ≡ Some d)
+    × IsArrayMadeWith settings d Is
+IsMadeAs Lines settings text Is = IsLinesMadeWith settings text Is
 
 -- an input of this form fails a check
 abbrev pub FailsAs : Form → Settings → Bytes → Type 0
@@ -31,9 +32,13 @@ FailsAs Job settings text = (d : Data) × (reading text ≡ Some d) × FailsJob 
 FailsAs Objects settings text = (d : Data) × (reading text ≡ Some d) × FailsArray settings d
 FailsAs Lines settings text = FailLines settings text
 
+-- this holds of the index of an input in the form that it has
+abbrev pub IsMadeFrom : Option Form → Settings → Bytes → OfIndex → Type 0
+IsMadeFrom asked settings text Is = IsMadeAs (asked_or_told asked text) settings text Is
+
 -- the text of the index of an input in the form that it has, and a line feed
 abbrev pub IsIndexOf : Option Form → Settings → Bytes → Bytes → Type 0
-IsIndexOf asked settings text line = IsIndexAs (asked_or_told asked text) settings text line
+IsIndexOf asked settings text line = IsMadeFrom asked settings text (IsPrintedLine line)
 
 -- an input of this form is not JSON, or fails a check
 abbrev pub FailsInput : Form → Settings → Bytes → Type 0

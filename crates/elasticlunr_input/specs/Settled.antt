@@ -4,7 +4,7 @@ use Rattle.std.specs.Prelude.{if◌then◌else◌}
 use Rattle.serde_json.specs.Data.{Data}
 use Rattle.elasticlunr_text.specs.Text.{Bytes, bytes_of}
 use Rattle.elasticlunr_job_format.specs.Job.{IsNoJob, Job, IsJob}
-use Rattle.elasticlunr_job.specs.Answer.{IsLineOf, FailsAt}
+use Rattle.elasticlunr_job.specs.Answer.{FailsAt, IsMadeOf, OfIndex}
 use Rattle.elasticlunr_job_format.specs.declared.outcome.Refusal.{Refusal}
 use Rattle.elasticlunr_job_format.specs.declared.outcome.Refusal.TheVariants.{NotJson, NotAJob}
 use Rattle.elasticlunr_input.specs.declared.settings.Settings as declared
@@ -37,9 +37,9 @@ settled settings job = record job {
   pretty = if settings.pretty then true else job.pretty;
 }
 
--- the text of the index of the job that a value is, with these settings, and a line feed
-abbrev pub IsLineWith : Settings → Data → Bytes → Type 0
-IsLineWith settings d text = (job : Job) × IsJob d job × IsLineOf (settled settings job) text
+-- this holds of the index of the job that a value is, with these settings
+abbrev pub IsMadeWith : Settings → Data → OfIndex → Type 0
+IsMadeWith settings d Is = (job : Job) × IsJob d job × IsMadeOf (settled settings job) Is
 
 -- the check that a value fails first: that it is a job, or one of the job with these settings
 abbrev pub IsRefusedWith : Settings → Data → Refusal → Type 0

@@ -1,7 +1,7 @@
 //! The index of documents that are objects in an array, and what is wrong with documents.
-ghost use Rattle.std.specs.Prelude.{◌≡◌, ◌-◌, ◌∷◌, None, map, take, length, string_bytes};
+ghost use Rattle.std.specs.Prelude.{◌≡◌, ◌-◌, ◌∷◌, None, map, take, length};
 ghost use Rattle.std.specs.Prelude.{if◌then◌else◌, IfOk, IfErr, IfSome};
-ghost use Rattle.elasticlunr_documents.specs.Objects.{IsLineOfObjects};
+ghost use Rattle.elasticlunr_documents.specs.Objects.{IsMadeOfObjects};
 ghost use Rattle.elasticlunr_job_format.specs.ObjectsTold.{options_told, texts_told};
 ghost use Rattle.elasticlunr_input.specs.FaultPlaces.{is_of_member, object_fault_key};
 ghost use Rattle.elasticlunr_input.specs.FaultPlaces.{object_fault_path, IsPlaceInObjects};
@@ -17,29 +17,31 @@ use crate::tokens::Tokens;
 use elasticlunr_diagnostics::language::unknown_language;
 use elasticlunr_diagnostics::message::{InputError, Message, kind_words, unplaced};
 use elasticlunr_documents::objects::{
-    AddError, ObjectFault, ObjectsError, Options, object_of, objects_line,
+    AddError, ObjectFault, ObjectsError, Options, object_of, objects_made,
 };
+use elasticlunr_job::make::Make;
 use elasticlunr_job::outcome::Refusal;
 use elasticlunr_json_place::member::{Step, place_of};
 use elasticlunr_json_place::place::Place;
 use serde_json::Value;
 use std::alloc::{AllocError, Global};
 
-/// The text of the index of objects, and a line feed.
-pub(crate) fn objects_text(
+/// What is made of the index of objects.
+pub(crate) fn objects_made_of<M: Make>(
     alloc: Global,
     text: &[u8],
     items: &[Value],
     options: &Options<'_>,
-) -> Result<String, InputError>
-    ensures ok { IfOk result (λ line.
-        IsLineOfObjects (options_told options.now) (map view items.now) (string_bytes line)) }
+    maker: &M,
+) -> Result<M::Made, InputError>
+    ensures ok { IfOk result (λ made.
+        IsMadeOfObjects (options_told options.now) (map view items.now) (M.makes maker.now made)) }
     ensures err { IfErr result (IsRefusedObjects (options_told options.now) (map view items.now)) }
     ensures place { IfErr result (IfPlaced (IsPlaceInObjects text.now
         (options_told options.now) (map view items.now))) }
 {
-    match objects_line(alloc, options, items) {
-        Ok(line) => Ok(line),
+    match objects_made(alloc, options, items, maker) {
+        Ok(made) => Ok(made),
         Err(ObjectsError::Memory) => Err(InputError::Memory),
         Err(ObjectsError::Refused(refusal)) => {
             Err(InputError::Refused(unplaced(settings_fault(alloc, options, refusal)?)))

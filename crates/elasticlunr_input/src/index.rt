@@ -2,14 +2,14 @@
 ghost use Rattle.std.specs.Prelude.{◌≡◌, ◌++◌, true, map, string_bytes, unwrap_or, IfOk, IfErr};
 ghost use Rattle.std.specs.Prelude.{IfSome};
 ghost use Rattle.elasticlunr_job_format.specs.ObjectsTold.{options_told, texts_told};
-ghost use Rattle.elasticlunr_input.specs.Asked.{IsObjectsLineWith, options_of};
+ghost use Rattle.elasticlunr_input.specs.Asked.{AreMadeWith, options_of};
 ghost use Rattle.elasticlunr_input.specs.FaultPlaces.{IsPlaceInObjects};
 ghost use Rattle.elasticlunr_input.specs.Fields.{fields_of_first};
 ghost use Rattle.elasticlunr_diagnostics.specs.Forms.{asked_or_told};
-ghost use Rattle.elasticlunr_input.specs.Indexes.{IsIndexAs, IsIndexOf, IsPlacedIfNotJson};
+ghost use Rattle.elasticlunr_input.specs.Indexes.{IsIndexOf, IsMadeAs, IsMadeFrom, IsPlacedIfNotJson};
 ghost use Rattle.elasticlunr_input.specs.Indexes.{IsRefusedInput};
 ghost use Rattle.elasticlunr_input.specs.Inputs.{IsHeadOf};
-ghost use Rattle.elasticlunr_input.specs.Lines.{IsLinesLineWith};
+ghost use Rattle.elasticlunr_input.specs.Lines.{IsLinesMadeWith};
 ghost use Rattle.elasticlunr_input.specs.Mark.{without_mark};
 ghost use Rattle.elasticlunr_input.specs.Refused.{IsRefusedObjects};
 ghost use Rattle.elasticlunr_diagnostics.specs.Messages.{IfPlaced};
@@ -21,9 +21,9 @@ ghost use Rattle.elasticlunr_text.specs.Text.{Bytes};
 ghost use Rattle.elasticlunr_diagnostics.specs.declared.form.Form.TheVariants as form;
 ghost use Rattle.serde_json.specs.View.{view};
 
-use crate::documents::{first_fields, note_objects, objects_text};
-use crate::jobs::{job_refused, job_text, note_job};
-use crate::lines::{check_first, first_value, lines_text, read_head};
+use crate::documents::{first_fields, note_objects, objects_made_of};
+use crate::jobs::{job_made_of, job_refused, note_job};
+use crate::lines::{check_first, first_value, lines_made_of, read_head};
 use crate::mark::{read_start, without_mark};
 use crate::notes::Notes;
 use crate::settings::{Settings, text_or, texts_of};
@@ -32,15 +32,37 @@ use elasticlunr_diagnostics::message::{InputError, wants};
 use elasticlunr_documents::lines::LastLine;
 pub use elasticlunr_documents::marked::{Marked, MarkedRead};
 use elasticlunr_documents::objects::Options;
+pub use elasticlunr_job::make::{Line, Make};
 use elasticlunr_job::outcome::JobError;
 use serde_json::Value;
 use std::alloc::{AllocError, Global};
 use std::io::Read;
 
-/// The text of the index of an input, and a line feed; what is suspicious goes to the notes, whose
-/// warnings are of no use after an error. A byte order mark before the input is passed over, and no
-/// place counts it. Lines are read one by one, and the value of a line is let go before the next
-/// one is read; of an input in another form all is read, and held.
+/// What is made of the index of an input; what is suspicious goes to the notes, whose warnings are
+/// of no use after an error. A byte order mark before the input is passed over, and no place counts
+/// it. Lines are read one by one, and the value of a line is let go before the next one is read; of
+/// an input in another form all is read, and held.
+pub fn made_from<R: MarkedRead, M: Make>(
+    alloc: Global,
+    reader: &mut R,
+    asked: Option<Form>,
+    settings: &Settings,
+    notes: &mut Notes,
+    maker: &M,
+) -> Result<M::Made, InputError>
+    ensures ok { IfOk result (λ made. IfSome (R.remaining reader.old) (λ text.
+        IsMadeFrom asked (settings_told settings.now) (without_mark text) (M.makes maker.now made))) }
+    ensures err { IfErr result (λ e. IfSome (R.remaining reader.old) (λ text.
+        IsRefusedFrom (asked_or_told asked (without_mark text)) (settings_told settings.now) (without_mark text) e)) }
+    ensures device { IfErr result (IfDevice (R.has_failed reader.new ≡ true)) }
+{
+    match made_of_input(alloc, reader, asked, settings, notes, maker) {
+        Ok(made) => Ok(made),
+        Err(trouble) => Err(blamed(reader, trouble)),
+    }
+}
+
+/// The text of the index of an input, and a line feed; for the rest as [`made_from`].
 pub fn index_from<R: MarkedRead>(
     alloc: Global,
     reader: &mut R,
@@ -54,10 +76,7 @@ pub fn index_from<R: MarkedRead>(
         IsRefusedFrom (asked_or_told asked (without_mark text)) (settings_told settings.now) (without_mark text) e)) }
     ensures device { IfErr result (IfDevice (R.has_failed reader.new ≡ true)) }
 {
-    match index_of_input(alloc, reader, asked, settings, notes) {
-        Ok(line) => Ok(line),
-        Err(trouble) => Err(blamed(reader, trouble)),
-    }
+    made_from(alloc, reader, asked, settings, notes, &Line)
 }
 
 /// The same trouble, but that the reader is to blame only where it has failed: what else keeps it
@@ -80,73 +99,76 @@ fn blamed<R: MarkedRead>(reader: &R, trouble: InputError) -> InputError
     }
 }
 
-/// The text of the index of an input, as far as it is read.
-fn index_of_input<R: MarkedRead>(
+/// What is made of the index of an input, as far as it is read.
+fn made_of_input<R: MarkedRead, M: Make>(
     alloc: Global,
     reader: &mut R,
     asked: Option<Form>,
     settings: &Settings,
     notes: &mut Notes,
-) -> Result<String, InputError>
-    ensures ok { IfOk result (λ line. IfSome (R.remaining reader.old) (λ text.
-        IsIndexOf asked (settings_told settings.now) (without_mark text) (string_bytes line))) }
+    maker: &M,
+) -> Result<M::Made, InputError>
+    ensures ok { IfOk result (λ made. IfSome (R.remaining reader.old) (λ text.
+        IsMadeFrom asked (settings_told settings.now) (without_mark text) (M.makes maker.now made))) }
     ensures err { IfErr result (λ e. IfSome (R.remaining reader.old) (λ text.
         IsRefusedFrom (asked_or_told asked (without_mark text)) (settings_told settings.now) (without_mark text) e)) }
 {
     let start = read_start(alloc, reader)?;
     let mut all = without_mark(&start).chain(reader);
-    index_unmarked(alloc, &mut all, asked, settings, notes)
+    made_unmarked(alloc, &mut all, asked, settings, notes, maker)
 }
 
 /// The same of an input that has no mark before it.
-fn index_unmarked<R: MarkedRead>(
+fn made_unmarked<R: MarkedRead, M: Make>(
     alloc: Global,
     reader: &mut R,
     asked: Option<Form>,
     settings: &Settings,
     notes: &mut Notes,
-) -> Result<String, InputError>
-    ensures ok { IfOk result (λ line. IfSome (R.remaining reader.old) (λ text.
-        IsIndexOf asked (settings_told settings.now) text (string_bytes line))) }
+    maker: &M,
+) -> Result<M::Made, InputError>
+    ensures ok { IfOk result (λ made. IfSome (R.remaining reader.old) (λ text.
+        IsMadeFrom asked (settings_told settings.now) text (M.makes maker.now made))) }
     ensures err { IfErr result (λ e. IfSome (R.remaining reader.old) (λ text.
         IsRefusedFrom (asked_or_told asked text) (settings_told settings.now) text e)) }
 {
     let mut last = LastLine::new(alloc);
     let mut text = read_head(alloc, reader, &mut last)?;
     match asked_or_told(alloc, &text, asked)? {
-        Form::Lines => text_of_lines(alloc, &text, &mut last, reader, settings, notes),
+        Form::Lines => { made_of_lines(alloc, &text, &mut last, reader, settings, notes, maker) },
         Form::Job => {
             drop(last);
             reader.read_to_end(&mut text)?;
-            text_of_job(alloc, &text, settings, notes)
+            made_of_job(alloc, &text, settings, notes, maker)
         }
         Form::Objects => {
             drop(last);
             reader.read_to_end(&mut text)?;
-            text_of_array(alloc, &text, settings, notes)
+            made_of_array(alloc, &text, settings, notes, maker)
         }
     }
 }
 
-/// The text of the index of a job.
-fn text_of_job(
+/// What is made of the index of a job.
+fn made_of_job<M: Make>(
     alloc: Global,
     text: &[u8],
     settings: &Settings,
     notes: &mut Notes,
-) -> Result<String, InputError>
-    ensures ok { IfOk result (λ line.
-        IsIndexAs form.Job (settings_told settings.now) text.now (string_bytes line)) }
+    maker: &M,
+) -> Result<M::Made, InputError>
+    ensures ok { IfOk result (λ made.
+        IsMadeAs form.Job (settings_told settings.now) text.now (M.makes maker.now made)) }
     ensures err { IfErr result (IsRefusedInput form.Job (settings_told settings.now) text.now) }
     ensures place { IfErr result (IfPlaced (IsInputPlace form.Job (settings_told settings.now)
         text.now)) }
     ensures placed { IfErr result (IsPlacedIfNotJson form.Job text.now) }
 {
     let value = read_value(alloc, text)?;
-    match job_text(alloc, &value, settings) {
-        Ok(line) => {
+    match job_made_of(alloc, &value, settings, maker) {
+        Ok(made) => {
             note_job(alloc, &value, settings, notes)?;
-            Ok(line)
+            Ok(made)
         }
         Err(JobError::Memory) => Err(InputError::Memory),
         Err(JobError::Refused(refusal)) => {
@@ -155,15 +177,16 @@ fn text_of_job(
     }
 }
 
-/// The text of the index of an array of objects.
-fn text_of_array(
+/// What is made of the index of an array of objects.
+fn made_of_array<M: Make>(
     alloc: Global,
     text: &[u8],
     settings: &Settings,
     notes: &mut Notes,
-) -> Result<String, InputError>
-    ensures ok { IfOk result (λ line.
-        IsIndexAs form.Objects (settings_told settings.now) text.now (string_bytes line)) }
+    maker: &M,
+) -> Result<M::Made, InputError>
+    ensures ok { IfOk result (λ made.
+        IsMadeAs form.Objects (settings_told settings.now) text.now (M.makes maker.now made)) }
     ensures err { IfErr result (IsRefusedInput form.Objects (settings_told settings.now) text.now) }
     ensures place { IfErr result (IfPlaced (IsInputPlace form.Objects (settings_told settings.now)
         text.now)) }
@@ -174,22 +197,23 @@ fn text_of_array(
         let message = wants(alloc, text, &[], "the input", &value, "an array of objects")?;
         return Err(InputError::Refused(message));
     };
-    text_of_objects(alloc, text, items, settings, notes)
+    made_of_objects(alloc, text, items, settings, notes, maker)
 }
 
-/// The text of the index of a line for each object, the first of which was read last and ends the
-/// head.
-fn text_of_lines<R: MarkedRead>(
+/// What is made of the index of a line for each object, the first of which was read last and ends
+/// the head.
+fn made_of_lines<R: MarkedRead, M: Make>(
     alloc: Global,
     head: &[u8],
     last: &mut LastLine,
     reader: &mut R,
     settings: &Settings,
     notes: &mut Notes,
-) -> Result<String, InputError>
-    ensures ok { IfOk result (λ line. IfSome (R.remaining reader.old) (λ rest.
+    maker: &M,
+) -> Result<M::Made, InputError>
+    ensures ok { IfOk result (λ made. IfSome (R.remaining reader.old) (λ rest.
         IsHeadOf head.now rest last.old.text.items last.old.before
-        → IsLinesLineWith (settings_told settings.now) (head.now ++ rest) (string_bytes line))) }
+        → IsLinesMadeWith (settings_told settings.now) (head.now ++ rest) (M.makes maker.now made))) }
     ensures err { IfErr result (λ e. IfSome (R.remaining reader.old) (λ rest.
         IsHeadOf head.now rest last.old.text.items last.old.before
         → AreRefusedFrom (settings_told settings.now) (head.now ++ rest) e)) }
@@ -198,29 +222,30 @@ fn text_of_lines<R: MarkedRead>(
     let options = options_of(alloc, settings, &first)?;
     check_first(alloc, &options, &first, last)?;
     notes.begin(&options, settings)?;
-    lines_text(alloc, &options, head, last, reader, notes)
+    lines_made_of(alloc, &options, head, last, reader, notes, maker)
 }
 
-/// The text of the index of objects.
-fn text_of_objects(
+/// What is made of the index of objects.
+fn made_of_objects<M: Make>(
     alloc: Global,
     text: &[u8],
     items: &[Value],
     settings: &Settings,
     notes: &mut Notes,
-) -> Result<String, InputError>
-    ensures ok { IfOk result (λ line.
-        IsObjectsLineWith (settings_told settings.now) (map view items.now) (string_bytes line)) }
+    maker: &M,
+) -> Result<M::Made, InputError>
+    ensures ok { IfOk result (λ made.
+        AreMadeWith (settings_told settings.now) (map view items.now) (M.makes maker.now made)) }
     ensures err { IfErr result (IsRefusedObjects
         (options_of (settings_told settings.now) (map view items.now)) (map view items.now)) }
     ensures place { IfErr result (IfPlaced (IsPlaceInObjects text.now
         (options_of (settings_told settings.now) (map view items.now)) (map view items.now))) }
 {
     let options = options_of(alloc, settings, items)?;
-    let line = objects_text(alloc, text, items, &options)?;
+    let made = objects_made_of(alloc, text, items, &options, maker)?;
     notes.begin(&options, settings)?;
     note_objects(alloc, &options, items, notes)?;
-    Ok(line)
+    Ok(made)
 }
 
 /// How objects are read: the fields of the first one, where the settings name none.

@@ -1,5 +1,5 @@
 //! The index of a job.
-ghost use Rattle.std.specs.Prelude.{◌≡◌, true, string_bytes, IfOk, IfErr, IfSome, IfNone};
+ghost use Rattle.std.specs.Prelude.{◌≡◌, true, IfOk, IfErr, IfSome, IfNone};
 ghost use Rattle.elasticlunr.specs.Fields.{all_differ, borrowed};
 ghost use Rattle.elasticlunr_job_format.specs.JobTold.{job_told};
 ghost use Rattle.elasticlunr_job_format.specs.JobError.{StopsWithReason};
@@ -8,7 +8,7 @@ ghost use Rattle.elasticlunr_input.specs.FaultPlaces.{IsPlaceInJob, IsPlaceOfFie
 ghost use Rattle.elasticlunr_input.specs.FaultPlaces.{IsPlaceOfLanguage, IsPlaceOfRefusal};
 ghost use Rattle.elasticlunr_input.specs.FaultPlaces.{IsPlaceOfTooLong};
 ghost use Rattle.elasticlunr_input.specs.FirstFaults.{AllFit, IsFirstTooLong, IsFirstTwice};
-ghost use Rattle.elasticlunr_input.specs.Settled.{IsLineWith, IsRefusedWith, settings_told};
+ghost use Rattle.elasticlunr_input.specs.Settled.{IsMadeWith, IsRefusedWith, settings_told};
 ghost use Rattle.serde_json.specs.View.{view};
 
 use crate::notes::Notes;
@@ -17,27 +17,29 @@ use crate::tokens::Tokens;
 use elasticlunr_diagnostics::job_fault::fault_message;
 use elasticlunr_diagnostics::language::unknown_language;
 use elasticlunr_diagnostics::message::{InputError, Message, counted, message_at, unplaced};
-use elasticlunr_job::answer::job_line;
+use elasticlunr_job::answer::job_made;
 use elasticlunr_job::fault::first_fault;
 use elasticlunr_job::job::{Document, Job, parse};
+use elasticlunr_job::make::Make;
 use elasticlunr_job::outcome::{JobError, Refusal};
 use elasticlunr_json_place::member::Step;
 use serde_json::Value;
 use std::alloc::{AllocError, Global};
 
-/// The text of the index that a job asks for, with the settings instead of its members.
-pub(crate) fn job_text<'a>(
+/// What is made of the index that a job asks for, with the settings instead of its members.
+pub(crate) fn job_made_of<'a, M: Make>(
     alloc: Global,
     value: &'a Value,
     settings: &'a Settings,
-) -> Result<String, JobError>
-    ensures ok { IfOk result (λ line.
-        IsLineWith (settings_told settings.now) (view value.now) (string_bytes line)) }
+    maker: &M,
+) -> Result<M::Made, JobError>
+    ensures ok { IfOk result (λ made.
+        IsMadeWith (settings_told settings.now) (view value.now) (M.makes maker.now made)) }
     ensures err { IfErr result (StopsWithReason
         (IsRefusedWith (settings_told settings.now) (view value.now))) }
 {
     let job = settle(alloc, parse(alloc, value)?, settings)?;
-    job_line(alloc, &job)
+    job_made(alloc, &job, maker)
 }
 
 /// The message of a refusal of a job, with the settings instead of its members.

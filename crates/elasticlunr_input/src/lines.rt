@@ -1,7 +1,7 @@
 //! Documents that are lines of JSON, read one by one.
 ghost use Rattle.std.specs.Fmt.{option_append};
 ghost use Rattle.std.specs.Prelude.{◌≡◌, ◌∷◌, [], List, map, filter, true, Option, Some, None};
-ghost use Rattle.std.specs.Prelude.{string_bytes, IfOk, IfErr, IfSome, IfNone, OnOk};
+ghost use Rattle.std.specs.Prelude.{IfOk, IfErr, IfSome, IfNone, OnOk};
 ghost use Rattle.elasticlunr_text.specs.Text.{Bytes};
 ghost use Rattle.elasticlunr_job_format.specs.Job.{Document};
 ghost use Rattle.elasticlunr_job_format.specs.LineRead.{AreAll};
@@ -9,7 +9,7 @@ ghost use Rattle.elasticlunr_job_format.specs.Lines.{is_filled};
 ghost use Rattle.elasticlunr_job_format.specs.Objects.{HasProblem, IsDocumentOf};
 ghost use Rattle.elasticlunr_job_format.specs.ObjectsTold.{options_told};
 ghost use Rattle.elasticlunr_job_format.specs.Reading.{reading};
-ghost use Rattle.elasticlunr_documents.specs.Lines.{FailsLines, IsLineOfLines};
+ghost use Rattle.elasticlunr_documents.specs.Lines.{FailsLines, IsMadeOfLines};
 ghost use Rattle.elasticlunr_json_place.specs.Members.{IsPlaceOf};
 ghost use Rattle.elasticlunr_json_place.specs.Places.{IsPlaceIn};
 ghost use Rattle.elasticlunr_input.specs.FaultPlaces.{object_fault_path};
@@ -24,9 +24,10 @@ use crate::documents::{object_fault_key, object_fault_text, path_of, settings_fa
 use crate::notes::Notes;
 use crate::tokens::Tokens;
 use elasticlunr_diagnostics::message::{InputError, Message, lowered, not_json, unplaced};
-use elasticlunr_documents::lines::{LastLine, LinesError, Watch, is_blank, lines_line, read_line};
+use elasticlunr_documents::lines::{LastLine, LinesError, Watch, is_blank, lines_made, read_line};
 use elasticlunr_documents::marked::MarkedRead;
 use elasticlunr_documents::objects::{AddError, Object, ObjectFault, Options, object_of};
+use elasticlunr_job::make::Make;
 use elasticlunr_json_place::member::{Step, place_of};
 use elasticlunr_json_place::place::Place;
 use serde_json::{Error, Value};
@@ -228,48 +229,50 @@ fn input_error_of(
     }
 }
 
-/// The text of the index of the documents in lines, of which a head was read before, and a line
-/// feed; what is suspicious goes to the notes.
-pub(crate) fn lines_text<R: MarkedRead>(
+/// What is made of the index of the documents in lines, of which a head was read before; what is
+/// suspicious goes to the notes.
+pub(crate) fn lines_made_of<R: MarkedRead, M: Make>(
     alloc: Global,
     options: &Options<'_>,
     head: &[u8],
     last: &mut LastLine,
     reader: &mut R,
     notes: &mut Notes,
-) -> Result<String, InputError>
-    ensures ok { IfOk result (λ line. (text : Bytes)
+    maker: &M,
+) -> Result<M::Made, InputError>
+    ensures ok { IfOk result (λ made. (text : Bytes)
         × AreAll (option_append (Some head.now) (R.remaining reader.old)) text
-        × IsLineOfLines (options_told options.now) text (string_bytes line)) }
+        × IsMadeOfLines (options_told options.now) text (M.makes maker.now made)) }
     ensures err { IfErr result (AreRefusedLines (options_told options.now)
         (option_append (Some head.now) (R.remaining reader.old))) }
 {
-    match watched_line(alloc, options, head, last, reader, notes) {
-        Ok(line) => {
+    match watched(alloc, options, head, last, reader, notes, maker) {
+        Ok(made) => {
             notes.end(&options.fields)?;
-            Ok(line)
+            Ok(made)
         }
         Err(e) => Err(input_error_of(alloc, options, last, e)?),
     }
 }
 
-/// The same text, while what is suspicious in each document goes to the notes.
-fn watched_line<R: MarkedRead>(
+/// The same, while what is suspicious in each document goes to the notes.
+fn watched<R: MarkedRead, M: Make>(
     alloc: Global,
     options: &Options<'_>,
     head: &[u8],
     last: &mut LastLine,
     reader: &mut R,
     notes: &mut Notes,
-) -> Result<String, LinesError>
-    ensures ok { IfOk result (λ line. (text : Bytes)
+    maker: &M,
+) -> Result<M::Made, LinesError>
+    ensures ok { IfOk result (λ made. (text : Bytes)
         × AreAll (option_append (Some head.now) (R.remaining reader.old)) text
-        × IsLineOfLines (options_told options.now) text (string_bytes line)) }
+        × IsMadeOfLines (options_told options.now) text (M.makes maker.now made)) }
     ensures err { IfErr result (FailsLines (options_told options.now)
         (option_append (Some head.now) (R.remaining reader.old)) last.new) }
 {
     let tokens = Tokens::of_language(alloc, options.language)?;
     let mut watcher = Watcher { tokens, notes };
     let mut all = head.chain(reader);
-    lines_line(alloc, options, &mut all, last, &mut watcher)
+    lines_made(alloc, options, &mut all, last, &mut watcher, maker)
 }

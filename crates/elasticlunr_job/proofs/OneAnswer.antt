@@ -6,7 +6,7 @@ use Rattle.elasticlunr_lang.specs.Known.{language_name}
 use Rattle.elasticlunr_lang.specs.declared.any.AnyLanguage.{AnyLanguage}
 use Rattle.elasticlunr_job_format.specs.Job.{Document, Job, IsJob, IsNoJob}
 use Rattle.elasticlunr_job_format.specs.Reading.{reading}
-use Rattle.elasticlunr_job.specs.Answer.{HasJob, HasTooMany, FailsAt, Passes, IsIndexLine, IsRefused, IsAnswer, line}
+use Rattle.elasticlunr_job.specs.Answer.{HasJob, HasTooMany, FailsAt, Passes, IsMadeIn, IsPrintedLine, IsRefused, IsAnswer, line}
 use Rattle.elasticlunr_job.specs.Answer.{refusal_text}
 use Rattle.elasticlunr_job.specs.declared.outcome.Outcome.{Outcome}
 use Rattle.elasticlunr_job.specs.declared.outcome.Outcome.TheVariants.{Printed, Refused}
@@ -110,7 +110,7 @@ same_printed values documents bytes t u a b =
     let named : language_name a.2.0 ≡ b.0.language = subst (λ j. language_name a.2.0 ≡ j.language) job a.2.1.named in
     let language : a.2.0 ≡ b.2.0 = same_name a.2.0 b.2.0 (named ∙ sym b.2.1.named) in
     one_line values documents b.0 b.2.0 t u
-    (subst (λ l. IsIndexLine b.0 l t) language (subst (λ j. IsIndexLine j a.2.0 t) job a.2.2)) b.2.2
+    (subst (λ l. IsMadeIn b.0 l (IsPrintedLine t)) language (subst (λ j. IsMadeIn j a.2.0 (IsPrintedLine t)) job a.2.2)) b.2.2
 
 pub one_text : OneValue → OneDocument → (bytes : List ℕ) (o p : Outcome) (t u : List ℕ) → IsAnswer bytes o t
     → IsAnswer bytes p u → t ≡ u

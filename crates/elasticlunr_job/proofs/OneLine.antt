@@ -11,7 +11,7 @@ use Rattle.elasticlunr.specs.Printed.{IsValue}
 use Rattle.elasticlunr.specs.Reading.{LanguageReads}
 use Rattle.elasticlunr.specs.Standing.{Plan}
 use Rattle.elasticlunr.proofs.Calling.{one_zip}
-use Rattle.elasticlunr_job.specs.Answer.{IsIndexLine, line, printed_text}
+use Rattle.elasticlunr_job.specs.Answer.{IsMadeIn, IsPrintedLine, line, printed_text}
 use Rattle.elasticlunr_job.specs.Commands.{IsAdded, in_order, job_plan, language_tokens}
 use Rattle.elasticlunr_job_format.specs.Job.{Job}
 
@@ -25,8 +25,8 @@ OneDocument = (fields : List Bytes) (reference_field : Bytes) (language : AnyLan
     → HasOneDocument (IsDocument fields reference_field
     (LanguageReads (language_tokens language) (language_leaves language)))
 
-pub one_line : OneValue → OneDocument → (job : Job) (language : AnyLanguage) (t u : Bytes) → IsIndexLine job language t
-    → IsIndexLine job language u → t ≡ u
+pub one_line : OneValue → OneDocument → (job : Job) (language : AnyLanguage) (t u : Bytes) → IsMadeIn job language (IsPrintedLine t)
+    → IsMadeIn job language (IsPrintedLine u) → t ≡ u
 one_line values documents job language t u a b =
     let one = documents job.fields job.reference_field language in
     let same : a.are_commands.documents ≡ b.are_commands.documents =
@@ -34,6 +34,6 @@ one_line values documents job language t u a b =
     b.are_commands.documents a.are_commands.each b.are_commands.each in
     let commands : a.commands ≡ b.commands = a.are_commands.whole
     ∙ (ap (λ ds. followed_by none (in_order job ds)) same ∙ sym b.are_commands.whole) in
-    let value : a.value ≡ b.value = values (job_plan job language) b.commands a.value b.value
-    (subst (λ cs. IsValue (job_plan job language) cs a.value) commands a.is_value) b.is_value in
-    a.printed ∙ (ap (λ v. line (printed_text job.pretty v)) value ∙ sym b.printed)
+    let value : a.is.0 ≡ b.is.0 = values (job_plan job language) b.commands a.is.0 b.is.0
+    (subst (λ cs. IsValue (job_plan job language) cs a.is.0) commands a.is.1) b.is.1 in
+    a.is.2 ∙ (ap (λ v. line (printed_text job.pretty v)) value ∙ sym b.is.2)

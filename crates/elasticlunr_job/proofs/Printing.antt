@@ -8,13 +8,12 @@ use Rattle.serde_json.specs.Data.{Data}
 use Rattle.elasticlunr_text.specs.Text.{Bytes}
 use Rattle.elasticlunr_lang.specs.declared.any.AnyLanguage.{AnyLanguage}
 use Rattle.elasticlunr.specs.History.{Agree, Commands, Document, none}
-use Rattle.elasticlunr.specs.Printed.{IsPrintOf, IsValue, IsTextAfter}
+use Rattle.elasticlunr.specs.Printed.{IsValue, IsTextAfter}
 use Rattle.elasticlunr.specs.Standing.{Plan}
-use Rattle.elasticlunr_job.specs.Answer.{IsIndexLine, IsReadableIn, line, printed_text}
+use Rattle.elasticlunr_job.specs.Answer.{IsMadeIn, OfIndex, printed_text}
 use Rattle.elasticlunr.specs.Calls.{followed_by}
-use Rattle.elasticlunr_job.specs.Commands.{AreCommandsOf, IsAdded, in_order}
+use Rattle.elasticlunr_job.specs.Commands.{IsAdded, in_order}
 use Rattle.elasticlunr_job.specs.Filled.{IsBuiltFor}
-use Rattle.elasticlunr_job.proofs.Calls.{commands_of_calls}
 use Rattle.elasticlunr_job.proofs.Taken.{HasDone}
 use Rattle.elasticlunr_job_format.specs.Job.{Job}
 
@@ -36,36 +35,23 @@ zip_more P Q [] (y ∷ ys) f h = absurd h
 zip_more P Q (x ∷ xs) [] f h = absurd h
 zip_more P Q (x ∷ xs) (y ∷ ys) f h = (f x y h.0, zip_more P Q xs ys f h.1)
 
--- the line of an index that was built for the job, to which all was done and which was printed then
-pub carried_line : (job : Job) (language : AnyLanguage) (made : Bytes → List Bytes → Document → Type 0)
-    (old new : Commands → Type 0) (before after : Plan) (line_text : Bytes) → after ≡ before
+-- what holds of an index that was built for the job, and to which all was done
+pub carried : (job : Job) (language : AnyLanguage) (made : Bytes → List Bytes → Document → Type 0)
+    (old new : Commands → Type 0) (before after : Plan) (Is : OfIndex) → after ≡ before
     → IsBuiltFor job language before made old → HasDone made old new job
-    → ((commands : Commands) → new commands → (text : Bytes) × IsTextAfter (printed_text job.pretty) after commands text
-    × (line_text ≡ line text)) → ((commands : Commands) → new commands → IsPrintOf after commands line_text)
-    → IsIndexLine job language line_text × IsReadableIn job language line_text
-carried_line job language made old new before after line_text same built done prints reads =
+    → ((commands : Commands) → new commands → Is job.pretty after commands) → IsMadeIn job language Is
+carried job language made old new before after Is same built done holds =
     let documents = done.documents in
     let commands = followed_by none (in_order job documents) in
-    let stands = done.follows.stands none built.empty in
-    let print = prints commands stands in
-    let value = print.1.0 in
-    let are : AreCommandsOf job language commands = record {
-      documents = documents;
-      each =
-          zip_more (λ doc document. made doc.reference doc.values document) (IsAdded job language) job.docs documents
-          built.adds done.each;
-      whole = refl;
-    } in (
-      record {
-        commands = commands;
-        value = value;
-        are_commands = are;
-        is_value = subst (λ plan. IsValue plan commands value) (same ∙ built.its_plan) print.1.1;
-        printed = print.2 ∙ ap line print.1.2;
-      },
-      record {
-        commands = commands;
-        were = commands_of_calls job language commands are;
-        print = subst (λ plan. IsPrintOf plan commands line_text) (same ∙ built.its_plan) (reads commands stands);
-      },
-    )
+    record {
+      commands = commands;
+      are_commands = record {
+        documents = documents;
+        each =
+            zip_more (λ doc document. made doc.reference doc.values document) (IsAdded job language) job.docs documents
+            built.adds done.each;
+        whole = refl;
+      };
+      is = subst (λ plan. Is job.pretty plan commands) (same ∙ built.its_plan)
+          (holds commands (done.follows.stands none built.empty));
+    }

@@ -10,7 +10,8 @@ use Rattle.elasticlunr.specs.Current.{IsReadableAfter}
 use Rattle.elasticlunr.specs.Fields.{all_differ}
 use Rattle.elasticlunr.specs.History.{Commands}
 use Rattle.elasticlunr.specs.Kept.{KeptReads}
-use Rattle.elasticlunr.specs.Printed.{IsValue, pretty_text}
+use Rattle.elasticlunr.specs.Printed.{IsPrintOf, IsValue, pretty_text}
+use Rattle.elasticlunr.specs.Standing.{Plan}
 use Rattle.elasticlunr_job.specs.Calls.{job_calls}
 use Rattle.elasticlunr_job.specs.Commands.{AreCommandsOf, job_plan}
 use Rattle.elasticlunr_job_format.specs.Job.{Document, Job, IsJob, IsNoJob}
@@ -69,17 +70,34 @@ refusal_text TooManyValues = codes "refused: too many values"
 abbrev pub line : Bytes → Bytes
 line text = text ++ 10 ∷ []
 
--- the text of the index that the job asks for, in this language, and a line feed
-pub record IsIndexLine (job : Job) (language : AnyLanguage) (text : Bytes) : Type 0 where
+-- what can be said of an index: whether it is printed pretty, its plan, and the commands that it
+-- represents
+abbrev pub OfIndex : Type 1
+OfIndex = Bool → Plan → Commands → Type 0
+
+-- this is its text, and a line feed
+abbrev pub IsPrintedLine : Bytes → OfIndex
+IsPrintedLine text pretty plan commands = (value : Data) × IsValue plan commands value
+    × (text ≡ line (printed_text pretty value))
+
+-- it is, and is read as what is printed of the index
+abbrev pub IsReadableLine : Bytes → OfIndex
+IsReadableLine text pretty plan commands = IsPrintedLine text pretty plan commands
+    × IsPrintOf plan commands text
+
+-- of the index that the job asks for, in this language, this holds
+pub record IsMadeIn (job : Job) (language : AnyLanguage) (Is : OfIndex) : Type 0 where
   pub commands : Commands
-  pub value : Data
   pub are_commands : AreCommandsOf job language commands
-  pub is_value : IsValue (job_plan job language) commands value
-  pub printed : text ≡ line (printed_text job.pretty value)
+  pub is : Is job.pretty (job_plan job language) commands
+
+-- the job passes all checks, and this holds of its index in its language
+abbrev pub IsMadeOf : Job → OfIndex → Type 0
+IsMadeOf job Is = (language : AnyLanguage) × Passes job language × IsMadeIn job language Is
 
 -- the job passes all checks, and this is the text of its index in its language, and a line feed
 abbrev pub IsLineOf : Job → Bytes → Type 0
-IsLineOf job text = (language : AnyLanguage) × Passes job language × IsIndexLine job language text
+IsLineOf job text = IsMadeOf job (IsPrintedLine text)
 
 -- the text is read as that of an index of the job in this language, after the calls of the job
 abbrev pub IsReadableIn : Job → AnyLanguage → Bytes → Type 0

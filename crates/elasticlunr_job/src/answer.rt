@@ -7,10 +7,9 @@ ghost use Rattle.elasticlunr.specs.Index.{fields_of, plan_of, IsDocument, IsFail
 ghost use Rattle.elasticlunr.specs.Printed.{IsPrintOf, IsTextAfter};
 ghost use Rattle.elasticlunr_lang.specs.Known.{language_name};
 ghost use Rattle.elasticlunr_text.specs.Text.{Bytes};
-ghost use Rattle.elasticlunr_job.specs.Answer.{FailsAt, HasTooMany, IsIndexLine, IsLineOf};
-ghost use Rattle.elasticlunr_job.specs.Answer.{IsReadableIn, IsReadableOf};
-ghost use Rattle.elasticlunr_job.specs.Answer.{IsRefused, IsAnswer, line, printed_text};
-ghost use Rattle.elasticlunr_job.specs.Answer.{refusal_text};
+ghost use Rattle.elasticlunr_job.specs.Answer.{FailsAt, HasTooMany, IsLineOf, IsMadeIn};
+ghost use Rattle.elasticlunr_job.specs.Answer.{IsAnswer, IsMadeOf, IsPrintedLine, IsRefused};
+ghost use Rattle.elasticlunr_job.specs.Answer.{IsReadableOf, line, printed_text, refusal_text};
 ghost use Rattle.elasticlunr_job.specs.Commands.{language_tokens};
 ghost use Rattle.elasticlunr_job.specs.Filled.{Fits, IsBuiltFor};
 ghost use Rattle.elasticlunr_job_format.specs.JobTold.{job_told};
@@ -19,6 +18,7 @@ ghost use Rattle.elasticlunr_job.specs.declared.outcome.Outcome.TheVariants.{Pri
 ghost use Rattle.elasticlunr_job_format.specs.declared.outcome.Refusal.TheVariants.{TooManyValues};
 ghost use Rattle.elasticlunr_job_format.specs.declared.outcome.Refusal.TheVariants.{NotJson};
 
+use crate::make::{Make, ReadableLine};
 use crate::outcome::{JobError, Outcome, Refusal};
 use elasticlunr::lang::{AnyLanguage, from_name};
 use elasticlunr::laws::calls::an_index_makes_what_its_language_makes;
@@ -47,33 +47,50 @@ fn text_of(index: &Index<AnyLanguage>, pretty: bool) -> Result<String, IndexErro
 }
 
 /// The text of an index, and a line feed.
-pub fn line_of(index: &Index<AnyLanguage>, pretty: bool) -> Result<String, JobError>
-    ensures ok { IfOk result (λ line_text. (commands : Commands)
+pub fn line_of(index: &Index<AnyLanguage>, pretty: bool) -> Result<String, IndexError>
+    ensures ok { IfOk result (λ text. (commands : Commands)
         → StandsFor language_name name_text index.now commands
-        → (text : Bytes)
-        × IsTextAfter (printed_text pretty) (plan_of language_name name_text index.now) commands
-        text
-        × (string_bytes line_text ≡ line text)) }
-    ensures print { IfOk result (λ line_text. (commands : Commands)
+        → IsPrintedLine (string_bytes text) pretty (plan_of language_name name_text index.now)
+        commands) }
+    ensures print { IfOk result (λ text. (commands : Commands)
         → StandsFor language_name name_text index.now commands
-        → IsPrintOf (plan_of language_name name_text index.now) commands
-        (string_bytes line_text)) }
+        → IsPrintOf (plan_of language_name name_text index.now) commands (string_bytes text)) }
     ensures failed { IsFailed index.now → IsErr result }
-    ensures err { IfErr result (λ stop. stop ≡ JobError.Memory) }
+    ensures errors { IfErr result (λ e. (e ≡ IndexError.Failed) ⊎ (e ≡ IndexError.Memory)) }
 {
     let mut text = text_of(index, pretty)?;
     text.push('\n')?;
     Ok(text)
 }
 
-/// Does to a new index all that the job commands: its text then, and a line feed.
-fn fill_and_print(mut index: Index<AnyLanguage>, job: &Job<'_>) -> Result<String, JobError>
+/// What is made of an index.
+fn made_of<M: Make>(
+    maker: &M,
+    index: &Index<AnyLanguage>,
+    pretty: bool,
+) -> Result<M::Made, JobError>
+    ensures ok { IfOk result (λ made. (commands : Commands)
+        → StandsFor language_name name_text index.now commands
+        → M.makes maker.now made pretty (plan_of language_name name_text index.now) commands) }
+    ensures err { IfErr result (λ stop. stop ≡ JobError.Memory) }
+{
+    match maker.make(index, pretty) {
+        Ok(made) => Ok(made),
+        Err(_) => Err(JobError::Memory),
+    }
+}
+
+/// Does to a new index all that the job commands: what is made of it then.
+fn fill_and_make<M: Make>(
+    mut index: Index<AnyLanguage>,
+    job: &Job<'_>,
+    maker: &M,
+) -> Result<M::Made, JobError>
     ensures fits { OnOk result (Fits (fields_of index) (job_told job.now).docs) }
-    ensures ok { IfOk result (λ text. (language : AnyLanguage)
+    ensures ok { IfOk result (λ made. (language : AnyLanguage)
         → IsBuiltFor (job_told job.now) language (plan_of language_name name_text index)
         (IsDocument language_tokens leaves index) (StandsFor language_name name_text index)
-        → IsIndexLine (job_told job.now) language (string_bytes text)
-        × IsReadableIn (job_told job.now) language (string_bytes text)) }
+        → IsMadeIn (job_told job.now) language (M.makes maker.now made)) }
     ensures err { IfErr result (λ stop. ¬ IsFailed index
         → StopsOnlyBy TooManyValues (Any (HasTooMany (fields_of index)) (job_told job.now).docs)
         stop) }
@@ -87,14 +104,12 @@ fn fill_and_print(mut index: Index<AnyLanguage>, job: &Job<'_>) -> Result<String
     if job.compact {
         index.compact()?;
     }
-    line_of(&index, job.pretty)
+    made_of(maker, &index, job.pretty)
 }
 
-/// The text of a job's index, and a line feed. Its texts are not copied, but into the index.
-pub fn job_line(alloc: Global, job: &Job<'_>) -> Result<String, JobError>
-    ensures ok { IfOk result (λ text. IsLineOf (job_told job.now) (string_bytes text)) }
-    ensures readable { IfOk result (λ text.
-        IsReadableOf (job_told job.now) (string_bytes text)) }
+/// What is made of a job's index. Its texts are not copied, but into the index.
+pub fn job_made<M: Make>(alloc: Global, job: &Job<'_>, maker: &M) -> Result<M::Made, JobError>
+    ensures ok { IfOk result (λ made. IsMadeOf (job_told job.now) (M.makes maker.now made)) }
     ensures err { IfErr result (StopsWithReason (FailsAt (job_told job.now))) }
 {
     let Some(language) = from_name(job.language) else {
@@ -106,7 +121,17 @@ pub fn job_line(alloc: Global, job: &Job<'_>) -> Result<String, JobError>
         .add_fields(&job.fields)?
         .build()?;
     an_index_makes_what_its_language_makes(&index);
-    fill_and_print(index, job)
+    fill_and_make(index, job, maker)
+}
+
+/// The text of a job's index, and a line feed. Its texts are not copied, but into the index.
+pub fn job_line(alloc: Global, job: &Job<'_>) -> Result<String, JobError>
+    ensures ok { IfOk result (λ text. IsLineOf (job_told job.now) (string_bytes text)) }
+    ensures readable { IfOk result (λ text.
+        IsReadableOf (job_told job.now) (string_bytes text)) }
+    ensures err { IfErr result (StopsWithReason (FailsAt (job_told job.now))) }
+{
+    job_made(alloc, job, &ReadableLine)
 }
 
 /// The text of the index that the input asks for, and a line feed.

@@ -7,6 +7,7 @@
 
 pub mod answer;
 pub mod laws;
+pub mod make;
 pub mod outcome;
 pub mod run;
 

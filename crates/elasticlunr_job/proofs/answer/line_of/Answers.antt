@@ -1,15 +1,14 @@
-use Rattle.std.proofs.Common.{string_bytes, subst, sym}
+use Rattle.std.proofs.Common.{ap, string_bytes, subst, sym, ◌∙◌}
 use Rattle.elasticlunr.specs.Printed.{IsPrintOf}
+use Rattle.elasticlunr_job.specs.Answer.{line}
 use Rattle.elasticlunr_job.proofs.LineFeed.{print_more}
 use Rattle.elasticlunr_job.proofs.answer.line_of.Goals as goal
 
 pub returns-clause-ok : goal.returns-clause-ok
 unfolding lib.Utf8.encode
-returns-clause-ok g c commands stands = (
-  string_bytes c.in_ok-text.text,
-  c.in_ok-text.ensures.ok commands stands,
-  c.in_ok-push.ensures.bytes,
-)
+returns-clause-ok g c commands stands =
+    let text = c.in_ok-text.ensures.ok commands stands in
+    (text.0, text.1, c.in_ok-push.ensures.bytes ∙ ap line text.2)
 
 pub returns-clause-print : goal.returns-clause-print
 unfolding lib.Utf8.encode

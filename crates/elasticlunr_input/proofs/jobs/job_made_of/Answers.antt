@@ -1,0 +1,37 @@
+use Rattle.std.proofs.Common.{subst}
+use Rattle.serde_json.specs.Data.{Data}
+use Rattle.serde_json.specs.View.{view}
+use Rattle.elasticlunr_job.specs.Answer.{FailsAt, IsMadeOf}
+use Rattle.elasticlunr_job_format.specs.Job.{Job, IsJob}
+use Rattle.elasticlunr_job_format.specs.JobTold.{job_told}
+use Rattle.elasticlunr_job_format.specs.JobError.{StopsWithReason}
+use Rattle.elasticlunr_job_format.specs.declared.outcome.Refusal.TheVariants as refusal
+use Rattle.elasticlunr_job_format.specs.declared.outcome.JobError.{JobError}
+use Rattle.elasticlunr_job_format.specs.declared.outcome.JobError.TheVariants.{Memory, Refused}
+use Rattle.elasticlunr_job.proofs.Stops.{err_more, ok_more}
+use Rattle.elasticlunr_input.specs.Settled.{Settings, IsRefusedWith, settings_told, settled}
+use Rattle.elasticlunr_input.proofs.jobs.job_made_of.Goals as goal
+
+-- what stops the job with the settings stops the value with them
+stops_with : (settings : Settings) (d : Data) (job : Job) → IsJob d job → (stop : JobError)
+    → StopsWithReason (FailsAt (settled settings job)) stop → StopsWithReason (IsRefusedWith settings d) stop
+stops_with settings d job is Memory fails = tt
+stops_with settings d job is (Refused refusal.NotJson) fails = fails
+stops_with settings d job is (Refused refusal.NotAJob) fails = absurd fails
+stops_with settings d job is (Refused refusal.UnknownLanguage) fails = (job, is, fails)
+stops_with settings d job is (Refused refusal.DuplicateField) fails = (job, is, fails)
+stops_with settings d job is (Refused refusal.TooManyValues) fails = (job, is, fails)
+
+pub returns-clause-ok : goal.returns-clause-ok
+returns-clause-ok g c = ok_more c.job_made.result _ _
+    (λ made is. (
+      job_told c.in_ok-parse.field-0,
+      c.in_ok-parse.ensures.ok,
+      subst (λ job. IsMadeOf job (g.M.Make.makes c.args.maker.now made)) c.in_ok-job.ensures is,
+    )) c.job_made.ensures.ok
+
+pub returns-clause-err : goal.returns-clause-err
+returns-clause-err g c = err_more c.job_made.result _ _
+    (λ stop fails. stops_with (settings_told c.args.settings.now) (view c.args.value.now)
+    (job_told c.in_ok-parse.field-0) c.in_ok-parse.ensures.ok stop
+    (subst (λ job. StopsWithReason (FailsAt job) stop) c.in_ok-job.ensures fails)) c.job_made.ensures.err

@@ -1,0 +1,17 @@
+//! An index in pieces: a head, and the pieces that a page fetches as a query needs them.
+#![tactic(auto)]
+
+mod cut;
+mod documents;
+mod folder;
+mod head_text;
+mod head_value;
+pub mod laws;
+mod making;
+mod numbers;
+mod progress;
+mod texts;
+mod tokens;
+mod tries;
+
+pub use making::{Head, Piece, Pieces};

@@ -1,0 +1,21 @@
+use Rattle.std.proofs.Common.{◌≡◌, ◌++◌, length, string_bytes, refl, subst, arith}
+use Rattle.std.proofs.lemmas.List.{length-map}
+use Rattle.sha2.specs.Hashers.{Holds256}
+use Rattle.elasticlunr_json.proofs.Seen.{on_err}
+use Rattle.elasticlunr_pieces.proofs.Made.{tries_made, tries_stay}
+use Rattle.elasticlunr_pieces.proofs.making.Pieces.next_of_tries.Goals as goal
+
+pub returns-clause-made : goal.returns-clause-made
+returns-clause-made c tries texts has = tries_made c.args.self.now c.next_of.new.progress c.update.new.self tries texts
+    c.in_ok-piece.piece _ c.deref.result.now has (omega (
+      arith,
+      c.requires,
+      length-map c.args.self.now.tokens.items
+          string_bytes,
+    ))
+    c.deref.ensures.value c.in_ok-piece.ensures.made refl refl refl
+    (λ m h. subst (λ t. Holds256 c.update.new.self (m ++ t)) c.as_str.ensures.value (c.update.ensures m h))
+
+pub returns-in_err-piece-clause-err : goal.returns-in_err-piece-clause-err
+returns-in_err-piece-clause-err c = on_err c.from_residual.result _ (λ tries texts has.
+    tries_stay c.args.self.now c.next_of.new.progress tries texts c.in_err-piece.ensures.err has)

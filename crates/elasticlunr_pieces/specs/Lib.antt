@@ -1,0 +1,10 @@
+pub mod Cut
+pub mod Entries
+pub mod EntryTexts
+pub mod Folder
+pub mod Head
+pub mod HeadTokens
+pub mod Numbers
+pub mod Pieces
+pub mod Progress
+pub mod Steps

@@ -175,7 +175,7 @@ pub(crate) fn discard(rt: &HostRuntime, cut: &Cut) {
 /// After a fault before the head is replaced, all is as it was.
 pub(crate) fn publish(rt: &HostRuntime, folder: &str, cut: &Cut) -> io::Result<Result<(), Fault>> {
     let name = cut.head.folder.as_str();
-    match places(rt, folder, name) {
+    match places_of(rt, folder, name) {
         Ok(places) => publish_at(rt, places, cut),
         Err(error) => {
             let file = String::from_str(rt.alloc(), folder)?;
@@ -193,7 +193,7 @@ struct Places {
 }
 
 /// All names are made before anything is changed.
-fn places(rt: &HostRuntime, folder: &str, name: &str) -> io::Result<Places> {
+fn places_of(rt: &HostRuntime, folder: &str, name: &str) -> io::Result<Places> {
     let alloc = rt.alloc();
     Ok(Places {
         pieces: format!(in alloc; "{folder}/{name}")?,

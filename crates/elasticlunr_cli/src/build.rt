@@ -2,7 +2,9 @@
 
 use crate::files::{Input, input_name, open_input, write_output};
 use crate::given::settings_given;
-use crate::pieces::{Cut, Cutting, Fault, PIECE_SIZE, discard, publish};
+use crate::pieces::{
+    Cut, Cutting, Fault, PIECE_SIZE, discard, make_temporary, publish, temporary_in,
+};
 use crate::tell::{failed, say, troubled, warn};
 use clap::ArgMatches;
 use elasticlunr_diagnostics::form::form_of;
@@ -143,35 +145,46 @@ fn build_of(
     settings: &Settings,
     input: Input,
 ) -> io::Result<Outcome> {
-    let mut notes = Notes::new(rt.alloc());
     let Some(folder) = task.given.get_str("pieces") else {
+        let mut notes = Notes::new(rt.alloc());
         return match made_in(rt, task, settings, input, &mut notes, &Line)? {
             Ok(line) => use_index(rt, task, line.as_str(), &notes),
             Err(ended) => Ok(ended),
         };
     };
-    let cutting = cutting_of(rt, task, folder);
-    match made_in(rt, task, settings, input, &mut notes, &cutting)? {
-        Ok(Ok(cut)) => {
-            let ended = use_pieces(rt, task, folder, &cut, &notes);
-            if !matches!(ended, Ok(Outcome::Done)) {
-                discard(rt, &cut);
-            }
-            ended
-        }
-        Ok(Err(fault)) => failed(rt, fault.file.as_str(), &fault.error),
-        Err(ended) => Ok(ended),
+    let temporary = temporary_in(rt, folder)?;
+    if let Err(e) = make_temporary(rt, folder, temporary.as_str()) {
+        return failed(rt, temporary.as_str(), &e);
     }
+    let ended = build_pieces(rt, task, settings, input, temporary.as_str());
+    if !matches!(ended, Ok(Outcome::Done)) {
+        discard(rt, temporary.as_str());
+    }
+    ended
 }
 
-/// What is asked for pieces in this folder.
-fn cutting_of<'r>(rt: &'r HostRuntime, task: &Task<'_, '_>, folder: &'r str) -> Cutting<'r> {
-    let size = task.given.get_str("piece-size").and_then(size_of);
-    Cutting {
+/// Builds the index of an input in pieces, which are written to this folder first.
+fn build_pieces(
+    rt: &HostRuntime,
+    task: &Task<'_, '_>,
+    settings: &Settings,
+    input: Input,
+    temporary: &str,
+) -> io::Result<Outcome> {
+    let given = task.given;
+    let size = given.get_str("piece-size").and_then(size_of);
+    let cutting = Cutting {
         rt,
-        folder,
+        folder: given.get_str("pieces").unwrap_or("."),
+        temporary,
         size: size.unwrap_or(PIECE_SIZE),
-        with_text: task.given.get_str("output").is_some(),
+        with_text: given.get_str("output").is_some(),
+    };
+    let mut notes = Notes::new(rt.alloc());
+    match made_in(rt, task, settings, input, &mut notes, &cutting)? {
+        Ok(Ok(cut)) => use_pieces(task, &cutting, &cut, &notes),
+        Ok(Err(fault)) => failed(rt, fault.file.as_str(), &fault.error),
+        Err(ended) => Ok(ended),
     }
 }
 
@@ -271,13 +284,13 @@ fn output_name<'a>(task: &'a Task<'_, '_>) -> &'a str {
 /// Writes the text of an index where that is wanted, publishes the pieces, and says how many there
 /// are.
 fn use_pieces(
-    rt: &HostRuntime,
     task: &Task<'_, '_>,
-    folder: &str,
+    cutting: &Cutting<'_>,
     cut: &Cut,
     notes: &Notes,
 ) -> io::Result<Outcome> {
-    task.progress(rt, "made pieces of", cut.bytes)?;
+    let rt = cutting.rt;
+    task.progress(rt, "made pieces of", cut.sizes.bytes)?;
     if is_refused(rt, task, notes)? {
         return Ok(Outcome::Refused);
     }
@@ -287,7 +300,7 @@ fn use_pieces(
             return failed(rt, output_name(task), &e);
         }
     }
-    match publish(rt, folder, cut)? {
+    match publish(cutting, &cut.head)? {
         Ok(()) => {
             let seconds = task.seconds(rt)?;
             eprintln!(rt; "elasticlunr: {counted}, {seconds:.1} s")?;
@@ -300,8 +313,8 @@ fn use_pieces(
 /// How many documents, tokens and pieces there are, and the bytes of head, pieces and text.
 fn counted_pieces(rt: &HostRuntime, cut: &Cut, notes: &Notes) -> io::Result<String> {
     let counted_notes = counted_of(rt, notes)?;
-    let pieces = counted(rt.alloc(), cut.count, "piece")?;
-    let (head, largest) = (cut.head.text.len(), cut.largest);
+    let pieces = counted(rt.alloc(), cut.sizes.count, "piece")?;
+    let (head, largest) = (cut.head.text.len(), cut.sizes.largest);
     let sizes = format!(in rt.alloc();
         "{pieces}, {head} bytes in the head, {largest} in the largest piece"
     )?;

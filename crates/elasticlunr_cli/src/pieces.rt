@@ -55,20 +55,17 @@ impl From<IndexError> for Stop {
 pub(crate) struct Cutting<'r> {
     pub(crate) rt: &'r HostRuntime,
     pub(crate) folder: &'r str,
+    /// A new folder in this one, to which the pieces are written.
+    pub(crate) temporary: &'r str,
     pub(crate) size: usize,
     pub(crate) with_text: bool,
 }
 
-/// Pieces that are written to a temporary folder.
+/// Pieces that are written to the temporary folder.
 #[derive(Drop)]
 pub(crate) struct Cut {
-    temporary: String,
     pub(crate) head: Head,
-    pub(crate) count: usize,
-    /// The bytes of the largest piece.
-    pub(crate) largest: usize,
-    /// The bytes of all pieces.
-    pub(crate) bytes: usize,
+    pub(crate) sizes: Sizes,
     /// The text of the index, and a line feed, where it is wanted.
     pub(crate) text: Option<String>,
 }
@@ -83,52 +80,31 @@ impl Make for Cutting<'_> {
         index: &Index<AnyLanguage>,
         pretty: bool,
     ) -> Result<Result<Cut, Fault>, IndexError> {
-        let alloc = self.rt.alloc();
         let text = if self.with_text {
             Some(Line.make(index, pretty)?)
         } else {
             None
         };
-        let (folder, number) = (self.folder, process::id(self.rt.process()));
-        let temporary = format!(in alloc; "{folder}/pieces.{number}.new")?;
-        if let Err(error) = make_folder(self.rt, folder, temporary.as_str()) {
-            return Ok(Err(Fault {
-                file: temporary,
-                error,
-            }));
-        }
-        match self.fill(index, temporary.as_str()) {
-            Ok((head, sizes)) => Ok(Ok(Cut {
-                temporary,
-                head,
-                count: sizes.count,
-                largest: sizes.largest,
-                bytes: sizes.bytes,
-                text,
-            })),
-            Err(stop) => {
-                remove_folder(self.rt, temporary.as_str());
-                match stop {
-                    Stop::File(fault) => Ok(Err(fault)),
-                    Stop::Memory => Err(IndexError::Memory),
-                }
-            }
+        match self.fill(index) {
+            Ok((head, sizes)) => Ok(Ok(Cut { head, sizes, text })),
+            Err(Stop::File(fault)) => Ok(Err(fault)),
+            Err(Stop::Memory) => Err(IndexError::Memory),
         }
     }
 }
 
-/// What is counted of pieces.
+/// How many pieces there are, and the bytes of the largest one and of all.
 #[derive(Clone, Copy)]
-struct Sizes {
-    count: usize,
-    largest: usize,
-    bytes: usize,
+pub(crate) struct Sizes {
+    pub(crate) count: usize,
+    pub(crate) largest: usize,
+    pub(crate) bytes: usize,
 }
 
 impl Cutting<'_> {
-    /// Writes the pieces of an index to a folder, one after the other.
-    fn fill(&self, index: &Index<AnyLanguage>, folder: &str) -> Result<(Head, Sizes), Stop> {
-        let alloc = self.rt.alloc();
+    /// Writes the pieces of an index to the temporary folder, one after the other.
+    fn fill(&self, index: &Index<AnyLanguage>) -> Result<(Head, Sizes), Stop> {
+        let (alloc, folder) = (self.rt.alloc(), self.temporary);
         let mut pieces = Pieces::new(alloc, index, self.size)?;
         let mut sizes = Sizes {
             count: 0,
@@ -155,28 +131,29 @@ impl Cutting<'_> {
     }
 }
 
-/// Makes a new folder in this one, which is made as well where it isn't there.
-fn make_folder(rt: &HostRuntime, folder: &str, temporary: &str) -> io::Result<()> {
+/// The path of a temporary folder in this one, which no other process has.
+pub(crate) fn temporary_in(rt: &HostRuntime, folder: &str) -> Result<String, AllocError> {
+    let number = process::id(rt.process());
+    format!(in rt.alloc(); "{folder}/pieces.{number}.new")
+}
+
+/// Makes a temporary folder in this one, which is made as well where it isn't there.
+pub(crate) fn make_temporary(rt: &HostRuntime, folder: &str, temporary: &str) -> io::Result<()> {
     fs::create_dir_all(rt, folder)?;
     fs::create_dir(rt, temporary)
 }
 
 /// Removes a folder of pieces after a fault. Where this fails, too, the first fault is reported.
-fn remove_folder(rt: &HostRuntime, folder: &str) {
+pub(crate) fn discard(rt: &HostRuntime, folder: &str) {
     let _ = fs::remove_dir_all(rt, folder);
 }
 
-/// Removes the pieces again, unless they were published.
-pub(crate) fn discard(rt: &HostRuntime, cut: &Cut) {
-    remove_folder(rt, cut.temporary.as_str());
-}
-
 /// Gives the pieces their name, replaces the head, and removes the folders of earlier heads.
-/// After a fault before the head is replaced, all is as it was.
-pub(crate) fn publish(rt: &HostRuntime, folder: &str, cut: &Cut) -> io::Result<Result<(), Fault>> {
-    let name = cut.head.folder.as_str();
-    match places(rt, folder, name) {
-        Ok(places) => publish_at(rt, places, cut),
+/// After a fault before the head is replaced, only the temporary folder may be left.
+pub(crate) fn publish(cutting: &Cutting<'_>, head: &Head) -> io::Result<Result<(), Fault>> {
+    let (rt, folder) = (cutting.rt, cutting.folder);
+    match places_of(rt, folder, head.folder.as_str()) {
+        Ok(places) => Ok(publish_at(cutting, places, head)),
         Err(error) => {
             let file = String::from_str(rt.alloc(), folder)?;
             Ok(Err(Fault { file, error }))
@@ -193,7 +170,7 @@ struct Places {
 }
 
 /// All names are made before anything is changed.
-fn places(rt: &HostRuntime, folder: &str, name: &str) -> io::Result<Places> {
+fn places_of(rt: &HostRuntime, folder: &str, name: &str) -> io::Result<Places> {
     let alloc = rt.alloc();
     Ok(Places {
         pieces: format!(in alloc; "{folder}/{name}")?,
@@ -244,42 +221,38 @@ fn is_name_of_pieces(name: &str) -> bool {
 }
 
 /// Does this at these places.
-fn publish_at(rt: &HostRuntime, places: Places, cut: &Cut) -> io::Result<Result<(), Fault>> {
-    let Places {
-        pieces,
-        head,
-        earlier,
-    } = places;
-    let is_new = match give_name(rt, cut, pieces.as_str()) {
+fn publish_at(cutting: &Cutting<'_>, places: Places, head: &Head) -> Result<(), Fault> {
+    let rt = cutting.rt;
+    let is_new = match give_name(cutting, places.pieces.as_str()) {
         Ok(is_new) => is_new,
         Err(error) => {
-            return Ok(Err(Fault {
-                file: pieces,
-                error,
-            }));
+            let file = places.pieces;
+            return Err(Fault { file, error });
         }
     };
-    if let Err(error) = write_output(rt, Some(head.as_str()), cut.head.text.as_str()) {
+    if let Err(error) = write_output(rt, Some(places.head.as_str()), head.text.as_str()) {
         if is_new {
-            remove_folder(rt, pieces.as_str());
+            discard(rt, places.pieces.as_str());
         }
-        return Ok(Err(Fault { file: head, error }));
+        let file = places.head;
+        return Err(Fault { file, error });
     }
-    for file in earlier {
+    for file in places.earlier {
         if let Err(error) = fs::remove_dir_all(rt, file.as_str()) {
-            return Ok(Err(Fault { file, error }));
+            return Err(Fault { file, error });
         }
     }
-    Ok(Ok(()))
+    Ok(())
 }
 
 /// Gives the temporary folder its name. A folder of this name has the same pieces, so it stays;
 /// then the answer is `false`.
-fn give_name(rt: &HostRuntime, cut: &Cut, name: &str) -> io::Result<bool> {
+fn give_name(cutting: &Cutting<'_>, name: &str) -> io::Result<bool> {
+    let rt = cutting.rt;
     if fs::exists(rt, name)? {
-        fs::remove_dir_all(rt, cut.temporary.as_str())?;
+        fs::remove_dir_all(rt, cutting.temporary)?;
         return Ok(false);
     }
-    fs::rename(rt, cut.temporary.as_str(), name)?;
+    fs::rename(rt, cutting.temporary, name)?;
     Ok(true)
 }

@@ -5,7 +5,7 @@ import socket
 import subprocess
 import sys
 
-from tests import browser_book, browser_page, browser_policy, browser_results, browser_speed
+from tests import browser_book, browser_page, browser_pieces, browser_policy, browser_results, browser_speed
 from tests.browser_sentences import PAGES
 from tests.browser_tools import SECONDS, must
 from tools.repository import TOP, lines_of, program, read, run
@@ -354,4 +354,5 @@ def pages():
 
 def groups():
     return [([], scripts()), (["node", "elasticlunr.min.js"], nodes()), (BROWSER, languages() + readme()),
-            (BROWSER, books()), (BROWSER, pages() + [("demo: three sites", demo)]), (BROWSER, every_character())]
+            (BROWSER, books()), (BROWSER, pages() + [("demo: four sites", demo)]), (BROWSER, browser_pieces.cases()),
+            (BROWSER, every_character())]

@@ -4,7 +4,7 @@ import json
 import os
 import time
 
-from tests import browser_book
+from tests import browser_book, pieces_model
 from tests.browser_sentences import PAGES
 from tests.browser_tools import must
 from tools import search_page
@@ -18,18 +18,47 @@ BODY = '<body data-index="search_index.json">'
 ADDRESSES = '<body data-index="search_index.json" data-addresses="addresses.json">'
 
 
+SCRIPT = '<script src="search.js">'
+PIECES_SCRIPT = '<script src="elasticlunr-pieces.js"></script>\n'
+IN_PIECES = {'data-index="search_index.json"': 'data-pieces="search"', SCRIPT: PIECES_SCRIPT + SCRIPT}
+SIZE = 600  # bytes of a piece
+
+
+def edit(path, edits):
+    text = read(path)
+    for old, new in edits.items():
+        must(text.count(old) == 1, f"{old} is not in the page once")
+        text = text.replace(old, new)
+    write(path, text)
+
+
+def write_pieces(folder, index):
+    """Writes the index of a text in pieces. A text that is none takes the place of the head. Gives the files' names."""
+    try:
+        files = pieces_model.files(index, SIZE)
+    except ValueError:
+        files = {pieces_model.HEAD: index}
+    for name, text in files.items():
+        write(os.path.join(folder, name), text)
+    return list(files)
+
+
 def site(world, name, docs, lang="English", index=None, leave_out=(), edits=None, **more):
-    """Makes a folder as docs/BROWSER.md says, and edits the page: each text that is a key of `edits` becomes its value."""
+    """Makes a folder as docs/BROWSER.md says, and edits the page: each text that is a key of `edits` becomes its value. Its index
+    is in pieces if the world says so."""
     folder = os.path.join(world.folder, name)
     search_page.copy(folder, leave_out)
     page = os.path.join(folder, "search.html")
-    for old, new in (edits or {}).items():
-        text = read(page)
-        must(text.count(old) == 1, f"{old} is not in the page once")
-        write(page, text.replace(old, new))
+    edit(page, edits or {})
+    if world.in_pieces:
+        edit(page, IN_PIECES)
     if index is None:
         index = printed({"fields": ["title", "body"], "docs": [list(doc) for doc in docs], "lang": lang, **more})
-    if "search_index.json" not in leave_out:
+    if "search_index.json" in leave_out:
+        pass
+    elif world.in_pieces:
+        write_pieces(os.path.join(folder, "search"), index)
+    else:
         world.write(name + "/search_index.json", index)
     return name + "/search.html"
 

@@ -220,7 +220,7 @@ def a_query(rng, fields, words, tokens):
 
 def some_options(rng, fields):
     options = {}
-    for key, values in [("bool", ["OR", "AND", "AND"]), ("expand", [True, True, False]), ("minimum", [1, 1, 3])]:
+    for key, values in [("bool", ["OR", "AND", "AND"]), ("expand", [True, True, False]), ("maxPieces", [1, 2, 5])]:
         if rng.random() < 0.6:
             options[key] = rng.choice(values)
     if rng.random() < 0.4:
@@ -245,7 +245,7 @@ def some_queries(rng, given, files, count):
     fields = given.job["fields"]
     for number in range(count):
         if number % 4 == 0:  # sums of many scores, which depend on their order
-            yield rng.choice(tokens)[0], {"expand": True, "minimum": 1}
+            yield rng.choice(tokens)[0], {"expand": True}
         else:
             yield a_query(rng, fields, words, tokens), some_options(rng, fields)
 

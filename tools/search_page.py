@@ -7,7 +7,7 @@ from tools.repository import TOP
 
 FETCHED = os.path.join(TOP, "browser", "out")
 ELASTICLUNR = os.path.join(FETCHED, "elasticlunr.min.js")
-FILES = [ELASTICLUNR, *(os.path.join(TOP, "browser", name) for name in ("search.html", "search.css", "search.js", "elasticlunr-languages.js"))]
+FILES = [ELASTICLUNR, *(os.path.join(TOP, "browser", name) for name in ("search.html", "search.css", "search.js", "elasticlunr-languages.js", "elasticlunr-pieces.js"))]
 SECONDS = 120  # the time limit of a download
 
 

@@ -8,7 +8,7 @@ from tests import browser_book, pieces_model
 from tests.browser_sentences import PAGES
 from tests.browser_tools import must
 from tools import search_page
-from tools.repository import printed, read, write
+from tools.repository import printed, write
 
 WAIT = 10
 SITES = {language: [[ref + ".html", *texts] for ref, *texts in pages] for language, pages in PAGES.items()}
@@ -18,29 +18,15 @@ BODY = '<body data-index="search_index.json">'
 ADDRESSES = '<body data-index="search_index.json" data-addresses="addresses.json">'
 
 
-SCRIPT = '<script src="search.js">'
-PIECES_SCRIPT = '<script src="elasticlunr-pieces.js"></script>\n'
-IN_PIECES = {'data-index="search_index.json"': 'data-pieces="search"', SCRIPT: PIECES_SCRIPT + SCRIPT}
 SIZE = 600  # bytes of a piece
 
 
-def edit(path, edits):
-    text = read(path)
-    for old, new in edits.items():
-        must(text.count(old) == 1, f"{old} is not in the page once")
-        text = text.replace(old, new)
-    write(path, text)
-
-
 def write_pieces(folder, index):
-    """Writes the index of a text in pieces. A text that is none takes the place of the head. Gives the files' names."""
+    """Writes an index in pieces. A text that is none takes the place of the head."""
     try:
-        files = pieces_model.files(index, SIZE)
+        pieces_model.write(index, folder, SIZE)
     except ValueError:
-        files = {pieces_model.HEAD: index}
-    for name, text in files.items():
-        write(os.path.join(folder, name), text)
-    return list(files)
+        write(os.path.join(folder, pieces_model.HEAD), index)
 
 
 def site(world, name, docs, lang="English", index=None, leave_out=(), edits=None, **more):
@@ -49,9 +35,9 @@ def site(world, name, docs, lang="English", index=None, leave_out=(), edits=None
     folder = os.path.join(world.folder, name)
     search_page.copy(folder, leave_out)
     page = os.path.join(folder, "search.html")
-    edit(page, edits or {})
+    search_page.edit(page, edits or {})
     if world.in_pieces:
-        edit(page, IN_PIECES)
+        search_page.take_pieces(page)
     if index is None:
         index = printed({"fields": ["title", "body"], "docs": [list(doc) for doc in docs], "lang": lang, **more})
     if "search_index.json" in leave_out:

@@ -15,6 +15,7 @@ from tests.browser_page import ADDRESSES, BODY, SITES, Page, site
 from tests.browser_policy import GERMAN, own_words
 from tests.browser_sentences import PAGES
 from tests.browser_tools import WRONG, must
+from tools import search_page
 from tools.repository import printed
 
 READER = ["elasticlunr-languages.js", "elasticlunr-pieces.js"]
@@ -30,8 +31,7 @@ MISSING = "the server answered 404"
 def compare(world, name, index, queries, size):
     text, renamed = pieces.renamed(index)
     world.write(f"{name}.json", text)
-    for file, content in pieces_model.files(index, size).items():
-        world.write(f"{name}/{file}", content)
+    pieces_model.write(index, os.path.join(world.folder, name), size)
     world.write(f"{name}.queries.json", json.dumps(queries))  # a file may have half a character
     answer = world.call(READER, "pieces", f"{name}.json", name, f"{name}.queries.json", renamed)
     must(answer["queries"] and not answer["differ"], answer)
@@ -107,14 +107,19 @@ def pages_again():
     return [(f"pieces, {name}", in_pieces(case)) for name, case in named if not any(words in name for words in OF_WHOLE)]
 
 
-def folder_of(world, name):
+def head_of(world, name):
     with open(os.path.join(world.folder, name, "search", "search.json"), encoding="utf-8") as file:
-        return json.load(file)["folder"]
+        return json.load(file)
 
 
 def path_of(world, name, file):
     """The path of a piece at the server."""
-    return f"{name}/search/{folder_of(world, name)}/{file}.json"
+    return f"{name}/search/{head_of(world, name)['folder']}/{file}.json"
+
+
+def piece_of(world, name, token):
+    """The path of the piece that begins with a token."""
+    return path_of(world, name, f"t{head_of(world, name)['tries'].index(token)}")
 
 
 DOCS = [["one.html", "Alpha", "the same words"], ["two.html", "Beta", "the same words again"], ["three.html", "Gamma", "other words"]]
@@ -150,9 +155,7 @@ def fault_of_trie(wrong):
         name = "fault-trie"
         page = Page(world, fresh(world, name))
         page.type("other")
-        with open(os.path.join(world.folder, name, "search", "search.json"), encoding="utf-8") as file:
-            number = json.load(file)["tries"].index("same")
-        piece = path_of(world, name, f"t{number}")
+        piece = piece_of(world, name, "same")
         world.server.wrong[piece] = wrong
         page.type("same")
         said = page.status()
@@ -221,27 +224,30 @@ def more_later(world):
     must(page.titles() == [f"Page {number}" for number in range(40)], page.titles())
 
 
+ARRIVED = "performance.getEntriesByType('resource').some((one) => one.responseEnd > 0 && one.name.endsWith({}))"
+
+
 def another_query(world):
     """A query while another one is loading: what came last is shown, and what came late isn't."""
     name = "another-query"
     page = Page(world, fresh(world, name))
     page.type("other")
-    with open(os.path.join(world.folder, name, "search", "search.json"), encoding="utf-8") as file:
-        head = json.load(file)
-    held = world.hold(path_of(world, name, f"t{head['tries'].index('same')}"))
-    page.query().clear()
-    page.query().send_keys("same")
+    piece = piece_of(world, name, "same")
+    held = world.hold(piece)
+    box = page.query()
+    box.clear()
+    box.send_keys("same")
     page.until(lambda: page.script("document.getElementById('status').textContent") == "Loading the index …")
     must(page.script("document.getElementById('results').ariaBusy") == "true", "not busy")
-    page.query().clear()
-    page.query().send_keys("gamma")
-    must(page.titles() == ["Gamma"] and page.status() == "1 page", [page.titles(), page.status()])
+    box.clear()
+    box.send_keys("gamma")
+    page.until(lambda: page.titles() == ["Gamma"] and page.status() == "1 page")
     held.set()
-    page.until(lambda: page.script("performance.getEntriesByType('resource').some((one) => one.responseEnd && one.name.endsWith('" + f"t{head['tries'].index('same')}" + ".json'))"))
+    page.until(lambda: page.script(ARRIVED.format(json.dumps(piece))))
     must(page.titles() == ["Gamma"] and page.status() == "1 page", [page.titles(), page.status()])
     page.type("same")
     must(page.titles() == ["Alpha", "Beta"], page.titles())
-    must(len([path for path in world.server.asked if path == path_of(world, name, f"t{head['tries'].index('same')}")]) == 1, "fetched again")
+    must(world.server.asked.count(piece) == 1, "fetched again")
 
 
 def keys_while_loading(world):
@@ -251,8 +257,7 @@ def keys_while_loading(world):
                        ("ESCAPE", lambda page: page.query().get_attribute("value") == "" and not page.titles() and page.status() == "")]:
         page = Page(world, fresh(world, name))
         world.write(f"{name}/one.html", "<title>one</title>")
-        with open(os.path.join(world.folder, name, "search", "search.json"), encoding="utf-8") as file:
-            path = path_of(world, name, f"t{json.load(file)['tries'].index('same')}")
+        path = piece_of(world, name, "same")
         world.server.held.pop(path, None)
         held = world.hold(path)
         page.query().send_keys("same")
@@ -269,11 +274,11 @@ def published_again(world):
     name = "published-again"
     page = Page(world, fresh(world, name))
     page.type("same")
-    old = folder_of(world, name)
+    old = head_of(world, name)["folder"]
     shutil.rmtree(os.path.join(world.folder, name, "search"))
     index = printed({"fields": ["title", "body"], "docs": [["one.html", "Alpha", "other words"], ["four.html", "Delta", "the same news"]]})
     browser_page.write_pieces(os.path.join(world.folder, name, "search"), index)
-    must(folder_of(world, name) != old, "one folder")
+    must(head_of(world, name)["folder"] != old, "one folder")
     page.type("words")
     must(page.titles() == ["Alpha"] and page.marks() == ["words"], [page.titles(), page.status()])
     must("other words" in page.all("p.excerpt")[0].text, page.all("p.excerpt")[0].text)
@@ -298,18 +303,15 @@ def too_many(world):
 def addresses_of_folders(world):
     """The attribute names a folder, whose name may have special characters, or is an address."""
     name = "named-folders"
-    page = fresh(world, name)
+    fresh(world, name)
     for folder in ["100% #1?", "sub folder/50%25/a&b=ü"]:
         shutil.copytree(os.path.join(world.folder, name, "search"), os.path.join(world.folder, name, folder))
     for folder in ["search/", "100% #1?", "sub folder/50%25/a&b=ü/", world.url + name + "/search", world.url + name + "/search/"]:
-        text = os.path.join(world.folder, name, "search.html")
-        fresh_page = os.path.join(world.folder, name, "named.html")
-        shutil.copy(text, fresh_page)
-        browser_page.edit(fresh_page, {'data-pieces="search"': f'data-pieces="{html.escape(folder)}"'})
+        page = shutil.copy(os.path.join(world.folder, name, "search.html"), os.path.join(world.folder, name, "named.html"))
+        search_page.edit(page, {'data-pieces="search"': f'data-pieces="{html.escape(folder)}"'})
         opened = Page(world, f"{name}/named.html")
         opened.type("same")
         must(opened.titles() == ["Alpha", "Beta"], [folder, opened.status()])
-    must(page, page)
 
 
 def says(name, part, leave_out=(), index=None, edits=None, without_reader=False):
@@ -341,13 +343,12 @@ def messages():
 def hostile_texts(world):
     """Pieces whose tokens, references and texts would run a script or change every object."""
     run = "document.title='run'"
-    docs = [[f"javascript:{run}", f"<img src=x onerror={run}>", f"<script>{run}</script> letters __proto__"], ["__proto__", "</p><b>letters</b>", "constructor"]]
-    page = Page(world, fresh(world, "hostile-pieces", docs, edits={BODY: ADDRESSES}))
+    docs = [[f"javascript:{run}", f"<img src=x onerror={run}>", f"<script>{run}</script> letters __proto__"], ["__proto__", "</p><b>letters", "constructor"]]
+    path = fresh(world, "hostile-pieces", docs, edits={BODY: ADDRESSES})
     world.write("hostile-pieces/addresses.json", "{}")
-    page = Page(world, "hostile-pieces/search.html")
-    for text in ["letters", "__proto__", "constructor", "<script>", "img"]:
+    page = Page(world, path)
+    for text in ["__proto__", "constructor", "<script>", "img", "letters"]:
         page.type(text)
-    page.type("letters")
     must(sorted(title.text for title in page.all("#results a, #results b")) == sorted(doc[1] for doc in docs), page.titles())
     must(not page.all("#results img, #results script, #results b b") and page.driver.title == "Search", "markup was taken for markup")
     must(page.script("({}).polluted === undefined && Object.keys(Object.prototype).length === 0"), "every object is changed")

@@ -40,8 +40,8 @@ GROUPS = [
 LEAST = {
     "compare_search": 900,
     "pieces": 7_000,
-    "browser": 170,
-    "forgeries compare_search pieces browser": 23,
+    "browser": 260,
+    "forgeries compare_search pieces browser": 29,
     "compare_random": 13_000,
     "refuse_memory": 2_000,
     "refuse_calls": 140,

@@ -1,0 +1,116 @@
+#!/usr/bin/env python3
+"""Prints the sizes of indexes in pieces, and what a first query fetches of them, next to the whole index.
+
+usage: pieces_sizes.py [--model] [NAME ..]
+
+The names are `book` (tests/browser_book.py), `sections` (400 of its sections), and numbers of pages, which bench/make_job.py
+writes; without names all of SITES. The command writes each index whole and in pieces of 16 KB. With --model the program
+elasticlunr_index prints it, and tests/pieces_model.py cuts it.
+
+All sizes are bytes after `gzip -9`. A query is two words of a title, each found by its beginning, in a page that has nothing
+yet: it fetches the head, the pieces of its words, and the texts of the ten best pages. The reader in browser/ says which
+(pieces_queries.js). The seconds are those of the command, with and without the pieces.
+"""
+import argparse
+import gzip
+import json
+import os
+import random
+import statistics
+import subprocess
+import sys
+import tempfile
+import time
+
+sys.path.insert(0, os.path.join(os.path.dirname(__file__), ".."))
+
+from tests import browser_book, pieces_model
+from tools import search_page
+from tools.repository import TOP, program, read, write
+
+SITES = ["book", "sections", "2000", "16000"]
+SECTIONS = 400
+QUERIES = 200
+READER = [os.path.join(TOP, "browser", name) for name in ("elasticlunr-languages.js", "elasticlunr-pieces.js")]
+
+
+def job_of(name, folder):
+    """The path of a job."""
+    path = os.path.join(folder, "job.json")
+    if name.isdecimal():
+        with open(path, "wb") as file:
+            subprocess.run([sys.executable, os.path.join(TOP, "bench", "make_job.py"), "--docs", name], stdout=file, check=True)
+        return path
+    sections = browser_book.book(SECTIONS) if name == "sections" else browser_book.book()
+    return write(path, json.dumps({"fields": ["title", "body"], "docs": [list(section) for section in sections]}))
+
+
+def seconds_of(*words):
+    begun = time.monotonic()
+    subprocess.run([program("elasticlunr_cli"), "build", *words], stderr=subprocess.DEVNULL, check=True)
+    return time.monotonic() - begun
+
+
+def build(job, index, folder):
+    """Writes an index whole and in pieces by the command. Gives the seconds of both, and of the whole index alone."""
+    alone = seconds_of(job, "-o", index)
+    return f"{seconds_of(job, '-o', index, '--pieces', folder):.2f} s, {alone:.2f} s without the pieces"
+
+
+def model(job, index, folder):
+    with open(job, "rb") as given, open(index, "wb") as printed:
+        subprocess.run([program("elasticlunr_index")], stdin=given, stdout=printed, check=True)
+    pieces_model.write(read(index), folder)
+    return "cut by the model"
+
+
+def size(path):
+    with open(path, "rb") as file:
+        return len(gzip.compress(file.read(), 9))
+
+
+def queries(job):
+    rng = random.Random(20261127)
+    with open(job, encoding="utf-8") as file:
+        titles = [doc[1].split() for doc in json.load(file)["docs"]]
+    return [" ".join(rng.sample(title, min(2, len(title)))) for title in rng.choices(titles, k=QUERIES)]
+
+
+def fetched(folder, asked):
+    """For each query the bytes of the tries and of the texts that it fetches."""
+    command = ["node", os.path.join(TOP, "bench", "pieces_queries.js"), search_page.ELASTICLUNR, *READER, folder]
+    return json.loads(subprocess.run(command, input=json.dumps(asked).encode(), stdout=subprocess.PIPE, check=True).stdout)
+
+
+def kilobytes(number):
+    return f"{number / 1000:.1f}" if number < 10000 else f"{number / 1000:.0f}"
+
+
+def measure(name, make):
+    with tempfile.TemporaryDirectory() as room:
+        folder, index = os.path.join(room, "search"), os.path.join(room, "index.json")
+        job = job_of(name, room)
+        took = make(job, index, folder)
+        head, whole = size(os.path.join(folder, pieces_model.HEAD)), size(index)
+        with open(os.path.join(folder, pieces_model.HEAD), encoding="utf-8") as file:
+            about = json.load(file)
+        first = [head + sum(parts) for parts in fetched(folder, queries(job))]
+    pages = len(about["references"])
+    print(f"{name}: {pages} pages, whole index {kilobytes(whole)} kB; {len(about['tries'])} pieces of the tries, {len(about['texts'])} of the texts; "
+          f"head {kilobytes(head)} kB ({head / pages:.1f} bytes for each page); first query, median and most of {len(first)}: "
+          f"{kilobytes(statistics.median(first))} kB, {kilobytes(max(first))} kB; {took}", flush=True)
+
+
+def main():
+    parser = argparse.ArgumentParser(description=__doc__, formatter_class=argparse.RawDescriptionHelpFormatter)
+    parser.add_argument("--model", action="store_true")
+    parser.add_argument("names", nargs="*", metavar="NAME")
+    options = parser.parse_args()
+    if not search_page.fetch():
+        sys.exit("pieces_sizes.py: elasticlunr.min.js isn't there")
+    for name in options.names or SITES:
+        measure(name, model if options.model else build)
+
+
+if __name__ == "__main__":
+    main()

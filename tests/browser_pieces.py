@@ -343,7 +343,7 @@ def messages():
 def hostile_texts(world):
     """Pieces whose tokens, references and texts would run a script or change every object."""
     run = "document.title='run'"
-    docs = [[f"javascript:{run}", f"<img src=x onerror={run}>", f"<script>{run}</script> letters __proto__"], ["__proto__", "</p><b>letters", "constructor"]]
+    docs = [[f"javascript:{run}", f"<img src=x onerror={run}>", f"<script>{run}</script> letters __proto__"], ["__proto__", "</p><b> letters", "constructor"]]
     path = fresh(world, "hostile-pieces", docs, edits={BODY: ADDRESSES})
     world.write("hostile-pieces/addresses.json", "{}")
     page = Page(world, path)

@@ -13,6 +13,7 @@ require(languages)(elasticlunr);
 const { open } = require(reader)(elasticlunr);
 
 const BEST = 10;
+const MOST = 8; // PIECES of browser/search.js
 const sizes = new Map();
 
 function sizeOf(name) {
@@ -28,7 +29,7 @@ async function main() {
       fetched.push(name);
       return fs.readFileSync(path.join(folder, name), "utf8");
     });
-    const hits = await site.search(query, { expand: true, maxPieces: Number(process.env.MP || 24) });
+    const hits = await site.search(query, { expand: true, maxPieces: MOST });
     for (const hit of hits.slice(0, BEST)) await site.doc(hit.ref);
     const sum = (kind) => fetched.filter((name) => kind.test(name)).map(sizeOf).reduce((all, one) => all + one, 0);
     told.push([sum(/\/t\d+\.json$/), sum(/\/d\d+\.json$/)]);

@@ -1,15 +1,15 @@
 #!/usr/bin/env python3
-"""Prints the sizes of indexes in pieces, and what a first query fetches of them, next to the whole index.
+"""Prints a table of the sizes of indexes in pieces, and of what a first query fetches of them, next to the whole index.
 
-usage: pieces_sizes.py [--model] [NAME ..]
+usage: pieces_sizes.py [--model] [SITE ..]
 
-The names are `book` (tests/browser_book.py), `sections` (400 of its sections), and numbers of pages, which bench/make_job.py
-writes; without names all of SITES. The command writes each index whole and in pieces of 16 KB. With --model the program
-elasticlunr_index prints it, and tests/pieces_model.py cuts it.
+A site is `book` (tests/browser_book.py), or a number of pages, which bench/make_job.py writes; without sites all of SITES. The
+command writes each index whole and in pieces of 16 KB. With --model the program elasticlunr_index prints it, and
+tests/pieces_model.py cuts it.
 
-All sizes are bytes after `gzip -9`. A query is two words of a title, each found by its beginning, in a page that has nothing
-yet: it fetches the head, the pieces of its words, and the texts of the ten best pages. The reader in browser/ says which
-(pieces_queries.js). The seconds are those of the command, with and without the pieces.
+All sizes are in kB after `gzip -9`. A query is two words of a title, searched as the search page does, in a page that has
+nothing yet: it fetches the head, the pieces of its words, and the texts of the ten best pages. pieces_queries.js runs it. The
+seconds are those of the command, for the whole index, and for both.
 """
 import argparse
 import gzip
@@ -28,9 +28,10 @@ from tests import browser_book, pieces_model
 from tools import search_page
 from tools.repository import TOP, program, read, write
 
-SITES = ["book", "sections", "2000", "16000"]
-SECTIONS = 400
+SITES = ["book", "400", "2000", "16000"]
 QUERIES = 200
+HEADING = """| Site | Pages | Whole index | Head | First query: half, nine tenths, all of 200 need at most | Pieces of tries, of texts | Seconds |
+|---|---|---|---|---|---|---|"""
 READER = [os.path.join(TOP, "browser", name) for name in ("elasticlunr-languages.js", "elasticlunr-pieces.js")]
 
 
@@ -41,8 +42,7 @@ def job_of(name, folder):
         with open(path, "wb") as file:
             subprocess.run([sys.executable, os.path.join(TOP, "bench", "make_job.py"), "--docs", name], stdout=file, check=True)
         return path
-    sections = browser_book.book(SECTIONS) if name == "sections" else browser_book.book()
-    return write(path, json.dumps({"fields": ["title", "body"], "docs": [list(section) for section in sections]}))
+    return write(path, json.dumps({"fields": ["title", "body"], "docs": [list(section) for section in browser_book.book()]}))
 
 
 def seconds_of(*words):
@@ -52,16 +52,16 @@ def seconds_of(*words):
 
 
 def build(job, index, folder):
-    """Writes an index whole and in pieces by the command. Gives the seconds of both, and of the whole index alone."""
+    """Writes an index whole and in pieces by the command. Gives the seconds of the whole index, and of both."""
     alone = seconds_of(job, "-o", index)
-    return f"{seconds_of(job, '-o', index, '--pieces', folder):.2f} s, {alone:.2f} s without the pieces"
+    return f"{alone:.2f}, {seconds_of(job, '-o', index, '--pieces', folder):.2f}"
 
 
 def model(job, index, folder):
     with open(job, "rb") as given, open(index, "wb") as printed:
         subprocess.run([program("elasticlunr_index")], stdin=given, stdout=printed, check=True)
     pieces_model.write(read(index), folder)
-    return "cut by the model"
+    return "not measured"
 
 
 def size(path):
@@ -96,19 +96,22 @@ def measure(name, make):
             about = json.load(file)
         first = [head + sum(parts) for parts in fetched(folder, queries(job))]
     pages = len(about["references"])
-    print(f"{name}: {pages} pages, whole index {kilobytes(whole)} kB; {len(about['tries'])} pieces of the tries, {len(about['texts'])} of the texts; "
-          f"head {kilobytes(head)} kB ({head / pages:.1f} bytes for each page); first query, median and most of {len(first)}: "
-          f"{kilobytes(statistics.median(first))} kB, {kilobytes(max(first))} kB; {took}", flush=True)
+    nine_tenths = sorted(first)[len(first) * 9 // 10]
+    columns = [name, f"{pages:,}", kilobytes(whole), f"{kilobytes(head)} ({head / pages:.1f} bytes a page)",
+               ", ".join(map(kilobytes, (statistics.median(first), nine_tenths, max(first)))),
+               f"{len(about['tries'])}, {len(about['texts'])}", took]
+    print(f"| {' | '.join(columns)} |", flush=True)
 
 
 def main():
     parser = argparse.ArgumentParser(description=__doc__, formatter_class=argparse.RawDescriptionHelpFormatter)
     parser.add_argument("--model", action="store_true")
-    parser.add_argument("names", nargs="*", metavar="NAME")
+    parser.add_argument("sites", nargs="*", metavar="SITE")
     options = parser.parse_args()
     if not search_page.fetch():
         sys.exit("pieces_sizes.py: elasticlunr.min.js isn't there")
-    for name in options.names or SITES:
+    print(HEADING)
+    for name in options.sites or SITES:
         measure(name, model if options.model else build)
 
 

@@ -30,6 +30,7 @@ from tools.repository import TOP, program, read, write
 
 SITES = ["book", "400", "2000", "16000"]
 QUERIES = 200
+DEEP = 20000  # characters of a token, whose node nests as deep
 HEADING = """| Site | Pages | Whole index | Head | First query: half, nine tenths, all of 200 need at most | Pieces of tries, of texts | Seconds |
 |---|---|---|---|---|---|---|"""
 READER = [os.path.join(TOP, "browser", name) for name in ("elasticlunr-languages.js", "elasticlunr-pieces.js")]
@@ -58,6 +59,7 @@ def build(job, index, folder):
 
 
 def model(job, index, folder):
+    sys.setrecursionlimit(DEEP)
     with open(job, "rb") as given, open(index, "wb") as printed:
         subprocess.run([program("elasticlunr_index")], stdin=given, stdout=printed, check=True)
     pieces_model.write(read(index), folder)

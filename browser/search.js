@@ -12,7 +12,7 @@
   const STEP = 100; // words that are read between two looks at the clock
   const TEXTS = 100; // texts that stay cut into words
   const VOCABULARY = 200000; // words whose tokens are remembered
-  const PIECES = 24; // of an index that are fetched for the words that begin so
+  const PIECES = 8; // of an index that are fetched at most for the words that begin like one of the query
   const SLOW = 200; // milliseconds of a search after which the page says that it is loading
 
   const ENGLISH = {

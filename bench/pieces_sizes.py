@@ -8,8 +8,8 @@ command writes each index whole and in pieces of 16 KB. With --model the program
 tests/pieces_model.py cuts it.
 
 All sizes are in kB after `gzip -9`. A query is two words of a title, searched as the search page does, in a page that has
-nothing yet: it fetches the head, the pieces of its words, and the texts of the ten best pages. pieces_queries.js runs it. The
-seconds are those of the command, for the whole index, and for both.
+nothing yet: it fetches the head, the pieces of its words, and the texts of the ten best pages. pieces_queries.js runs it in
+node; the milliseconds are without a network. The seconds are those of the command, for the whole index, and for both.
 """
 import argparse
 import gzip
@@ -31,8 +31,8 @@ from tools.repository import TOP, program, read, write
 SITES = ["book", "400", "2000", "16000"]
 QUERIES = 200
 DEEP = 20000  # characters of a token, whose node nests as deep
-HEADING = """| Site | Pages | Whole index | Head | First query: half, nine tenths, all of 200 need at most | Pieces of tries, of texts | Seconds |
-|---|---|---|---|---|---|---|"""
+HEADING = """| Site | Pages | Whole index | Head | First query: median, nine tenths, most | In milliseconds | Pieces of tries, of texts | Seconds |
+|---|---|---|---|---|---|---|---|"""
 READER = [os.path.join(TOP, "browser", name) for name in ("elasticlunr-languages.js", "elasticlunr-pieces.js")]
 
 
@@ -79,13 +79,19 @@ def queries(job):
 
 
 def fetched(folder, asked):
-    """For each query the bytes of the tries and of the texts that it fetches."""
+    """For each query the bytes of the tries and of the texts that it fetches, and its milliseconds."""
     command = ["node", os.path.join(TOP, "bench", "pieces_queries.js"), search_page.ELASTICLUNR, *READER, folder]
     return json.loads(subprocess.run(command, input=json.dumps(asked).encode(), stdout=subprocess.PIPE, check=True).stdout)
 
 
 def kilobytes(number):
     return f"{number / 1000:.1f}" if number < 10000 else f"{number / 1000:.0f}"
+
+
+def spread(numbers, show):
+    """The median, what nine tenths of the numbers don't exceed, and the greatest."""
+    ordered = sorted(numbers)
+    return ", ".join(map(show, (statistics.median(ordered), ordered[len(ordered) * 9 // 10], ordered[-1])))
 
 
 def measure(name, make):
@@ -96,11 +102,10 @@ def measure(name, make):
         head, whole = size(os.path.join(folder, pieces_model.HEAD)), size(index)
         with open(os.path.join(folder, pieces_model.HEAD), encoding="utf-8") as file:
             about = json.load(file)
-        first = [head + sum(parts) for parts in fetched(folder, queries(job))]
+        told = fetched(folder, queries(job))
     pages = len(about["references"])
-    nine_tenths = sorted(first)[len(first) * 9 // 10]
     columns = [name, f"{pages:,}", kilobytes(whole), f"{kilobytes(head)} ({head / pages:.1f} bytes a page)",
-               ", ".join(map(kilobytes, (statistics.median(first), nine_tenths, max(first)))),
+               spread([head + tries + texts for tries, texts, _ in told], kilobytes), spread([it for *_, it in told], lambda it: f"{it:.0f}"),
                f"{len(about['tries'])}, {len(about['texts'])}", took]
     print(f"| {' | '.join(columns)} |", flush=True)
 

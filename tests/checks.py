@@ -41,7 +41,7 @@ LEAST = {
     "compare_search": 900,
     "pieces": 7_000,
     "browser": 260,
-    "forgeries compare_search pieces browser": 29,
+    "forgeries compare_search pieces browser": 31,
     "compare_random": 13_000,
     "refuse_memory": 2_000,
     "refuse_calls": 140,

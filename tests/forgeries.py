@@ -235,6 +235,8 @@ READERS = {
     "a reader that fetches each piece": ("byBytes(first, word) <= 0", "true", r"pieces, \w+: \{.*: fetches \d+ pieces"),
     "a reader that fetches a piece again": ("!this.files.has(name)", "true", "pieces, calls that overlap: "),
     "a reader that keeps what failed": ("this.files.delete(name);", "", "pieces, a fetch that fails once: "),
+    "a reader that gives no cause": ("if (cause) error.cause = cause;", "", "pieces, a fetch that fails once: "),
+    "a reader whose words are everywhere": ("hasOwn(this.found.in(at, token).docs, name)", "true", "pieces, the words of a query: "),
     "a reader that takes any piece": ("tokens[0] !== tries[number]", "false", "pieces, a piece of another form: "),
     "a reader that stays with an old head": ("this.pieces = newer;", "this.pieces;", "pieces, a head that is replaced: "),
     "a reader that takes names of every object": ("name in Object.prototype ||", "", r"pieces, \w+: \{.*: "),

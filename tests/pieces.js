@@ -147,12 +147,24 @@ function withoutPipeline(given) {
 }
 
 const piece = (head, name) => head.folder + "/" + name + ".json";
-const like = (name) => (error) => error instanceof Error && error.file === name && error.message.startsWith(name + ": ");
+const isJson = (text) => {
+  try {
+    return JSON.parse(text) !== undefined;
+  } catch (error) {
+    return false;
+  }
+};
+
+// An error that names a file. It has a cause if there was no JSON text.
+function like(name, answer) {
+  const isCause = (cause) => (isJson(answer) ? cause === undefined : cause instanceof Error);
+  return (error) => error instanceof Error && error.file === name && error.message.startsWith(name + ": ") && isCause(error.cause);
+}
 
 // A call that fails by one wrong answer for a file names it, and the next call is right.
 async function failsOnce(server, name, answer, call) {
   server.answerOnce(name, answer);
-  await assert.rejects(call, like(name), `${name}, as ${String(answer).slice(0, 60)}`);
+  await assert.rejects(call, like(name, answer), `${name}, as ${String(answer).slice(0, 60)}`);
   await call();
 }
 
@@ -353,6 +365,27 @@ const CASES = {
     for (let turn = 0; turn < 2; turn++) await opened.doc(references[0]);
     assert.deepStrictEqual(server.fetched, [HEAD, piece(server.head(), "d0")]);
     for (const maxPieces of [0, -1, null, "x", NaN]) await assert.rejects(() => opened.search(tries[0], { maxPieces }), /maxPieces/);
+  },
+
+  async "the words of a query"({ site }) {
+    const { index, files } = withoutPipeline(site), opened = await open(new Server(files).get), { tries, references } = JSON.parse(files[HEAD]);
+    assert(piecesFor("b", true, tries) > 1);
+    for (const options of [{ expand: true }, { expand: true, maxPieces: 1 }, { expand: false }, {}]) {
+      const { hits, words } = await opened.lookUp("b beta1 nowhere b", options), isExpanded = expansion({ tries }, options);
+      assert.deepStrictEqual(bits(hits), bits(await opened.search("b beta1 nowhere b", options)));
+      assert.deepStrictEqual(words.map((word) => word.text).sort(), ["b", "beta1", "nowhere"]);
+      for (const word of words) {
+        assert.strictEqual(word.isExpanded, Boolean(options.expand) && isExpanded(word.text));
+        const finds = (token) => (word.isExpanded ? token.startsWith(word.text) : token === word.text);
+        for (const token of ["b", "beta1", "beta10", "a"]) assert.strictEqual(word.finds(token), finds(token), `${word.text}, ${token}`);
+        const tokens = (field) => (word.isExpanded ? index.index[field].expandToken(word.text) : [word.text]);
+        const isIn = (reference, field) => tokens(field).some((token) => reference in index.index[field].getDocs(token));
+        for (const field of opened.fields) for (const one of references) assert.strictEqual(word.isIn(one, field), isIn(one, field), word.text);
+        const want = references.filter((reference) => opened.fields.some((field) => isIn(reference, field)));
+        assert.deepStrictEqual([...word.references()].sort(), want);
+      }
+    }
+    assert.deepStrictEqual(opened.tokens("Beta1 two-words"), ["beta1", "two", "words"]);
   },
 
   async "names that every object has"({ hostile }) {

@@ -38,7 +38,7 @@ READER = os.path.join(TOP, "browser/elasticlunr-pieces.js")
 DRIVER = os.path.join(TOP, "tests/pieces.js")
 SHOWN = 10  # failures that are printed
 SECONDS = 600
-CASES = 19  # of pieces.js
+CASES = 20  # of pieces.js
 # For each kind of index: how many queries each gets, and how many of them must find something
 LEAST = {"examples": (60, 0.35), "pages": (300, 0.35), "random": (24, 0.35), "characters": (24, 0.35)}
 FEW_PIECES = 5  # most indexes have more

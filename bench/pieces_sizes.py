@@ -48,7 +48,7 @@ def job_of(name, folder):
 
 def seconds_of(*words):
     begun = time.monotonic()
-    subprocess.run([program("elasticlunr_cli"), "build", *words], stderr=subprocess.DEVNULL, check=True)
+    subprocess.run([program("elasticlunr_cli"), "build", "--format", "job", *words], stderr=subprocess.DEVNULL, check=True)
     return time.monotonic() - begun
 
 

@@ -227,7 +227,7 @@ def forged_pages(folder):
 
 # Readers of pieces: a text of the reader, what it is replaced by, and what the check must say
 READERS = {
-    "a reader that adds scores in the order of bytes": ("code >= 48 && code <= 57 ? code - 58 : code", "code", r"pieces, \w+: \{.*, \["),
+    "a reader that adds scores in the order of bytes": ("code >= 48 && code <= 57 ? code - 58 : code", "code", "pieces, sums in the order of a trie: "),
     "a reader that orders by UTF-16": (".codePointAt(at)", ".charCodeAt(at)", r"pieces, characters: .*Error: "),
     "a reader that counts a document more": ("count: list.length / 2", "count: list.length / 2 + 1", r"pieces, \w+: \{.* hits and not "),
     "a reader that finds nothing": ("(await this.lookUp(query, options)).hits", "[]", r"pieces, \w+: \{.*: 0 hits and not "),

@@ -388,6 +388,15 @@ const CASES = {
     assert.deepStrictEqual(opened.tokens("Beta1 two-words"), ["beta1", "two", "words"]);
   },
 
+  // Doubles have another sum in another order. Here digits, which come first in an object, meet characters before and after them.
+  async "sums in the order of a trie"({ sums }) {
+    for (const word of ["a", "a.", "a0", "a9", "a:"]) {
+      const want = searchWhole(sums.index, word, { expand: true }, sums.names);
+      assert.deepStrictEqual(bits(await sums.site.search(word, { expand: true })), want, word);
+      assert(want.length > 0, word);
+    }
+  },
+
   async "names that every object has"({ hostile }) {
     const before = JSON.stringify(Object.getOwnPropertyNames(Object.prototype)), names = Object.getOwnPropertyNames(Object.prototype);
     const hits = await hostile.site.search("word", {});

@@ -31,7 +31,8 @@ calls:
 	@python3 tools/build.py elasticlunr_vectors
 	@cd crates/elasticlunr_test_calls && rt test > /dev/null
 
-# The search page over the indexes of examples/ in three languages, on http://127.0.0.1:$(PORT)/.
+# The search page over the indexes of examples/ in three languages, and over one of 2,000 pages in pieces, on
+# http://127.0.0.1:$(PORT)/.
 demo: build
 	@python3 tools/demo.py $(PORT)
 

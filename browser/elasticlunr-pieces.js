@@ -8,11 +8,16 @@
    In node: require("./elasticlunr-pieces.js")(elasticlunr).open(async (name) => ..).
 
    `open` takes the address of the folder of search.json, or a function that gives the text of a file of that folder by name.
-   Scores and order are those of `index.search` of elasticlunr.js on the whole index, with the same options. One is added:
-   `minimum` (2) is how many characters a word has to have so that `expand` finds longer ones by it.
+   Scores and order are those of `index.search` of elasticlunr.js on the whole index, with the same options. One is added: with
+   `maxPieces` a word that begins the words of more pieces than that finds itself alone, though `expand` is true. Without it
+   the letter `s` fetches each word that begins so.
 
-   What can't be fetched, or isn't what search.json says, is an Error whose `file` is the file's name. The next call tries
-   again. References such as `__proto__`, which break elasticlunr.js, are found like any other. */
+   `site.lookUp(query, options)` gives the hits, and each word of the query with the documents that have it. `site.tokens(text)`
+   has the tokens of a text, `site.fields` the names of the fields, and `site.folder` changes with each other index.
+
+   What can't be fetched, or isn't what search.json says, is an Error whose `file` is the file's name. Its `cause` is why there
+   is no JSON text; without a `cause` the text isn't what was expected. The next call tries again. References such as
+   `__proto__`, which break elasticlunr.js, are found like any other. */
 (function (make) {
   "use strict";
   if (typeof module === "object" && module.exports) module.exports = make;
@@ -22,7 +27,6 @@
   "use strict";
 
   const HEAD = "search.json";
-  const MINIMUM = 2; // characters of a word that `expand` makes longer
   const NOTHING = { docs: {}, count: 0 }; // the postings of a token that the index doesn't have
 
   // Order. JavaScript compares UTF-16, which isn't the order of bytes above U+FFFF: here characters are compared.
@@ -67,9 +71,10 @@
 
   // Files.
 
-  function fault(name, why) {
+  function fault(name, why, cause) {
     const error = new Error(name + ": " + why);
     error.file = name;
+    if (cause) error.cause = cause;
     return error;
   }
 
@@ -88,15 +93,16 @@
     try {
       text = await get(name, cache);
     } catch (error) {
-      throw fault(name, "can't be fetched: " + (error instanceof Error ? error.message : error));
+      throw fault(name, "can't be fetched: " + (error instanceof Error ? error.message : error), error || new Error("no reason"));
     }
     try {
       return JSON.parse(text);
     } catch (error) {
-      throw fault(name, "is cut short, or no JSON: " + error.message);
+      throw fault(name, "is cut short, or no JSON: " + error.message, error);
     }
   }
 
+  const hasOwn = (holder, name) => Object.prototype.hasOwnProperty.call(holder, name);
   const isObject = (value) => typeof value === "object" && value !== null && !Array.isArray(value);
   const isText = (value) => typeof value === "string";
   const isListOf = (value, isItem) => Array.isArray(value) && value.every(isItem);
@@ -125,7 +131,7 @@
   // The stages have to be there: elasticlunr.js takes `constructor` for one.
   function checkStages(head) {
     const known = elasticlunr.Pipeline.registeredFunctions;
-    const unknown = head.pipeline.find((stage) => !Object.prototype.hasOwnProperty.call(known, stage));
+    const unknown = head.pipeline.find((stage) => !hasOwn(known, stage));
     if (unknown === undefined) return;
     throw fault(HEAD, "no script has its stage " + JSON.stringify(unknown) + "; load the script of its language first");
   }
@@ -141,17 +147,17 @@
   // What takes the place of a trie while elasticlunr.js searches. Of a trie it calls `expandToken`, `getDocs`, `getDocFreq` and,
   // for what it found, `getTermFrequency`.
 
-  // Finds nothing, and remembers which words a query looks up. So elasticlunr.js itself says what it needs.
+  // Finds nothing, and remembers which words a query looks up. So elasticlunr.js itself says what it needs. A word is expanded
+  // if `isExpanded` says so.
   class Wanted {
-    constructor(minimum) {
-      this.minimum = minimum;
+    constructor(isExpanded) {
+      this.isExpanded = isExpanded;
       this.words = new Set();
       this.starts = new Set();
     }
 
     expandToken(token) {
-      const isLong = Array.from(token).length >= this.minimum;
-      (isLong ? this.starts : this.words).add(token);
+      (this.isExpanded(token) ? this.starts : this.words).add(token);
       return [];
     }
 
@@ -165,34 +171,78 @@
     }
   }
 
-  // The tokens of one field that were fetched for a query.
-  class Trie {
-    constructor(postings, field, wanted) {
-      this.postings = postings;
-      this.field = field;
-      this.wanted = wanted;
+  // The tokens that a query needs, in the order of a trie, each with its postings in each field.
+  class Found {
+    constructor(wanted, pieces) {
+      const all = [].concat(...pieces.map((piece) => [...piece])), starts = [...wanted.starts];
+      const isNeeded = (token) => wanted.words.has(token) || starts.some((start) => begins(token, start));
+      const needed = all.filter(([token]) => isNeeded(token)).sort(([one], [other]) => asInTries(one, other));
+      const tokens = needed.map(([token]) => token);
+      this.postings = new Map(needed);
+      this.longer = new Map(starts.map((start) => [start, tokens.filter((token) => begins(token, start))]));
     }
 
-    of(token) {
+    // The tokens that a word finds, of all fields.
+    tokens(word) {
+      return this.longer.get(word) || [word];
+    }
+
+    in(field, token) {
       const lists = this.postings.get(token);
-      return lists ? lists[this.field] : NOTHING;
+      return lists ? lists[field] : NOTHING;
+    }
+  }
+
+  // The tokens of one field. Those without postings in it change nothing.
+  class Trie {
+    constructor(found, field) {
+      this.found = found;
+      this.field = field;
     }
 
-    // The tokens that begin so, in the order of a trie. One without postings in this field changes nothing.
-    expandToken(start) {
-      return this.wanted.starts.has(start) ? [...this.postings.keys()].filter((token) => begins(token, start)) : [start];
+    expandToken(word) {
+      return this.found.tokens(word);
     }
 
     getDocs(token) {
-      return this.of(token).docs;
+      return this.found.in(this.field, token).docs;
     }
 
     getDocFreq(token) {
-      return this.of(token).count;
+      return this.found.in(this.field, token).count;
     }
 
     getTermFrequency(token, name) {
-      return this.of(token).docs[name];
+      return this.getDocs(token)[name];
+    }
+  }
+
+  // A word of a query, as the stages output it, and the documents that have it or, if it is expanded, a word that begins so.
+  class Word {
+    constructor(text, found, pieces) {
+      this.text = text;
+      this.isExpanded = found.longer.has(text);
+      this.found = found;
+      this.pieces = pieces;
+    }
+
+    finds(token) {
+      return this.isExpanded ? begins(token, this.text) : token === this.text;
+    }
+
+    // Whether the document of this reference has it in this field.
+    isIn(reference, field) {
+      const name = this.pieces.names[this.pieces.numbers.get(reference)], at = this.pieces.head.fields.indexOf(field);
+      return this.found.tokens(this.text).some((token) => hasOwn(this.found.in(at, token).docs, name));
+    }
+
+    // The references of the documents that have it in any field.
+    references() {
+      const names = new Set();
+      for (const token of this.found.tokens(this.text)) {
+        for (const { docs } of this.found.postings.get(token) || []) for (const name in docs) names.add(name);
+      }
+      return new Set([...names].map((name) => this.pieces.references.get(name)));
     }
   }
 
@@ -216,6 +266,7 @@
       this.numbers = new Map(head.references.map((reference, number) => [reference, number]));
       this.references = new Map(this.names.map((name, number) => [name, head.references[number]]));
       this.store = this.makeStore();
+      this.pipeline = elasticlunr.Pipeline.load(head.pipeline);
       this.files = new Map();
       this.failed = new Set();
     }
@@ -299,14 +350,11 @@
       return numbers;
     }
 
-    // The postings of the pieces in which the wanted words may stand, in the order of a trie.
-    async fetchPostings(wanted) {
+    async fetchFound(wanted) {
       const numbers = new Set();
       for (const word of wanted.words) this.numbersOf(word, false).forEach((number) => numbers.add(number));
       for (const start of wanted.starts) this.numbersOf(start, true).forEach((number) => numbers.add(number));
-      const pieces = await Promise.all([...numbers].map((number) => this.tokensOf(number)));
-      const postings = [].concat(...pieces.map((piece) => [...piece]));
-      return new Map(postings.sort(([one], [other]) => asInTries(one, other)));
+      return new Found(wanted, await Promise.all([...numbers].map((number) => this.tokensOf(number))));
     }
 
     // An index of elasticlunr.js with these tries, one for the number of each field.
@@ -319,12 +367,13 @@
       return index;
     }
 
-    async search(query, options, minimum) {
-      const wanted = new Wanted(minimum);
+    async lookUp(query, options, maxPieces) {
+      const wanted = new Wanted((word) => this.numbersOf(word, true).length <= maxPieces);
       this.indexWith(() => wanted).search(query, options);
-      const postings = await this.fetchPostings(wanted);
-      const hits = this.indexWith((field) => new Trie(postings, field, wanted)).search(query, options);
-      return hits.map((hit) => ({ ref: this.references.get(hit.ref), score: hit.score }));
+      const found = await this.fetchFound(wanted), index = this.indexWith((field) => new Trie(found, field));
+      const hits = index.search(query, options).map((hit) => ({ ref: this.references.get(hit.ref), score: hit.score }));
+      const words = [...new Set([...wanted.starts, ...wanted.words])].map((word) => new Word(word, found, this));
+      return { hits, words };
     }
 
     async doc(reference) {
@@ -347,12 +396,28 @@
       this.renewal = null;
     }
 
-    // `query` and `options` may change while the pieces are fetched: they are copied.
+    get fields() {
+      return this.pieces.head.fields;
+    }
+
+    get folder() {
+      return this.pieces.head.folder;
+    }
+
+    tokens(text) {
+      return this.pieces.pipeline.run(elasticlunr.tokenizer(text));
+    }
+
     async search(query, options) {
+      return (await this.lookUp(query, options)).hits;
+    }
+
+    // `query` and `options` may change while the pieces are fetched: they are copied.
+    async lookUp(query, options) {
       const [text, copied] = JSON.parse(JSON.stringify([query, options]));
-      const minimum = options && options.minimum !== undefined ? options.minimum : MINIMUM;
-      if (!(minimum >= 1)) throw new Error("minimum: expected a number from 1");
-      return this.ask((pieces) => pieces.search(text, copied === null ? {} : copied, minimum));
+      const maxPieces = options && options.maxPieces !== undefined ? options.maxPieces : Infinity;
+      if (!(maxPieces >= 1)) throw new Error("maxPieces: expected a number from 1");
+      return this.ask((pieces) => pieces.lookUp(text, copied === null ? {} : copied, maxPieces));
     }
 
     async doc(reference) {

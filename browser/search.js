@@ -12,6 +12,8 @@
   const STEP = 100; // words that are read between two looks at the clock
   const TEXTS = 100; // texts that stay cut into words
   const VOCABULARY = 200000; // words whose tokens are remembered
+  const PIECES = 8; // of an index that are fetched at most for the words that begin like one of the query
+  const SLOW = 200; // milliseconds of a search after which the page says that it is loading
 
   const ENGLISH = {
     search: "Search",
@@ -24,18 +26,21 @@
     noneHasAll: "No page has all of this.",
     noneHasAny: "No page has any of this.",
     nothing: "Nothing to look for: the index leaves these words out.",
+    tooMany: "Too many words begin so. Type more of it.",
     notLoaded: "The search index could not be loaded: {reason}",
     refused: "The search index is refused: {reason}",
     noEngine: "elasticlunr.min.js is not there",
+    noReader: "elasticlunr-pieces.js is not there",
+    noText: "The text could not be loaded: {reason}",
     failed: "The search failed: {reason}",
   };
 
   const form = document.getElementById("form"), query = document.getElementById("query"), status = document.getElementById("status");
   const results = document.getElementById("results"), more = document.getElementById("more");
   let words = ENGLISH, plural = new Intl.PluralRules("en");
-  let index = null, addresses = {}, renamed = new Map();
-  let wanted = [], found = [], shown = 0;
-  let work = null, timer = 0;
+  let source = null, addresses = {}, renamed = new Map();
+  let wanted = [], found = [], shown = 0, bare = new Set();
+  let work = null, timer = 0, isWaiting = false, isSearching = false, slow = 0, next = null;
 
   // What the page says: in the words of the element `search-words` where it has them, and else in English.
 
@@ -70,10 +75,12 @@
     status.classList.toggle("bad", Boolean(bad));
   }
 
-  // Work is a generator, which stops where the browser may come in between. New work takes the place of what isn't done yet.
+  // Work is a generator, which stops where the browser may come in between, and gives a promise where it has to wait for one. New
+  // work takes the place of what isn't done yet.
 
   function later(newWork, milliseconds) {
     clearTimeout(timer);
+    forget();
     work = newWork;
     results.setAttribute("aria-busy", "true");
     timer = setTimeout(proceed, milliseconds, SLICE);
@@ -84,17 +91,46 @@
     proceed(SLICE);
   }
 
-  function proceed(milliseconds) {
+  function forget() {
+    clearTimeout(slow);
+    work = next = null;
+    isWaiting = isSearching = false;
+  }
+
+  // Goes on with the work, first by `resume` where it waited.
+  function proceed(milliseconds, resume) {
     const end = performance.now() + milliseconds;
     clearTimeout(timer);
     try {
-      while (work && performance.now() < end) if (work.next().done) work = null;
+      if (resume) take(resume());
+      while (work && !isWaiting && performance.now() < end) take(work.next());
     } catch (error) {
-      work = null;
       fail(error);
     }
-    if (work) timer = setTimeout(proceed, 0, SLICE);
+    if (work && !isWaiting) timer = setTimeout(proceed, 0, SLICE);
     results.setAttribute("aria-busy", String(work !== null));
+  }
+
+  function take({ done, value }) {
+    if (done) work = null;
+    else if (value) waitFor(value);
+  }
+
+  function waitFor(promise) {
+    const waiting = work, goOn = (resume) => {
+      if (work !== waiting) return;
+      isWaiting = false;
+      proceed(SLICE, resume);
+    };
+    isWaiting = true;
+    promise.then((value) => goOn(() => waiting.next(value)), (error) => goOn(() => waiting.throw(error)));
+  }
+
+  // Acts on the results of what is typed, once they are there.
+  function onResults(action) {
+    proceed(Infinity);
+    if (isSearching) next = action;
+    else action();
   }
 
   function sayFault(text, error) {
@@ -103,20 +139,14 @@
   }
 
   function fail(error) {
+    forget();
     found = [];
     results.replaceChildren();
     more.hidden = true;
     sayFault(words.failed, error);
   }
 
-  // The index.
-
-  function read(data) {
-    if (typeof elasticlunr === "undefined") throw new Error(words.noEngine);
-    rename(data);
-    index = elasticlunr.Index.load(data);
-    for (const field of index.getFields()) quicken(field, index.index[field]);
-  }
+  // A whole index.
 
   // elasticlunr.js keeps scores in plain objects, which have `constructor` and other members from the beginning. Where such a
   // name is a reference, the index gets another name for it.
@@ -161,22 +191,21 @@
     trie.getNode = (token) => nodes.get(token) || nodeOf(trie, token);
   }
 
-  // The search. A word is found by its beginning.
-
-  function tokens(text) {
-    return index.pipeline.run(elasticlunr.tokenizer(text)).filter(Boolean);
-  }
-
   // A word of the query, and what the index has for it: in each field the tokens that begin so, with their nodes. They are among
   // those of a shorter beginning.
   class Start {
-    constructor(text, shorter) {
+    constructor(index, text, shorter) {
       const nodes = (field) => shorter
         ? new Map([...shorter.nodes.get(field)].filter(([token]) => token.startsWith(text)))
         : nodesBelow(text, nodeOf(index.index[field], text));
       this.text = text;
       this.nodes = new Map(index.getFields().map((field) => [field, nodes(field)]));
-      this.references = null;
+      this.isExpanded = true;
+      this.known = null;
+    }
+
+    finds(token) {
+      return token.startsWith(this.text);
     }
 
     // Whether the document of this reference has such a word in a field.
@@ -186,46 +215,107 @@
     }
 
     // The references of the documents that have such a word in any field.
-    allReferences() {
-      if (this.references) return this.references;
-      this.references = new Set();
+    references() {
+      if (this.known) return this.known;
+      this.known = new Set();
       for (const nodes of this.nodes.values()) {
-        for (const node of nodes.values()) for (const ref in node.docs) this.references.add(ref);
+        for (const node of nodes.values()) for (const ref in node.docs) this.known.add(ref);
       }
-      return this.references;
+      return this.known;
     }
   }
 
-  function startsOf(text) {
-    const before = wanted, same = (token) => before.find((start) => start.text === token);
-    const shorter = (token) => before.find((start) => token.startsWith(start.text));
-    return [...new Set(tokens(text))].map((token) => same(token) || new Start(token, shorter(token)));
+  class Whole {
+    constructor(data) {
+      if (typeof elasticlunr === "undefined") throw new Error(words.noEngine);
+      rename(data);
+      this.index = elasticlunr.Index.load(data);
+      this.fields = this.index.getFields();
+      for (const field of this.fields) quicken(field, this.index.index[field]);
+    }
+
+    tokens(text) {
+      return this.index.pipeline.run(elasticlunr.tokenizer(text));
+    }
+
+    startsOf(text) {
+      const before = wanted, same = (token) => before.find((start) => start.text === token);
+      const shorter = (token) => before.find((start) => token.startsWith(start.text));
+      return [...new Set(tokens(text))].map((token) => same(token) || new Start(this.index, token, shorter(token)));
+    }
+
+    *search(text, all) {
+      wanted = this.startsOf(text);
+      found = !wanted.length ? [] : ofAll(all, () => this.index.search(text, { expand: true, bool: "OR" }));
+    }
+  }
+
+  // An index in pieces, which are fetched by a search, and by the results that it draws.
+  class InPieces {
+    constructor(site) {
+      this.site = site;
+      this.folder = site.folder;
+    }
+
+    get fields() {
+      return this.site.fields;
+    }
+
+    tokens(text) {
+      return this.site.tokens(text);
+    }
+
+    *search(text, all) {
+      const { hits, words } = yield this.site.lookUp(text, { expand: true, bool: "OR", maxPieces: PIECES });
+      if (this.site.folder !== this.folder) vocabulary.clear(); // a site that was published again may have another language
+      this.folder = this.site.folder;
+      wanted = words.filter((word) => word.text !== "");
+      found = ofAll(all, () => hits);
+    }
+
+    // The document of a result, or why it can't be had.
+    text(result) {
+      return this.site.doc(result.hit.ref).then((doc) => ({ result, doc }), (error) => ({ result, error }));
+    }
+  }
+
+  // The search. A word is found by its beginning.
+
+  function tokens(text) {
+    return source.tokens(text).filter(Boolean);
   }
 
   // elasticlunr.js can ask for all words in one field. Here each of them may stand in another one.
-  function hits(text, all) {
-    const anywhere = () => index.search(text, { expand: true, bool: "OR" });
-    if (!all || wanted.length < 2) return anywhere();
-    const sets = wanted.map((start) => start.allReferences());
-    return sets.every((set) => set.size) ? anywhere().filter((hit) => sets.every((set) => set.has(hit.ref))) : [];
+  function ofAll(all, hits) {
+    if (!all || wanted.length < 2) return hits();
+    const sets = wanted.map((start) => start.references());
+    return sets.every((set) => set.size) ? hits().filter((hit) => sets.every((set) => set.has(hit.ref))) : [];
   }
 
   function outcome(text, all) {
     if (!text) return "";
     if (!wanted.length) return words.nothing;
     if (found.length) return counted(found.length);
+    if (wanted.some((start) => !start.isExpanded)) return words.tooMany;
     return all ? words.noneHasAll : words.noneHasAny;
   }
 
+  // The old results stay until the new ones are there.
   function* search() {
     const text = query.value.trim(), all = form.elements.bool.value === "AND";
-    wanted = text ? startsOf(text) : [];
-    found = wanted.length ? hits(text, all) : [];
-    shown = 0;
-    results.replaceChildren();
     more.hidden = true;
-    say(outcome(text, all));
     putIntoAddress(text);
+    isSearching = true;
+    slow = setTimeout(say, SLOW, words.loading);
+    if (text) yield* source.search(text, all);
+    else wanted = found = [];
+    clearTimeout(slow);
+    isSearching = false;
+    if (results.contains(document.activeElement)) query.focus();
+    results.replaceChildren();
+    shown = 0;
+    bare = new Set();
+    say(outcome(text, all));
     yield* draw();
   }
 
@@ -258,7 +348,7 @@
     wantedStarts() {
       if (this.asked !== wanted) {
         this.asked = wanted;
-        this.starts = wanted.filter((start) => this.tokens.some((token) => token.startsWith(start.text)));
+        this.starts = wanted.filter((start) => this.tokens.some((token) => start.finds(token)));
       }
       return this.starts;
     }
@@ -317,7 +407,7 @@
 
   // The text of a document, cut as far as when it was drawn before. Those that were drawn longest ago are forgotten.
   function cutText(ref, text) {
-    const known = texts.get(ref) || new Text(text);
+    const before = texts.get(ref), known = before && before.text === text ? before : new Text(text);
     texts.delete(ref);
     texts.set(ref, known);
     if (texts.size > TEXTS) texts.delete(texts.keys().next().value);
@@ -379,7 +469,7 @@
 
   // What is shown of a document: its title, or else its first text, and the longest of the others.
   function shownTexts(doc) {
-    const texts = index.getFields().map((field) => ({ field, text: fieldText(doc, field) })).filter((one) => one.text);
+    const texts = source.fields.map((field) => ({ field, text: fieldText(doc, field) })).filter((one) => one.text);
     const heading = texts.find((one) => one.field === "title") || texts[0];
     const [body] = texts.filter((one) => one !== heading).sort((one, other) => other.text.length - one.text.length);
     return { heading, body };
@@ -414,27 +504,57 @@
     return made;
   }
 
-  // A result is written from the side on which its heading begins, and its excerpt from its own.
-  function* entry(hit) {
+  // A result without its texts. It is written from the side on which its heading begins, and its excerpt from its own.
+  function bareResult(hit) {
     const ref = renamed.get(hit.ref) ?? hit.ref, there = place(ref), href = address(there);
     const title = element(href === null ? "b" : "a", shorten(ref, LONGEST));
     const item = element("li", title, element("small", element("bdi", shorten(there, LONGEST))));
     if (href !== null) title.href = href;
     item.dir = "auto";
+    return { hit, item, title };
+  }
+
+  function* addTexts({ hit, title }, doc) {
     try {
-      const { heading, body } = shownTexts(hit.doc);
+      const { heading, body } = shownTexts(doc);
       if (heading) title.replaceChildren(...passage(new Text(heading.text), 0));
       if (body) title.after(yield* excerpt(hit.ref, body));
     } catch (error) {
       console.error(error); // a document that can't be shown hides no other
     }
-    return item;
   }
 
   function* draw() {
     const end = Math.min(found.length, shown + PAGE);
-    while (shown < end) results.append(yield* entry(found[shown++]));
+    while (shown < end) {
+      const hit = found[shown++], result = bareResult(hit);
+      if (source instanceof InPieces) bare.add(result);
+      else yield* addTexts(result, hit.doc);
+      results.append(result.item);
+    }
     more.hidden = shown >= found.length;
+    if (next) next();
+    next = null;
+    yield* drawTexts();
+  }
+
+  // Adds the texts in the order in which they come.
+  function* drawTexts() {
+    const coming = new Map([...bare].map((result) => [result, source.text(result)]));
+    while (coming.size) {
+      const { result, doc, error } = yield Promise.race(coming.values());
+      coming.delete(result);
+      bare.delete(result);
+      if (error) addMissing(result, error);
+      else yield* addTexts(result, doc);
+    }
+  }
+
+  function addMissing({ title }, error) {
+    const note = element("p", fill(words.noText, "reason", error.message));
+    note.className = "bad";
+    title.after(note);
+    console.error(error);
   }
 
   // The keyboard: arrow keys go through the results and back to the box, Enter opens the first one, Escape begins again. While a
@@ -455,26 +575,35 @@
   }
 
   function move(event, step) {
-    if (event.target === query) proceed(Infinity);
+    const isInBox = event.target === query;
+    if (isInBox) onResults(() => go(step));
+    else if (!go(step)) return;
+    if (!isInBox || step > 0) event.preventDefault();
+  }
+
+  // Goes so many results on, or to the box: whether there is something before.
+  function go(step) {
     const stops = [query, ...results.querySelectorAll("a")], at = stops.indexOf(document.activeElement);
-    if (at < 0 || at + step < 0) return;
-    event.preventDefault();
+    if (at < 0 || at + step < 0) return false;
     if (at + step < stops.length) stops[at + step].focus();
+    return true;
   }
 
   function openFirst(event) {
     event.preventDefault();
-    proceed(Infinity);
-    const first = results.querySelector("a");
-    if (first) first.click();
+    onResults(() => {
+      const first = results.querySelector("a");
+      if (first) first.click();
+    });
   }
 
   function showMore() {
     proceed(Infinity);
-    const next = shown;
+    if (more.hidden) return;
+    const before = shown;
     later(draw(), 0);
     proceed(Infinity);
-    const link = results.children[next] && results.children[next].querySelector("a");
+    const link = results.children[before] && results.children[before].querySelector("a");
     if (link) link.focus();
   }
 
@@ -485,25 +614,54 @@
     document.addEventListener("keydown", key);
   }
 
-  // An address begins with its scheme or server. Any other name is the path of a file, in which `#`, `?` and `%` stand for
-  // themselves.
+  // An address begins with its scheme or server. Any other name is the path of a file or a folder, in which `#`, `?` and `%` stand
+  // for themselves.
+  function addressOf(name) {
+    return /^(https?:)?\/\//i.test(name) ? name : name.split("/").map(encodeURIComponent).join("/");
+  }
+
   async function load(name) {
-    const response = await fetch(/^(https?:)?\/\//i.test(name) ? name : name.split("/").map(encodeURIComponent).join("/"));
+    const response = await fetch(addressOf(name));
     if (!response.ok) throw new Error(name + " (" + response.status + ")");
     return response.json();
+  }
+
+  // What was loaded, and isn't what it should be.
+  class Refused extends Error {}
+
+  function check(holds, why) {
+    if (!holds) throw new Refused(why);
+  }
+
+  async function openWhole(name) {
+    const data = await load(name);
+    return () => new Whole(data);
+  }
+
+  async function openPieces(name) {
+    check(typeof elasticlunr !== "undefined", words.noEngine);
+    check(typeof elasticlunrPieces !== "undefined", words.noReader);
+    try {
+      const site = await elasticlunrPieces.open(addressOf(name));
+      return () => new InPieces(site);
+    } catch (error) {
+      check(!error.file || error.cause, error.message);
+      throw error;
+    }
   }
 
   async function loadAndRead() {
     const names = document.body.dataset;
     let fault = words.notLoaded;
     try {
-      const [data, list] = await Promise.all([load(names.index), names.addresses ? load(names.addresses) : null]);
+      const opening = names.pieces === undefined ? openWhole(names.index) : openPieces(names.pieces);
+      const [read, list] = await Promise.all([opening, names.addresses ? load(names.addresses) : null]);
       fault = words.refused;
       addresses = list || {};
-      read(data);
+      source = read();
       return true;
     } catch (error) {
-      sayFault(fault, error);
+      sayFault(error instanceof Refused ? words.refused : fault, error);
       return false;
     }
   }

@@ -5,7 +5,7 @@ import socket
 import subprocess
 import sys
 
-from tests import browser_book, browser_page, browser_policy, browser_results, browser_speed
+from tests import browser_book, browser_page, browser_pieces, browser_policy, browser_results, browser_speed
 from tests.browser_sentences import PAGES
 from tests.browser_tools import SECONDS, must
 from tools.repository import TOP, lines_of, program, read, run
@@ -319,7 +319,7 @@ def one_field(world):
 
 
 def demo(world):
-    """`make demo` serves three sites with what is in examples/, and each finds its pages."""
+    """`make demo` serves three sites with what is in examples/, and one whose index is in pieces, and each finds its pages."""
     with socket.socket() as chosen:
         chosen.bind(("127.0.0.1", 0))
         port = chosen.getsockname()[1]
@@ -332,6 +332,9 @@ def demo(world):
             must(page.titles() and page.titles()[0] == title, [site_name, page.titles()])
             page.press(page.keys.ENTER)
             page.until(lambda: page.driver.title == title)
+        page = browser_page.Page(world, "2000-pages/search.html", url=f"http://127.0.0.1:{port}/")
+        page.type("the file")
+        must(len(page.titles()) == 20 and page.status().endswith(" pages") and page.marks(), page.status())
     finally:
         server.terminate()
         server.wait(SECONDS)
@@ -354,4 +357,5 @@ def pages():
 
 def groups():
     return [([], scripts()), (["node", "elasticlunr.min.js"], nodes()), (BROWSER, languages() + readme()),
-            (BROWSER, books()), (BROWSER, pages() + [("demo: three sites", demo)]), (BROWSER, every_character())]
+            (BROWSER, books()), (BROWSER, pages() + [("demo: four sites", demo)]), (BROWSER, browser_pieces.cases()),
+            (BROWSER, every_character())]

@@ -4,11 +4,11 @@ import json
 import os
 import time
 
-from tests import browser_book
+from tests import browser_book, pieces_model
 from tests.browser_sentences import PAGES
 from tests.browser_tools import must
 from tools import search_page
-from tools.repository import printed, read, write
+from tools.repository import printed, write
 
 WAIT = 10
 SITES = {language: [[ref + ".html", *texts] for ref, *texts in pages] for language, pages in PAGES.items()}
@@ -18,18 +18,33 @@ BODY = '<body data-index="search_index.json">'
 ADDRESSES = '<body data-index="search_index.json" data-addresses="addresses.json">'
 
 
+SIZE = 600  # bytes of a piece
+
+
+def write_pieces(folder, index):
+    """Writes an index in pieces. A text that is none takes the place of the head."""
+    try:
+        pieces_model.write(index, folder, SIZE)
+    except ValueError:
+        write(os.path.join(folder, pieces_model.HEAD), index)
+
+
 def site(world, name, docs, lang="English", index=None, leave_out=(), edits=None, **more):
-    """Makes a folder as docs/BROWSER.md says, and edits the page: each text that is a key of `edits` becomes its value."""
+    """Makes a folder as docs/BROWSER.md says, and edits the page: each text that is a key of `edits` becomes its value. Its index
+    is in pieces if the world says so."""
     folder = os.path.join(world.folder, name)
     search_page.copy(folder, leave_out)
     page = os.path.join(folder, "search.html")
-    for old, new in (edits or {}).items():
-        text = read(page)
-        must(text.count(old) == 1, f"{old} is not in the page once")
-        write(page, text.replace(old, new))
+    search_page.edit(page, edits or {})
+    if world.in_pieces:
+        search_page.take_pieces(page)
     if index is None:
         index = printed({"fields": ["title", "body"], "docs": [list(doc) for doc in docs], "lang": lang, **more})
-    if "search_index.json" not in leave_out:
+    if "search_index.json" in leave_out:
+        pass
+    elif world.in_pieces:
+        write_pieces(os.path.join(folder, "search"), index)
+    else:
         world.write(name + "/search_index.json", index)
     return name + "/search.html"
 

@@ -1,5 +1,6 @@
 """The cases of what a site sets for the page: its own words, and a strict Content-Security-Policy."""
 import json
+import os
 import re
 
 from tests import pieces_model
@@ -134,8 +135,7 @@ def strict_pieces(world):
     """A page of a site's own that searches an index in pieces."""
     docs = [list(doc) for doc in SITES["English"]]
     index = printed({"fields": ["title", "body"], "docs": docs})
-    for name, text in pieces_model.files(index, 300).items():
-        world.write(f"policy-pieces/search/{name}", text)
+    pieces_model.write(index, os.path.join(world.folder, "policy-pieces", "search"), 300)
     world.write("policy-pieces/page.html", PIECES)
     world.write(f"policy-pieces/{POLICY}", STRICT)
     watch = world.browser().execute_cdp_cmd("Page.addScriptToEvaluateOnNewDocument", {"source": WATCH})

@@ -32,9 +32,10 @@ def long_texts(pages, size):
 
 
 def long_site(world):
-    if os.path.exists(os.path.join(world.folder, "long-texts")):
-        return "long-texts/search.html"
-    return site(world, "long-texts", long_texts(20, 10000))
+    name = "long-texts-in-pieces" if world.in_pieces else "long-texts"
+    if os.path.exists(os.path.join(world.folder, name)):
+        return name + "/search.html"
+    return site(world, name, long_texts(20, 10000))
 
 
 def thread_time(page):
@@ -123,9 +124,10 @@ def last_key(world):
     world.write("last-key/two.html", "<title>two</title>")
     page.script(COUNT)
     page.script(PRESS.format(json.dumps(["a", "al", "alp", "alph"])))
-    must(page.titles() == ["Alpha"] and page.script("searches") == ["alph"], page.script("searches"))
+    searches = lambda: page.script("[...new Set(searches)]")  # over pieces each text is searched twice
+    must(page.titles() == ["Alpha"] and searches() == ["alph"], searches())
     page.script("(() => { " + PRESS.format('["b"]') + "; document.querySelector('input[value=OR]').click(); })()")
-    must(page.script("searches.slice(1)") == ["b"] and page.titles() == ["Beta"], page.script("searches"))
+    must(page.titles() == ["Beta"] and searches() == ["alph", "b"], searches())
     page.script(PRESS.format('["xylophone"]'))
     must(page.titles() == [], page.titles())
     page.script("(() => { " + PRESS.format('["bet"]') + "; document.getElementById('form').requestSubmit(); })()")

@@ -4,6 +4,7 @@ import http.server
 import json
 import os
 import shutil
+import socket
 import subprocess
 import sys
 import threading
@@ -57,9 +58,57 @@ def prepare():
     return lacking
 
 
+def broken_off(handler, content):
+    """Sends half of a file, and then the connection ends."""
+    handler.send_response(200)
+    handler.send_header("Content-Length", str(len(content)))
+    handler.end_headers()
+    handler.wfile.write(content[: len(content) // 2])
+    handler.close_connection = True
+
+
+def ended(handler, _content):
+    handler.connection.shutdown(socket.SHUT_RDWR)
+    handler.close_connection = True
+
+
+def answered(content):
+    """Answers with this in place of the file."""
+    def answer(handler, _content):
+        handler.send_response(200)
+        handler.send_header("Content-Length", str(len(content)))
+        handler.end_headers()
+        handler.wfile.write(content)
+    return answer
+
+
+# What a server may answer once in place of a file
+WRONG = {
+    "no connection": ended,
+    "an error of the server": lambda handler, _content: handler.send_error(503),
+    "an answer that breaks off": broken_off,
+    "a file that is cut short": lambda handler, content: answered(content[: len(content) // 2])(handler, content),
+    "a page": answered(b"<!doctype html>"),
+    "another value": answered(b"7"),
+}
+
+
 class Quiet(http.server.SimpleHTTPRequestHandler):
     def log_message(self, *_):
         pass
+
+    def do_GET(self):
+        """Holds an answer while its file is held, and answers wrongly once where that was asked for."""
+        path = self.path.split("?")[0].lstrip("/")
+        self.server.asked.append(path)
+        if path in self.server.held:
+            self.server.held[path].wait(SECONDS)
+        wrong = self.server.wrong.pop(path, None)
+        if wrong is None:
+            super().do_GET()
+            return
+        with open(self.translate_path(self.path), "rb") as file:
+            WRONG[wrong](self, file.read())
 
     def end_headers(self):
         self.send_header("Cache-Control", "no-store")
@@ -77,6 +126,7 @@ class World:
         self.folder = folder
         self.driver = None
         self.at = None
+        self.in_pieces = False  # whether the sites of the cases have their indexes in pieces
         if not lacking & {"elasticlunr.min.js"}:
             shutil.copy(search_page.ELASTICLUNR, folder)
         for name in os.listdir(os.path.join(TOP, "browser")):
@@ -85,6 +135,7 @@ class World:
         shutil.copy(os.path.join(TOP, "tests", "browser_compare.html"), folder)
         handler = functools.partial(Quiet, directory=folder)
         self.server = http.server.ThreadingHTTPServer(("127.0.0.1", 0), handler)
+        self.server.asked, self.server.wrong, self.server.held = [], {}, {}  # paths, and what to do with their next answers
         self.url = f"http://127.0.0.1:{self.server.server_address[1]}/"
         threading.Thread(target=self.server.serve_forever, daemon=True).start()
 
@@ -98,6 +149,10 @@ class World:
 
     def write(self, name, text):
         write(os.path.join(self.folder, name), text)
+
+    def hold(self, path):
+        """Answers for this path come when the event that it gives is set."""
+        return self.server.held.setdefault(path, threading.Event())
 
     def index(self, name, job):
         """Writes a job and the index that the program prints for it."""

@@ -193,27 +193,55 @@ PAGES = {
 }
 
 
+# Scripts: a text of a script, what it is replaced by, and the case that must fail
+SCRIPTS = {
+    "a reader that counts a document more in the browser": (
+        "elasticlunr-pieces.js", "count: list.length / 2", "count: list.length / 2 + 1", "pieces: English, whole and in pieces",
+    ),
+    "a page that shows what comes late": ("search.js", "if (work !== waiting) return;", "", "pieces: a query while another one is loading"),
+    "a page that hides a missing text": (
+        "search.js", "if (error) addMissing(result, error);", "if (error) continue;", "pieces: an error of the server for a piece of the texts",
+    ),
+    "a page that forgets a key": ("search.js", "if (isSearching) next = action;", "if (isSearching) return;", "pieces: keys while a query is loading"),
+    "a page that takes a text for markup": (
+        "search.js", "if (heading) title.replaceChildren(...passage(new Text(heading.text), 0));", "if (heading) title.innerHTML = heading.text;",
+        "pieces: hostile references and texts",
+    ),
+}
+
+
+def forged_page(folder, name, case, file, old, new):
+    """A copy of the folders that the check needs, with a file of browser/ in which a text is replaced."""
+    top = os.path.join(folder, name.replace(" ", "-"))
+    for part in ("tests", "tools", "browser"):
+        shutil.copytree(os.path.join(TOP, part), os.path.join(top, part), ignore=shutil.ignore_patterns("__pycache__", "out"))
+    for path in ("README.md", "browser/out", "crates", "docs"):
+        os.symlink(os.path.join(TOP, path), os.path.join(top, path))
+    text = read(f"browser/{file}")
+    assert text.count(old) == 1, f"browser/{file} hasn't {old} once"
+    write(os.path.join(top, "browser", file), text.replace(old, new))
+    return Forgery(name, "browser", f"^{case}: AssertionError: ", arguments=(case,), top=top)
+
+
 def forged_pages(folder):
     for name, (script, case) in PAGES.items():
-        top = os.path.join(folder, name.replace(" ", "-"))
-        for part in ("tests", "tools", "browser"):
-            shutil.copytree(os.path.join(TOP, part), os.path.join(top, part), ignore=shutil.ignore_patterns("__pycache__", "out"))
-        for path in ("README.md", "browser/out", "crates", "docs"):
-            os.symlink(os.path.join(TOP, path), os.path.join(top, path))
-        page = os.path.join(top, "browser", "search.html")
-        write(page, read(page).replace("<head>", f"<head><script>{script}</script>", 1))
-        yield Forgery(name, "browser", f"^{case}: AssertionError: ", arguments=(case,), top=top)
+        yield forged_page(folder, name, case, "search.html", "<head>", f"<head><script>{script}</script>")
+    for name, (file, old, new, case) in SCRIPTS.items():
+        yield forged_page(folder, name, case, file, old, new)
 
 
 # Readers of pieces: a text of the reader, what it is replaced by, and what the check must say
 READERS = {
-    "a reader that adds scores in the order of bytes": ("code >= 48 && code <= 57 ? code - 58 : code", "code", r"pieces, \w+: \{.*, \["),
+    "a reader that adds scores in the order of bytes": ("code >= 48 && code <= 57 ? code - 58 : code", "code", "pieces, sums in the order of a trie: "),
     "a reader that orders by UTF-16": (".codePointAt(at)", ".charCodeAt(at)", r"pieces, characters: .*Error: "),
     "a reader that counts a document more": ("count: list.length / 2", "count: list.length / 2 + 1", r"pieces, \w+: \{.* hits and not "),
-    "a reader that finds nothing": ("return hits.map(", "return [].map(", r"pieces, \w+: \{.*: 0 hits and not "),
+    "a reader that finds nothing": ("(await this.lookUp(query, options)).hits", "[]", r"pieces, \w+: \{.*: 0 hits and not "),
+    "a reader that expands each word": ("<= maxPieces", "<= Infinity", r"pieces, \w+: \{.*(fetches \d+ pieces| hits and not )"),
     "a reader that fetches each piece": ("byBytes(first, word) <= 0", "true", r"pieces, \w+: \{.*: fetches \d+ pieces"),
     "a reader that fetches a piece again": ("!this.files.has(name)", "true", "pieces, calls that overlap: "),
     "a reader that keeps what failed": ("this.files.delete(name);", "", "pieces, a fetch that fails once: "),
+    "a reader that gives no cause": ("if (cause) error.cause = cause;", "", "pieces, a fetch that fails once: "),
+    "a reader whose words are everywhere": ("hasOwn(this.found.in(at, token).docs, name)", "true", "pieces, the words of a query: "),
     "a reader that takes any piece": ("tokens[0] !== tries[number]", "false", "pieces, a piece of another form: "),
     "a reader that stays with an old head": ("this.pieces = newer;", "this.pieces;", "pieces, a head that is replaced: "),
     "a reader that takes names of every object": ("name in Object.prototype ||", "", r"pieces, \w+: \{.*: "),

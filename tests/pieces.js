@@ -17,7 +17,6 @@ elasticlunr.Pipeline.warnIfFunctionNotRegistered = () => {};
 const { open } = require(path.resolve(reader))(elasticlunr);
 
 const HEAD = "search.json";
-const MINIMUM = 2;
 
 // A server of files, in place of a network. It counts what is fetched, and some answers are wrong.
 class Server {
@@ -57,12 +56,12 @@ function bits(hits) {
   });
 }
 
-// What elasticlunr.js finds in a whole index. A word that is shorter than the minimum isn't expanded.
-function searchWhole(index, query, options, names) {
-  const minimum = (options && options.minimum) || MINIMUM, expand = elasticlunr.InvertedIndex.prototype.expandToken;
+// What elasticlunr.js finds in a whole index. A word for which `isExpanded` is false finds itself alone.
+function searchWhole(index, query, options, names, isExpanded = () => true) {
+  const expand = elasticlunr.InvertedIndex.prototype.expandToken;
   for (const field of index.getFields()) {
     index.index[field].expandToken = function (token, found, node) {
-      if (node || Array.from(token).length >= minimum) return expand.call(this, token, found, node);
+      if (node || isExpanded(token)) return expand.call(this, token, found, node);
       return this.getDocFreq(token) > 0 ? [token] : [];
     };
   }
@@ -75,25 +74,33 @@ function tokensOf(index, query) {
   return new Set([].concat(...texts.map((text) => index.pipeline.run(elasticlunr.tokenizer(text)))));
 }
 
-// The tokens of each piece of the tries.
-function piecesOf(files) {
-  return Object.keys(files).filter((name) => /\/t\d+\.json$/.test(name)).map((name) => Object.keys(JSON.parse(files[name])));
+const begins = (token, start) => token.startsWith(start) && !/[\uD800-\uDBFF]$/.test(start);
+
+// A text whose order in UTF-16 is that of the characters of this one.
+const inOrder = (text) => Array.from(text, (character) => character.codePointAt(0).toString(16).padStart(6, "0")).join("");
+
+// In how many pieces a word may stand or, if it is expanded, a word that begins so. `tries` has the first token of each piece.
+function piecesFor(word, isExpanded, tries) {
+  const before = tries.filter((token) => inOrder(token) <= inOrder(word)).length;
+  return Math.min(1, before) + tries.slice(before).filter((token) => isExpanded && begins(token, word)).length;
 }
 
-// How many pieces of the tries a query may fetch: for each word those that have words that begin so, and one more.
-function mostFetched({ index, pieces }, query, options) {
-  const expands = JSON.stringify(options || {}).includes('"expand":true'), minimum = (options && options.minimum) || MINIMUM;
+// Whether a word is expanded with these options.
+function expansion(given, options) {
+  const maxPieces = options && options.maxPieces;
+  return (word) => maxPieces === undefined || maxPieces === null || piecesFor(word, true, given.tries) <= maxPieces;
+}
+
+// How many pieces of the tries a query may fetch.
+function mostFetched(given, query, options) {
+  const expands = JSON.stringify(options || {}).includes('"expand":true'), isExpanded = expansion(given, options);
   let most = 0;
-  for (const token of tokensOf(index, query)) {
-    const isExpanded = expands && Array.from(token).length >= minimum;
-    const isIn = (piece) => piece.some((other) => (isExpanded ? other.startsWith(token) : other === token));
-    most += isExpanded ? pieces.filter(isIn).length + 1 : 1;
-  }
+  for (const token of tokensOf(given.index, query)) most += piecesFor(token, expands && isExpanded(token), given.tries);
   return most;
 }
 
 async function compareOne(given, query, options) {
-  const want = searchWhole(given.index, query, options, given.names);
+  const want = searchWhole(given.index, query, options, given.names, expansion(given, options));
   const server = new Server(given.files), fresh = await open(server.get);
   const told = { hits: want.length, fetched: 0, wrong: null };
   for (const [name, site] of [["a site that was searched before", given.site], ["a new site", fresh]]) {
@@ -140,12 +147,24 @@ function withoutPipeline(given) {
 }
 
 const piece = (head, name) => head.folder + "/" + name + ".json";
-const like = (name) => (error) => error instanceof Error && error.file === name && error.message.startsWith(name + ": ");
+const isJson = (text) => {
+  try {
+    return JSON.parse(text) !== undefined;
+  } catch (error) {
+    return false;
+  }
+};
+
+// An error that names a file. It has a cause if there was no JSON text.
+function like(name, answer) {
+  const isCause = (cause) => (isJson(answer) ? cause === undefined : cause instanceof Error);
+  return (error) => error instanceof Error && error.file === name && error.message.startsWith(name + ": ") && isCause(error.cause);
+}
 
 // A call that fails by one wrong answer for a file names it, and the next call is right.
 async function failsOnce(server, name, answer, call) {
   server.answerOnce(name, answer);
-  await assert.rejects(call, like(name), `${name}, as ${String(answer).slice(0, 60)}`);
+  await assert.rejects(call, like(name, answer), `${name}, as ${String(answer).slice(0, 60)}`);
   await call();
 }
 
@@ -221,7 +240,7 @@ async function tryWrongHeads(given, answers) {
 
 // What a call gives when it is the only one, for many calls.
 function manyCalls({ index, files, names }) {
-  const head = JSON.parse(files[HEAD]), options = { expand: true, minimum: 1 };
+  const head = JSON.parse(files[HEAD]), options = { expand: true };
   return head.tries.map((token) => {
     const word = Array.from(token)[0], want = searchWhole(index, word, options, names);
     return async (site) => assert.deepStrictEqual(bits(await site.search(word, options)), want);
@@ -336,8 +355,8 @@ const CASES = {
 
   async "the files that a call fetches"({ site }) {
     const { files } = withoutPipeline(site), { tries, references } = JSON.parse(files[HEAD]);
-    const calls = [["\u0001", {}, 0], ["\u0001", { expand: true, minimum: 1 }, 0], ["", {}, 0], [null, {}, 0], [tries[2], null, 1]];
-    for (const [query, options, most] of [...calls, [tries[2][0], { expand: true }, 1]]) {
+    const calls = [["\u0001", {}, 0], ["\u0001", { expand: true }, 0], ["", {}, 0], [null, {}, 0], [tries[2], null, 1]];
+    for (const [query, options, most] of [...calls, [tries[2][0], { expand: true, maxPieces: 1 }, 1]]) {
       const server = new Server(files), opened = await open(server.get);
       await opened.search(query, options);
       assert(server.fetched.length <= 1 + most, `${query}: ${server.fetched}`);
@@ -345,7 +364,37 @@ const CASES = {
     const server = new Server(files), opened = await open(server.get);
     for (let turn = 0; turn < 2; turn++) await opened.doc(references[0]);
     assert.deepStrictEqual(server.fetched, [HEAD, piece(server.head(), "d0")]);
-    for (const minimum of [0, -1, null, "x", NaN]) await assert.rejects(() => opened.search(tries[0], { minimum }), /minimum/);
+    for (const maxPieces of [0, -1, null, "x", NaN]) await assert.rejects(() => opened.search(tries[0], { maxPieces }), /maxPieces/);
+  },
+
+  async "the words of a query"({ site }) {
+    const { index, files } = withoutPipeline(site), opened = await open(new Server(files).get), { tries, references } = JSON.parse(files[HEAD]);
+    assert(piecesFor("b", true, tries) > 1);
+    for (const options of [{ expand: true }, { expand: true, maxPieces: 1 }, { expand: false }, {}]) {
+      const { hits, words } = await opened.lookUp("b beta1 nowhere b", options), isExpanded = expansion({ tries }, options);
+      assert.deepStrictEqual(bits(hits), bits(await opened.search("b beta1 nowhere b", options)));
+      assert.deepStrictEqual(words.map((word) => word.text).sort(), ["b", "beta1", "nowhere"]);
+      for (const word of words) {
+        assert.strictEqual(word.isExpanded, Boolean(options.expand) && isExpanded(word.text));
+        const finds = (token) => (word.isExpanded ? token.startsWith(word.text) : token === word.text);
+        for (const token of ["b", "beta1", "beta10", "a"]) assert.strictEqual(word.finds(token), finds(token), `${word.text}, ${token}`);
+        const tokens = (field) => (word.isExpanded ? index.index[field].expandToken(word.text) : [word.text]);
+        const isIn = (reference, field) => tokens(field).some((token) => reference in index.index[field].getDocs(token));
+        for (const field of opened.fields) for (const one of references) assert.strictEqual(word.isIn(one, field), isIn(one, field), word.text);
+        const want = references.filter((reference) => opened.fields.some((field) => isIn(reference, field)));
+        assert.deepStrictEqual([...word.references()].sort(), want);
+      }
+    }
+    assert.deepStrictEqual(opened.tokens("Beta1 two-words"), ["beta1", "two", "words"]);
+  },
+
+  // Doubles have another sum in another order. Here digits, which come first in an object, meet characters before and after them.
+  async "sums in the order of a trie"({ sums }) {
+    for (const word of ["a", "a.", "a0", "a9", "a:"]) {
+      const want = searchWhole(sums.index, word, { expand: true }, sums.names);
+      assert.deepStrictEqual(bits(await sums.site.search(word, { expand: true })), want, word);
+      assert(want.length > 0, word);
+    }
   },
 
   async "names that every object has"({ hostile }) {
@@ -466,7 +515,7 @@ async function main() {
   const { indexes, queries, cases } = JSON.parse(fs.readFileSync(0, "utf8")), given = [];
   for (const { whole, files, names } of indexes) {
     const index = elasticlunr.Index.load(JSON.parse(whole));
-    given.push({ whole, files, names: new Map(names), index, pieces: piecesOf(files), site: await siteOf(files) });
+    given.push({ whole, files, names: new Map(names), index, tries: JSON.parse(files[HEAD]).tries, site: await siteOf(files) });
   }
   const told = await compare(given, queries), texts = [];
   for (const one of given) texts.push(await compareTexts(one).then(() => null, (error) => String(error.message).slice(0, 300)));

@@ -41,7 +41,7 @@ READER = os.path.join(TOP, "browser/elasticlunr-pieces.js")
 DRIVER = os.path.join(TOP, "tests/pieces.js")
 SHOWN = 10  # failures that are printed
 SECONDS = 600
-CASES = 19  # of pieces.js
+CASES = 21  # of pieces.js
 # For each kind of index: how many queries each gets, and how many of them must find something
 LEAST = {"examples": (60, 0.35), "pages": (300, 0.35), "random": (24, 0.35), "characters": (24, 0.35)}
 FEW_PIECES = 5  # most indexes have more
@@ -115,6 +115,10 @@ def cases():
     yield "hostile", Given("cases", {**job, "docs": hostile}, 160)
     german = [["1", "Wort", "Ein Wort"], ["2", "Satz", "Zwei Sätze und ein Wort"]]
     yield "german", Given("cases", {**job, "docs": german, "lang": "German"}, 160)
+    rng = random.Random(20261127)
+    alike = [f"a{one}{other}" for one in "./:019z" for other in ("", ".", "5")]
+    sums = [[str(number), " ".join(rng.choices(alike, k=30)), " ".join(rng.choices(alike, k=30))] for number in range(8)]
+    yield "sums", Given("cases", {**job, "docs": sums, "lang": "Arabic"}, 160)
     yield "bare", Given("cases", {**job, "save": False}, 160)
     yield "empty", Given("cases", {**job, "docs": []}, 160)
 
@@ -233,8 +237,8 @@ def a_query(rng, fields, words, tokens):
 
 def some_options(rng, fields):
     options = {}
-    for key, values in [("bool", ["OR", "AND", "AND"]), ("expand", [True, True, False]), ("minimum", [1, 1, 3])]:
-        if rng.random() < 0.6:
+    for key, chance, values in [("bool", 0.6, ["OR", "AND", "AND"]), ("expand", 0.6, [True, True, False]), ("maxPieces", 0.2, [1, 2, 5])]:
+        if rng.random() < chance:
             options[key] = rng.choice(values)
     if rng.random() < 0.4:
         options["fields"] = {field: field_options(rng) for field in rng.sample([*fields, "nowhere"], rng.randint(1, len(fields)))}
@@ -258,7 +262,7 @@ def some_queries(rng, given, files, count):
     fields = given.job["fields"]
     for number in range(count):
         if number % 4 == 0:  # sums of many scores, which depend on their order
-            yield rng.choice(tokens)[0], {"expand": True, "minimum": 1}
+            yield rng.choice(tokens)[0], {"expand": True}
         else:
             yield a_query(rng, fields, words, tokens), some_options(rng, fields)
 

@@ -11,6 +11,9 @@ is called after the SHA-256 of the texts of all its pieces, one after another: t
 """
 import hashlib
 import json
+import os
+
+from tools import repository
 
 HEAD = "search.json"
 SIZE = 16384  # bytes that a piece of the tries may have; a piece of the texts may have a quarter of it
@@ -89,3 +92,9 @@ def files(text, size=SIZE):
     head.update(save=store["save"], references=references, lengths=lengths(store, index["fields"], references), folder=folder)
     head.update(tries=[piece[0][0] for piece in tries], texts=[piece[0][0] for piece in texts])
     return {HEAD: compact(head), **{f"{folder}/{name}": piece for name, piece in pieces.items()}}
+
+
+def write(text, folder, size=SIZE):
+    """Writes the files for the text of a whole index into a folder."""
+    for name, content in files(text, size).items():
+        repository.write(os.path.join(folder, name), content)

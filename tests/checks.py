@@ -39,9 +39,9 @@ GROUPS = [
 # How much each check must try, with what it skips. A check that can try nothing here, and says so, is no failure.
 LEAST = {
     "compare_search": 900,
-    "pieces": 7_000,
+    "pieces": 7_400,
     "browser": 260,
-    "forgeries compare_search pieces browser": 31,
+    "forgeries compare_search pieces browser": 32,
     "compare_random": 13_000,
     "refuse_memory": 2_000,
     "refuse_calls": 140,

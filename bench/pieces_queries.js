@@ -30,7 +30,7 @@ async function main() {
       fetched.push(name);
       return fs.readFileSync(path.join(folder, name), "utf8");
     });
-    const hits = await site.search(query, { expand: true, maxPieces: MOST });
+    const hits = await site.search(query, { expand: true, minimum: 1, maxPieces: MOST });
     for (const hit of hits.slice(0, BEST)) await site.doc(hit.ref);
     const milliseconds = performance.now() - begun;
     const sum = (kind) => fetched.filter((name) => kind.test(name)).map(sizeOf).reduce((all, one) => all + one, 0);

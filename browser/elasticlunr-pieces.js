@@ -8,9 +8,9 @@
    In node: require("./elasticlunr-pieces.js")(elasticlunr).open(async (name) => ..).
 
    `open` takes the address of the folder of search.json, or a function that gives the text of a file of that folder by name.
-   Scores and order are those of `index.search` of elasticlunr.js on the whole index, with the same options. One is added: with
-   `maxPieces` a word that begins the words of more pieces than that finds itself alone, though `expand` is true. Without it
-   the letter `s` fetches each word that begins so.
+   Scores and order are those of `index.search` of elasticlunr.js on the whole index, with the same options. Two are added for
+   `expand`, since the letter `s` would fetch each word that begins so: a word with fewer characters than `minimum` (2), or one
+   that begins the words of more pieces than `maxPieces` (no limit), finds itself alone. `minimum: 1` is as elasticlunr.js.
 
    `site.lookUp(query, options)` gives the hits, and each word of the query with the documents that have it. `site.tokens(text)`
    has the tokens of a text, `site.fields` the names of the fields, and `site.folder` changes with each other index.
@@ -27,6 +27,7 @@
   "use strict";
 
   const HEAD = "search.json";
+  const MINIMUM = 2; // characters of a word that `expand` makes longer
   const NOTHING = { docs: {}, count: 0 }; // the postings of a token that the index doesn't have
 
   // Order. JavaScript compares UTF-16, which isn't the order of bytes above U+FFFF: here characters are compared.
@@ -367,8 +368,9 @@
       return index;
     }
 
-    async lookUp(query, options, maxPieces) {
-      const wanted = new Wanted((word) => this.numbersOf(word, true).length <= maxPieces);
+    async lookUp(query, options, { minimum, maxPieces }) {
+      const isLong = (word) => Array.from(word).length >= minimum;
+      const wanted = new Wanted((word) => isLong(word) && this.numbersOf(word, true).length <= maxPieces);
       this.indexWith(() => wanted).search(query, options);
       const found = await this.fetchFound(wanted), index = this.indexWith((field) => new Trie(found, field));
       const hits = index.search(query, options).map((hit) => ({ ref: this.references.get(hit.ref), score: hit.score }));
@@ -382,6 +384,13 @@
       const piece = countUpTo(texts, number, byValue) - 1;
       return (await this.documentsOf(piece))[number - texts[piece]];
     }
+  }
+
+  // An option that is a number from 1, or this where it isn't given.
+  function numberOf(options, name, usual) {
+    const number = options && options[name] !== undefined ? options[name] : usual;
+    if (!(number >= 1)) throw new Error(name + ": expected a number from 1");
+    return number;
   }
 
   async function openPieces(get) {
@@ -415,9 +424,8 @@
     // `query` and `options` may change while the pieces are fetched: they are copied.
     async lookUp(query, options) {
       const [text, copied] = JSON.parse(JSON.stringify([query, options]));
-      const maxPieces = options && options.maxPieces !== undefined ? options.maxPieces : Infinity;
-      if (!(maxPieces >= 1)) throw new Error("maxPieces: expected a number from 1");
-      return this.ask((pieces) => pieces.lookUp(text, copied === null ? {} : copied, maxPieces));
+      const limits = { minimum: numberOf(options, "minimum", MINIMUM), maxPieces: numberOf(options, "maxPieces", Infinity) };
+      return this.ask((pieces) => pieces.lookUp(text, copied === null ? {} : copied, limits));
     }
 
     async doc(reference) {

@@ -266,7 +266,7 @@
     }
 
     *search(text, all) {
-      const { hits, words } = yield this.site.lookUp(text, { expand: true, bool: "OR", maxPieces: PIECES });
+      const { hits, words } = yield this.site.lookUp(text, { expand: true, bool: "OR", minimum: 1, maxPieces: PIECES });
       if (this.site.folder !== this.folder) vocabulary.clear(); // a site that was published again may have another language
       this.folder = this.site.folder;
       wanted = words.filter((word) => word.text !== "");

@@ -72,7 +72,7 @@ def of_random(world):
         kind, words = ("characters", pieces.random_characters) if number % 3 == 0 else ("random", pieces.random_words)
         given = pieces.random_index(rng, kind, words)
         index = printed(given.job)
-        asked = [[query, options and {key: value for key, value in options.items() if key != "maxPieces"}]
+        asked = [[query, options and {key: value for key, value in options.items() if key not in ("minimum", "maxPieces")}]
                  for query, options in pieces.some_queries(rng, given, pieces_model.files(index, given.size), EACH)]
         if asked:
             answer = compare(world, f"pieces-random-{number}", index, asked, given.size)

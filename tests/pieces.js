@@ -87,8 +87,8 @@ function piecesFor(word, isExpanded, tries) {
 
 // Whether a word is expanded with these options.
 function expansion(given, options) {
-  const maxPieces = options && options.maxPieces;
-  return (word) => maxPieces === undefined || maxPieces === null || piecesFor(word, true, given.tries) <= maxPieces;
+  const { minimum = 2, maxPieces = Infinity } = options || {};
+  return (word) => Array.from(word).length >= minimum && piecesFor(word, true, given.tries) <= maxPieces;
 }
 
 // How many pieces of the tries a query may fetch.
@@ -356,7 +356,7 @@ const CASES = {
   async "the files that a call fetches"({ site }) {
     const { files } = withoutPipeline(site), { tries, references } = JSON.parse(files[HEAD]);
     const calls = [["\u0001", {}, 0], ["\u0001", { expand: true }, 0], ["", {}, 0], [null, {}, 0], [tries[2], null, 1]];
-    for (const [query, options, most] of [...calls, [tries[2][0], { expand: true, maxPieces: 1 }, 1]]) {
+    for (const [query, options, most] of [...calls, [tries[2][0], { expand: true, minimum: 1, maxPieces: 1 }, 1], [tries[2][0], { expand: true }, 1]]) {
       const server = new Server(files), opened = await open(server.get);
       await opened.search(query, options);
       assert(server.fetched.length <= 1 + most, `${query}: ${server.fetched}`);
@@ -364,13 +364,17 @@ const CASES = {
     const server = new Server(files), opened = await open(server.get);
     for (let turn = 0; turn < 2; turn++) await opened.doc(references[0]);
     assert.deepStrictEqual(server.fetched, [HEAD, piece(server.head(), "d0")]);
-    for (const maxPieces of [0, -1, null, "x", NaN]) await assert.rejects(() => opened.search(tries[0], { maxPieces }), /maxPieces/);
+    for (const wrong of [0, -1, null, "x", NaN]) {
+      await assert.rejects(() => opened.search(tries[0], { maxPieces: wrong }), /maxPieces/);
+      await assert.rejects(() => opened.search(tries[0], { minimum: wrong }), /minimum/);
+    }
   },
 
   async "the words of a query"({ site }) {
     const { index, files } = withoutPipeline(site), opened = await open(new Server(files).get), { tries, references } = JSON.parse(files[HEAD]);
     assert(piecesFor("b", true, tries) > 1);
-    for (const options of [{ expand: true }, { expand: true, maxPieces: 1 }, { expand: false }, {}]) {
+    const long = { expand: true, minimum: 1 };
+    for (const options of [long, { ...long, maxPieces: 1 }, { expand: true }, { expand: false }, {}]) {
       const { hits, words } = await opened.lookUp("b beta1 nowhere b", options), isExpanded = expansion({ tries }, options);
       assert.deepStrictEqual(bits(hits), bits(await opened.search("b beta1 nowhere b", options)));
       assert.deepStrictEqual(words.map((word) => word.text).sort(), ["b", "beta1", "nowhere"]);
@@ -392,7 +396,7 @@ const CASES = {
   async "sums in the order of a trie"({ sums }) {
     for (const word of ["a", "a.", "a0", "a9", "a:"]) {
       const want = searchWhole(sums.index, word, { expand: true }, sums.names);
-      assert.deepStrictEqual(bits(await sums.site.search(word, { expand: true })), want, word);
+      assert.deepStrictEqual(bits(await sums.site.search(word, { expand: true, minimum: 1 })), want, word);
       assert(want.length > 0, word);
     }
   },

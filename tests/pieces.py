@@ -237,7 +237,7 @@ def a_query(rng, fields, words, tokens):
 
 def some_options(rng, fields):
     options = {}
-    for key, chance, values in [("bool", 0.6, ["OR", "AND", "AND"]), ("expand", 0.6, [True, True, False]), ("maxPieces", 0.2, [1, 2, 5])]:
+    for key, chance, values in [("bool", 0.6, ["OR", "AND", "AND"]), ("expand", 0.6, [True, True, False]), ("minimum", 0.4, [1, 1, 3]), ("maxPieces", 0.2, [1, 2, 5])]:
         if rng.random() < chance:
             options[key] = rng.choice(values)
     if rng.random() < 0.4:

@@ -13,7 +13,10 @@ from tools.repository import printed, program, run, write
 COMMAND = program("elasticlunr_cli")
 SIZES = [1, 60, 400, pieces_model.SIZE, 10**15]  # bytes of a piece
 LEAST = 20  # requests for memory that must have been refused
-LAST = re.compile(rb"elasticlunr: 3 documents, \d+ tokens, (?:(\d+) bytes, )?(\d+) pieces?, (\d+) bytes in the head, (\d+) in the largest piece, \d+\.\d s\n")
+LAST = re.compile(
+    rb"elasticlunr: 3 documents, \d+ tokens, (?:(\d+) bytes, )?"
+    rb"(\d+) pieces?, (\d+) bytes in the head, (\d+) in the largest piece, \d+\.\d s\n"
+)
 JOB = {
     "fields": ["title", "body"],
     "docs": [["1", "Red fox", "The quick fox runs"], ["2", "Dog", "A lazy dog sleeps"], ["\u00fc", "Both \U0001f600", ""]],
@@ -63,6 +66,10 @@ class Folder:
     def files(self):
         return files_in(self.site)
 
+    def is_as(self, before):
+        """Whether there are these files, the head and one folder."""
+        return self.files() == before and len(os.listdir(self.site)) == 2
+
     def clear(self):
         shutil.rmtree(self.site, ignore_errors=True)
 
@@ -78,7 +85,8 @@ class Folder:
 def check_model(folder, results):
     """The files are those of the model, for each form and size, and an index is printed only where -o asks for it."""
     lines = "".join(json.dumps(it) + "\n" for it in OBJECTS).encode()
-    forms = {"job": (JOB, []), "objects": (json.dumps(OBJECTS).encode(), ["--fields", "title,body"]), "lines": (lines, ["--fields", "title,body"])}
+    fields = ["--fields", "title,body"]
+    forms = {"job": (JOB, []), "objects": (json.dumps(OBJECTS).encode(), fields), "lines": (lines, fields)}
     for form, (given, words) in forms.items():
         for size in SIZES:
             folder.clear()
@@ -93,21 +101,22 @@ def check_model(folder, results):
     results.check("pieces of the default size", (ended.status, folder.files()) == (0, model(JOB, pieces_model.SIZE)), ended)
     folder.clear()
     ended = folder.build(["--no-save"])
-    results.check("pieces without texts", (ended.status, folder.files()) == (0, model({**JOB, "save": False}, pieces_model.SIZE)), ended)
+    wanted = model({**JOB, "save": False}, pieces_model.SIZE)
+    results.check("pieces without texts", (ended.status, folder.files()) == (0, wanted), ended)
 
 
 def check_both(folder, results):
     folder.clear()
     index = os.path.join(folder.top, "index.json")
-    text = printed(JOB).encode()
+    text, wanted = printed(JOB).encode(), model(JOB, pieces_model.SIZE)
     ended = folder.build(["-o", "index.json"])
     with open(index, "rb") as file:
-        good = (ended.status, ended.out, file.read(), folder.files()) == (0, b"", text, model(JOB, pieces_model.SIZE))
+        good = (ended.status, ended.out, file.read(), folder.files()) == (0, b"", text, wanted)
     results.check("an index and its pieces", good, ended)
     wrong = wrong_last(ended.err, folder.files(), len(text))
     results.check("the last line on an index and its pieces", wrong is None, wrong)
     ended = folder.build(["-o", "-"])
-    results.check("a printed index and its pieces", (ended.status, ended.out, folder.files()) == (0, text, model(JOB, pieces_model.SIZE)), ended)
+    results.check("a printed index and its pieces", (ended.status, ended.out, folder.files()) == (0, text, wanted), ended)
     before = folder.old()
     ended = folder.build(["-o", "/dev/full"])
     good = ended.status == 1 and b"/dev/full" in ended.err and folder.files() == before
@@ -133,7 +142,11 @@ def check_again(folder, results):
 def check_faults(folder, results):
     """After a fault the old head and its pieces are whole, and nothing else is there."""
     before = folder.old()
-    limited = lambda most: {"preexec_fn": lambda: resource.setrlimit(resource.RLIMIT_FSIZE, (most, most)), "restore_signals": False}
+
+    def limited(most):
+        """A write stops in the middle, because a file may have so many bytes."""
+        return {"preexec_fn": lambda: resource.setrlimit(resource.RLIMIT_FSIZE, (most, most)), "restore_signals": False}
+
     cases = {
         "refused input": ([], b"[1", {}, 2, b""),
         "a warning that is a refusal": (["--strict"], {"fields": ["a"], "docs": []}, {}, 2, b"warning"),
@@ -142,11 +155,12 @@ def check_faults(folder, results):
     }
     for name, (words, given, options, status, says) in cases.items():
         ended = folder.build(words, given, **options)
-        good = ended.status == status and says in ended.err and folder.files() == before and len(os.listdir(folder.site)) == 2
+        good = ended.status == status and says in ended.err and folder.is_as(before)
         results.check(f"pieces, {name}", good, (ended, sorted(folder.files())))
     file = write(os.path.join(folder.top, "file"), "x")
     ended = run([COMMAND, "build", "--pieces", "file"], json.dumps(JOB).encode(), cwd=folder.top)
-    results.check("pieces, a file instead of a folder", ended.status == 1 and b"elasticlunr: file" in ended.err and os.path.isfile(file), ended)
+    good = ended.status == 1 and b"elasticlunr: file" in ended.err and os.path.isfile(file)
+    results.check("pieces, a file instead of a folder", good, ended)
 
 
 def check_rights(folder, results):
@@ -160,7 +174,8 @@ def check_rights(folder, results):
     os.chmod(folder.site, 0o555)
     ended = run([command, "build", "--pieces", "site"], json.dumps(JOB).encode(), cwd=folder.top, **options)
     os.chmod(folder.site, 0o755)
-    results.check("pieces, no right to write", ended.status == 1 and b"site" in ended.err and folder.files() == before, ended)
+    good = ended.status == 1 and b"site" in ended.err and folder.is_as(before)
+    results.check("pieces, no right to write", good, ended)
 
 
 def check_memory(folder, results):
@@ -174,11 +189,12 @@ def check_memory(folder, results):
             folder.clear()
             write_all(folder.site, before)
             ended = refusing.run(COMMAND, json.dumps(JOB), number, words)
-            was_refused = (ended.status, ended.out, folder.files()) == (1, "", before) and len(os.listdir(folder.site)) == 2
+            was_refused = (ended.status, ended.out) == (1, "") and folder.is_as(before)
             refused += was_refused
             if not was_refused and (ended.status, ended.out, folder.files()) != (0, "", wanted):
                 wrong += 1
-                print(f"command, memory: pieces, request {number}: status {ended.status}, {sorted(folder.files())}, {ended.err!r}")
+                left = sorted(os.listdir(folder.site))
+                print(f"command, memory: pieces, request {number}: status {ended.status}, {left}, {ended.err!r}")
             if ended.requests < number:
                 break
     results.check("memory refused in turn, pieces", wrong == 0 and refused >= LEAST, f"{refused} refused, {wrong} wrong")

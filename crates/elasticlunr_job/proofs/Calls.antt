@@ -5,7 +5,7 @@ use Rattle.elasticlunr_text.specs.Text.{Bytes}
 use Rattle.elasticlunr_lang.specs.declared.any.AnyLanguage.{AnyLanguage}
 use Rattle.elasticlunr.specs.Calls as calls
 use Rattle.elasticlunr.specs.Calls.{Call, adding, removing, compacting, IsCommandOf}
-use Rattle.elasticlunr.specs.History.{Document, Command, add, remove, compact, Commands}
+use Rattle.elasticlunr.specs.History.{Document, Command, add, remove, Commands}
 use Rattle.elasticlunr.specs.Kept.{IsKeptDocument}
 use Rattle.elasticlunr_job.specs.Calls.{job_calls}
 use Rattle.elasticlunr_job.specs.Commands.{AreCommandsOf, compacted, in_order, IsAdded}

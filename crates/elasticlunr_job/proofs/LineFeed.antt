@@ -1,5 +1,7 @@
 -- A line feed at the end of a text changes none of its JSON tokens, and so nothing of what is read of it.
-use Rattle.std.proofs.Common.{◌≡◌, ◌≤◌, ◌<◌, ◌-◌, ◌+◌, ◌==◌, ◌&&◌, ◌||◌, ℕ, zero, suc, List, [], ◌∷◌, ◌++◌, length, take, drop, get_or, nat_eq, nat_lt, Bool, true, false, cond, Option, None, Some, option_map, option_and_then, refl, sym, ap, ◌∙◌, arith, rules}
+use Rattle.std.proofs.Common.{◌≡◌, ◌≤◌, ◌-◌, ◌+◌, ◌==◌, ◌&&◌, ◌||◌, ℕ, List, [], ◌∷◌, ◌++◌, length, take, drop}
+use Rattle.std.proofs.Common.{nat_eq, nat_lt, Bool, true, false, cond, Option, None, Some, option_map, option_and_then}
+use Rattle.std.proofs.Common.{refl, sym, ap, ◌∙◌, arith}
 use Rattle.std.specs.List.{prefix_len, starts_with}
 use Rattle.std.specs.Char.{is_ascii_digit, is_digit, encode_utf8}
 use Rattle.std.proofs.lemmas.List.{drop-append-le, take-append-le, length-append}
@@ -11,10 +13,14 @@ use Rattle.json.specs.Ascii as ascii
 use Rattle.serde_json.specs.Data.{Data}
 use Rattle.serde_json.specs.Read.{max_depth, of_json}
 use Rattle.json.specs.Json as json
-use Rattle.json.specs.Word.{head, is_space, is_operator, ends_word, after_digits, after_minus, after_sign, after_whole, after_fraction, after_exponent, after_number, number_before, literal, word}
-use Rattle.json.specs.Text.{content, plain, after_backslash, after_u, after_high, prepend, Within, code_unit, short_escape, is_high_surrogate, is_low_surrogate, surrogate_pair}
-use Rattle.json.specs.Token.{Token, number, bad, boolean, null}
-use Rattle.json.specs.Lex.{tokens, lex, lex_byte, Mode, Class, class, between, in_word, in_string, in_escape, quote, backslash, operator, space, other, Lexeme, string_token, operator_lexeme, token, punctuate, fresh}
+use Rattle.json.specs.Word.{ends_word, after_digits, after_minus, after_sign, after_whole, after_fraction}
+use Rattle.json.specs.Word.{after_exponent, after_number, number_before, word}
+use Rattle.json.specs.Text.{content, plain, after_backslash, after_u, after_high, prepend, Within, code_unit}
+use Rattle.json.specs.Text.{short_escape, is_high_surrogate, is_low_surrogate, surrogate_pair}
+use Rattle.json.specs.Token.{number, bad, boolean, null}
+use Rattle.json.specs.Lex.{tokens, lex, lex_byte, Mode, Class, class, between, in_word, in_string, in_escape, quote}
+use Rattle.json.specs.Lex.{backslash, operator, space, other, Lexeme, string_token, operator_lexeme, token, punctuate}
+use Rattle.json.specs.Lex.{fresh}
 
 digits_more : (t : List ℕ) → prefix_len is_ascii_digit (t ++ 10 ∷ []) ≡ prefix_len is_ascii_digit t
 digits_more [] = refl
@@ -66,7 +72,8 @@ after_exponent_more : (t : List ℕ) → after_exponent (t ++ 10 ∷ []) ≡ als
 after_exponent_more [] = refl
 after_exponent_more (x ∷ t) =
     let b = (x == ascii.lower_e) || (x == ascii.upper_e) in
-    ap (λ o. cond b o (Some (x ∷ t ++ 10 ∷ []))) (ap after_digits (after_sign_more t) ∙ after_digits_more (after_sign t))
+    ap (λ o. cond b o (Some (x ∷ t ++ 10 ∷ [])))
+    (ap after_digits (after_sign_more t) ∙ after_digits_more (after_sign t))
     ∙ cond_also b (after_digits (after_sign t)) (Some (x ∷ t))
 
 after_number_more : (t : List ℕ) → after_number (t ++ 10 ∷ []) ≡ also (after_number t)
@@ -86,8 +93,10 @@ number_more : (t : List ℕ) (o : Option (List ℕ)) → number_before (t ++ 10 
 number_more t None = refl
 number_more t (Some rest) =
     let n = length t - length rest in
-    let same : length (t ++ 10 ∷ []) - length (rest ++ 10 ∷ []) ≡ n = omega (arith, length-append t (10 ∷ []), length-append rest (10 ∷ [])) in
-    ap (λ b. cond b (number (take (length (t ++ 10 ∷ []) - length (rest ++ 10 ∷ [])) (t ++ 10 ∷ []))) bad) (ends_word_more rest)
+    let same : length (t ++ 10 ∷ []) - length (rest ++ 10 ∷ []) ≡ n =
+    omega (arith, length-append t (10 ∷ []), length-append rest (10 ∷ [])) in
+    ap (λ b. cond b (number (take (length (t ++ 10 ∷ []) - length (rest ++ 10 ∷ [])) (t ++ 10 ∷ []))) bad)
+    (ends_word_more rest)
     ∙ ap (λ k. cond (ends_word rest) (number (take k (t ++ 10 ∷ []))) bad) same
     ∙ ap (λ s. cond (ends_word rest) (number s) bad) (take-append-le n t (10 ∷ []) (omega arith))
 
@@ -111,10 +120,14 @@ word_more : (x : ℕ) (t : List ℕ) → word (x ∷ t ++ 10 ∷ []) ≡ word (x
 unfolding word
 word_more x t =
     let front = x ∷ t in
-    let numbers = ap (number_before (front ++ 10 ∷ [])) (after_number_more front) ∙ number_more front (after_number front) in
-    λ i. cond (x == ascii.lower_t) (cond (literal_more ascii.true_text front (refl, (refl, (refl, (refl, tt)))) i) (boolean true) bad)
-    (cond (x == ascii.lower_f) (cond (literal_more ascii.false_text front (refl, (refl, (refl, (refl, (refl, tt))))) i) (boolean false) bad)
-    (cond (x == ascii.lower_n) (cond (literal_more ascii.null_text front (refl, (refl, (refl, (refl, tt)))) i) null bad) (numbers i)))
+    let numbers = ap (number_before (front ++ 10 ∷ [])) (after_number_more front)
+    ∙ number_more front (after_number front) in
+    let true_same = literal_more ascii.true_text front (refl, (refl, (refl, (refl, tt)))) in
+    let false_same = literal_more ascii.false_text front (refl, (refl, (refl, (refl, (refl, tt))))) in
+    let null_same = literal_more ascii.null_text front (refl, (refl, (refl, (refl, tt)))) in
+    λ i. cond (x == ascii.lower_t) (cond (true_same i) (boolean true) bad)
+    (cond (x == ascii.lower_f) (cond (false_same i) (boolean false) bad)
+    (cond (x == ascii.lower_n) (cond (null_same i) null bad) (numbers i)))
 
 none_of : (p q r : Bool) (v : Option ℕ) → cond (p && q && r && false) v None ≡ None
 none_of true true true v = refl
@@ -153,7 +166,8 @@ content_more (after_high h) (s ∷ u ∷ []) = refl
 content_more (after_high h) (s ∷ u ∷ a ∷ []) = refl
 content_more (after_high h) (s ∷ u ∷ a ∷ b ∷ []) = refl
 content_more (after_high h) (s ∷ u ∷ a ∷ b ∷ c ∷ []) = ap (λ o. cond ((s == ascii.backslash) && (u == ascii.lower_u))
-    (option_and_then (λ l. cond (is_low_surrogate l) (prepend (encode_utf8 (surrogate_pair h l)) (content plain [])) None)
+    (option_and_then (λ l. cond (is_low_surrogate l)
+    (prepend (encode_utf8 (surrogate_pair h l)) (content plain [])) None)
     o) None) (no_unit a b c) ∙ cond_none ((s == ascii.backslash) && (u == ascii.lower_u))
 content_more (after_high h) (s ∷ u ∷ a ∷ b ∷ c ∷ d ∷ xs) = λ i. cond ((s == ascii.backslash) && (u == ascii.lower_u))
     (option_and_then (λ l. cond (is_low_surrogate l)
@@ -162,7 +176,8 @@ content_more (after_high h) (s ∷ u ∷ a ∷ b ∷ c ∷ d ∷ xs) = λ i. con
 byte_more : (m : Mode) (c : Class) (x : ℕ) (ys xs : List ℕ) (k l : Mode → List Lexeme)
     → content plain ys ≡ content plain xs → word (x ∷ ys) ≡ word (x ∷ xs) → ((n : Mode) → k n ≡ l n)
     → lex_byte m c x ys k ≡ lex_byte m c x xs l
-byte_more between quote x ys xs k l string_same word_same then = λ i. token (string_token (string_same i)) ∷ then in_string i
+byte_more between quote x ys xs k l string_same word_same then =
+    λ i. token (string_token (string_same i)) ∷ then in_string i
 byte_more between backslash x ys xs k l string_same word_same then = λ i. token bad ∷ then in_word i
 byte_more between operator x ys xs k l string_same word_same then = λ i. operator_lexeme x ∷ then between i
 byte_more between space x ys xs k l string_same word_same then = then between

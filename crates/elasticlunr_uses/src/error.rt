@@ -1,14 +1,16 @@
 //! Why a use came to no end.
 
 use elasticlunr::IndexError;
+use elasticlunr_job::outcome::JobError;
 use elasticlunr_search::SearchError;
 use std::alloc::{AllocError, AllocFailed};
 
-/// A refusal of the index, or of the search, or out of memory of the use's own.
+/// A refusal of the index, of the search or of the job, or out of memory elsewhere.
 #[derive(Clone, Copy)]
 pub enum UseError {
     Index(IndexError),
     Search(SearchError),
+    Job(JobError),
     Memory,
 }
 
@@ -31,6 +33,17 @@ impl From<SearchError> for UseError {
 
     fn from(error: SearchError) -> UseError {
         UseError::Search(error)
+    }
+}
+
+impl From<JobError> for UseError {
+    ghost use Rattle.elasticlunr_uses.specs.declared.error.UseError.TheVariants.{Job};
+    ghost use Rattle.std.specs.Prelude.{◌≡◌};
+
+    ghost from_gives = { λ error e. e ≡ Job error };
+
+    fn from(error: JobError) -> UseError {
+        UseError::Job(error)
     }
 }
 

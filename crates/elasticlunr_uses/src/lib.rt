@@ -5,6 +5,7 @@ pub mod custom;
 pub mod error;
 pub mod first;
 pub mod found;
+pub mod job;
 pub mod order;
 pub mod own;
 pub mod page;

@@ -21,7 +21,7 @@ joined (x ∷ xs) = x ++ after_commas xs
 abbrev pub in_brackets : Form → List Bytes → Bytes
 in_brackets form texts = form.opening.now ++ (joined texts ++ form.closing.now)
 
--- the texts from one number to the other were put behind the old text, as long as there was room
+-- the texts from one number to the other were put after the old text, as long as there was room
 pub record Extends (texts : List Bytes) (form : Form) (start next : ℕ) (old new : Bytes) : Type 0
   where
     pub more : List Bytes

@@ -67,7 +67,7 @@ pub(crate) fn cut_from<E: Entries>(
     })
 }
 
-// Puts entries behind a text, as long as there is room.
+// Puts entries after a text, as long as there is room.
 fn extend<E: Entries>(
     entries: &E,
     from: usize,

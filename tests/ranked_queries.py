@@ -21,8 +21,7 @@ TOLERANCE = 1e-12  # of two scores, relative to the greater one
 BOOSTS = [0, 1, 2, 3, 10, 255]
 NOWHERE = ["zebra", "qqq", "nowhere"]
 EACH = 3  # queries of a random index
-# Names that each object of JavaScript has: elasticlunr.js takes such a reference for one that is there
-TAKEN = {"constructor", "__proto__", "toString", "valueOf", "hasOwnProperty", "isPrototypeOf", "propertyIsEnumerable", "toLocaleString"}
+REFERENCES = ["1", "2", "10", "a/b.html", "", '\u00e9"\n', "id", "b", "Z"]
 
 
 class Ranked(NamedTuple):
@@ -93,13 +92,19 @@ def jobs_of_examples():
 
 
 def random_index(rng):
-    """A random job that has a field and a word, and whose references elasticlunr.js can find."""
-    while True:
-        job = random_jobs.job(rng)
-        words = words_of(job["docs"])
-        if job["fields"] and words and not any(doc[0] in TAKEN for doc in job["docs"]):
-            code = LANGUAGES[job.get("lang", "English")].code
-            return job, words + [random_jobs.word(rng, code) or "x" for _ in range(3)]
+    """A random job whose documents share their words, some of which begin others, and the words."""
+    lang = rng.choice(random_jobs.NAMES)
+    code = LANGUAGES[lang].code
+    short = [random_jobs.word(rng, code) or "x" for _ in range(6)]
+    words = short + [word + rng.choice(["s", "x", "ness", "\u00e9", "1", "\U00010428"]) for word in short]
+    fields = rng.sample(["title", "body", "tags", "", "\u00dc", "df"], rng.randint(1, 3))
+    docs = [
+        [reference, *(random_jobs.text(rng, words) for _ in fields)] for reference in rng.sample(REFERENCES, rng.randint(3, len(REFERENCES)))
+    ]
+    job = {"fields": fields, "docs": docs, "lang": lang, "save": rng.random() < 0.8, "pretty": rng.random() < 0.2}
+    if rng.random() < 0.2:
+        job["remove"] = rng.sample(REFERENCES, 2)
+    return job, words
 
 
 def hits_of(path, query):

@@ -98,10 +98,10 @@ class Search(NamedTuple):
 
 
 SEARCHES = [
-    Search("any word", False, ["foxes dogs"], "1\n2\n"),
+    Search("any word", False, ["foxes dogs red"], "1\n2\n"),
     Search("all words", False, ["lazy dog", "--all"], "2\n"),
     Search("one field", False, ["quick", "--field", "body"], "1\n"),
-    Search("a pretty index", True, ["foxes dogs", "--field", "title"], "1\n2\n"),
+    Search("a pretty index", True, ["foxes dogs red", "--field", "title"], "1\n2\n"),
 ]
 FINDS = [
     Search("find any", False, ["body", "foxes dogs", "any"], "1\n2\n"),

@@ -74,13 +74,21 @@ fn options_of(
     })
 }
 
-/// The options of a field: its weight.
+/// The options of a field: its weight, the last one that is given.
 fn field_options(asked: &Asked<'_>, name: &str) -> SearchOptionsField {
-    let mut options = SearchOptionsField::default();
-    for (field, boost) in &asked.boosts {
+    SearchOptionsField {
+        boost: boost_of(&asked.boosts, name),
+        bool: None,
+        expand: None,
+    }
+}
+
+fn boost_of(boosts: &[(&str, u8)], name: &str) -> Option<u8> {
+    let mut last = None;
+    for (field, boost) in boosts {
         if *field == name {
-            options.boost = Some(*boost);
+            last = Some(*boost);
         }
     }
-    options
+    last
 }

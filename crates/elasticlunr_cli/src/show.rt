@@ -110,18 +110,18 @@ fn line_of(found: &Found<'_>, text: &str) -> Result<Line, SearchError> {
     let place = first_found(found, text)?;
     let begins = place.unwrap_or(0).saturating_sub(BEFORE);
     let mut line = String::new(found.alloc);
+    let mut gap = if begins > 0 { "… " } else { "" };
     let mut length = 0usize;
-    if begins > 0 {
-        line.push_str("… ")?;
-    }
     for piece in text.split_inclusive(ends_word).filter(|it| is_text(*it)).skip(begins) {
+        line.push_str(gap)?;
         if length > WIDTH {
             line.push('…')?;
             break;
         }
         let shown = shown_piece(found, piece)?;
-        length = length.saturating_add(shown.chars().count());
+        length = length.saturating_add(shown.chars().count()).saturating_add(1);
         line.push_str(shown.as_str())?;
+        gap = if piece.ends_with('-') { "" } else { " " };
     }
     Ok(Line {
         text: line,
@@ -159,7 +159,7 @@ fn is_found(found: &Found<'_>, word: &str) -> Result<bool, SearchError> {
     found.searcher.is_found_word(&found.tokens, found.expand, word)
 }
 
-/// A word, marked where it is found, and the hyphen or the blank after it.
+/// The word of a piece, marked where it is found, and the hyphen after it.
 fn shown_piece(found: &Found<'_>, piece: &str) -> Result<String, SearchError> {
     let word = word_of(piece);
     let mut text = if is_found(found, word)? {
@@ -167,7 +167,9 @@ fn shown_piece(found: &Found<'_>, piece: &str) -> Result<String, SearchError> {
     } else {
         cut(found.alloc, word)?
     };
-    text.push(if piece.ends_with('-') { '-' } else { ' ' })?;
+    if piece.ends_with('-') {
+        text.push('-')?;
+    }
     Ok(text)
 }
 

@@ -1,7 +1,7 @@
 //! Hits as lines of JSON.
 
-use elasticlunr_search::{Hit, SearchError, Searcher};
 use elasticlunr_lang::AnyLanguage;
+use elasticlunr_search::{Hit, SearchError, Searcher};
 use serde_json::{Map, Number, Value};
 use std::alloc::{AllocError, Global};
 use std::collections::BTreeMap;

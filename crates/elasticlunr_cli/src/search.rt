@@ -83,7 +83,9 @@ fn misused(rt: &HostRuntime, misuse: Misuse<'_>) -> io::Result<Outcome> {
     let alloc = rt.alloc();
     let said = match misuse {
         Misuse::NoBoost(text) => {
-            format!(in alloc; "`--boost {text}`: expected FIELD=NUMBER, with a number from 0 to 255")?
+            format!(in alloc;
+                "`--boost {text}`: expected FIELD=NUMBER, with a number from 0 to 255"
+            )?
         }
         Misuse::NotSearched(field) => {
             format!(in alloc; "`--boost` of the field \"{field}\", which `--field` leaves out")?

@@ -112,14 +112,20 @@ fn line_of(found: &Found<'_>, text: &str) -> Result<Line, SearchError> {
     let mut line = String::new(found.alloc);
     let mut gap = if begins > 0 { "… " } else { "" };
     let mut length = 0usize;
-    for piece in text.split_inclusive(ends_word).filter(|it| is_text(*it)).skip(begins) {
+    for piece in text
+        .split_inclusive(ends_word)
+        .filter(|it| is_text(*it))
+        .skip(begins)
+    {
         line.push_str(gap)?;
         if length > WIDTH {
             line.push('…')?;
             break;
         }
         let shown = shown_piece(found, piece)?;
-        length = length.saturating_add(shown.chars().count()).saturating_add(1);
+        length = length
+            .saturating_add(shown.chars().count())
+            .saturating_add(1);
         line.push_str(shown.as_str())?;
         gap = if piece.ends_with('-') { "" } else { " " };
     }
@@ -156,7 +162,9 @@ fn word_of(piece: &str) -> &str {
 }
 
 fn is_found(found: &Found<'_>, word: &str) -> Result<bool, SearchError> {
-    found.searcher.is_found_word(&found.tokens, found.expand, word)
+    found
+        .searcher
+        .is_found_word(&found.tokens, found.expand, word)
 }
 
 /// The word of a piece, marked where it is found, and the hyphen after it.

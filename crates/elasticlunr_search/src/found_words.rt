@@ -50,14 +50,17 @@ impl<L: Language> Searcher<L> {
 fn has_asked(tokens: &[String], expand: bool, own: &[String]) -> bool
     ensures { IsTrue result ↔ HasAsked expand (bytes_of tokens.now) (bytes_of own.now) }
 {
-    own.iter().any(|token| is_asked(tokens, expand, token.as_str()))
+    own.iter()
+        .any(|token| is_asked(tokens, expand, token.as_str()))
 }
 
 /// Whether a token is one of these, or with `expand` begins with one.
 fn is_asked(tokens: &[String], expand: bool, token: &str) -> bool
     ensures { IsTrue result ↔ IsAsked expand (bytes_of tokens.now) token.now }
 {
-    tokens.iter().any(|asked| is_answer(asked.as_str(), expand, token))
+    tokens
+        .iter()
+        .any(|asked| is_answer(asked.as_str(), expand, token))
 }
 
 /// Whether a token is this one, or with `expand` begins with it.

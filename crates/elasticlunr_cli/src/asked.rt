@@ -23,9 +23,9 @@ pub(crate) struct Asked<'a> {
     pub query: &'a str,
     pub needed: Needed,
     pub expand: bool,
-    /// The fields in which is searched, or each where there is none.
+    /// The fields that are searched; none is all.
     pub fields: Vec<&'a str>,
-    /// The weights of fields; one that isn't here has 1.
+    /// The boosts of fields; one that isn't here has 1.
     pub boosts: Vec<(&'a str, u8)>,
     /// How many hits are printed at most; none is all.
     pub limit: Option<usize>,
@@ -34,9 +34,9 @@ pub(crate) struct Asked<'a> {
 /// Why the words ask for nothing.
 #[derive(Drop)]
 pub(crate) enum Misuse<'a> {
-    /// This is no field with its weight.
+    /// This is no field with its boost.
     NoBoost(&'a str),
-    /// In this field, which has a weight, is not searched.
+    /// This field, which has a boost, isn't searched.
     NotSearched(&'a str),
     Memory,
 }
@@ -113,7 +113,7 @@ fn limit_of(given: &ArgMatches<'_>) -> Option<usize> {
     }
 }
 
-/// The fields and weights of texts such as `title=2`.
+/// The fields and boosts of texts such as `title=2`.
 fn boosts_of<'a>(alloc: Global, texts: &[&'a str]) -> Result<Vec<(&'a str, u8)>, Misuse<'a>> {
     let mut boosts = Vec::new(alloc);
     for text in texts {
@@ -125,7 +125,7 @@ fn boosts_of<'a>(alloc: Global, texts: &[&'a str]) -> Result<Vec<(&'a str, u8)>,
     Ok(boosts)
 }
 
-/// A field and its weight.
+/// A field and its boost.
 fn boost_of(text: &str) -> Option<(&str, u8)> {
     let (field, number) = text.rsplit_once('=')?;
     match number.parse::<u8>() {
@@ -134,7 +134,7 @@ fn boost_of(text: &str) -> Option<(&str, u8)> {
     }
 }
 
-/// The first field that has a weight although in others alone is searched.
+/// The first field that has a boost and isn't searched.
 fn first_unsearched<'a>(fields: &[&'a str], boosts: &[(&'a str, u8)]) -> Option<&'a str> {
     if fields.is_empty() {
         return None;

@@ -34,14 +34,14 @@ fn hits_with_each(
     query: &str,
     options: &SearchOptions,
 ) -> Result<Vec<Hit>, SearchError> {
-    let found = searcher.find_across(&weighed_fields(alloc, &options.fields)?, query)?;
+    let found = searcher.find_across(&searched_fields(alloc, &options.fields)?, query)?;
     let mut hits = searcher.search(query, options)?;
     hits.retain(|hit| found.binary_search(&hit.reference).is_ok());
     Ok(hits)
 }
 
-/// The fields whose words count.
-fn weighed_fields(alloc: Global, fields: &FieldOptions) -> Result<Vec<&str>, AllocError> {
+/// The fields whose boost isn't 0.
+fn searched_fields(alloc: Global, fields: &FieldOptions) -> Result<Vec<&str>, AllocError> {
     let mut names = Vec::new(alloc);
     for (name, options) in fields {
         if options.boost != Some(0) {
@@ -74,7 +74,7 @@ fn options_of(
     })
 }
 
-/// The options of a field: its weight, the last one that is given.
+/// The options of a field: its boost, the last one that is given.
 fn field_options(asked: &Asked<'_>, name: &str) -> SearchOptionsField {
     SearchOptionsField {
         boost: boost_of(&asked.boosts, name),

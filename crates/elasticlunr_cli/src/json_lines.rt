@@ -33,7 +33,7 @@ fn json_line(
     format!(in alloc; "{{\"ref\":{reference},\"score\":{score},\"doc\":{document}}}\n")
 }
 
-/// A score, or null where a weight made it infinite.
+/// A score, or null where it is infinite.
 fn score_value(score: f64) -> Value {
     match Number::from_f64(score) {
         Some(number) => Value::Number(number),

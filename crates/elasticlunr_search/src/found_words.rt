@@ -1,8 +1,8 @@
 //! Which words of a text a query finds.
-ghost use Rattle.std.specs.Prelude.{◌≡◌, ◌↔◌, ℕ, IfOk, IfErr, IsTrue};
-ghost use Rattle.elasticlunr_text.specs.Text.{bytes_of, texts_of};
+ghost use Rattle.std.specs.Prelude.{◌≡◌, ℕ, IfOk, IfErr};
+ghost use Rattle.elasticlunr_text.specs.Text.{texts_of};
 ghost use Rattle.elasticlunr.specs.Reading.{LanguageReads};
-ghost use Rattle.elasticlunr_search.specs.FoundWords.{HasAsked, IsAnswer, IsAsked};
+ghost use Rattle.elasticlunr_search.specs.FoundWords.{has_asked, is_answer, is_asked};
 ghost use Rattle.elasticlunr_search.specs.FoundWords.{IsFoundWord};
 ghost use Rattle.elasticlunr_search.specs.Query.{AreTokensOf};
 ghost use Rattle.elasticlunr_search.specs.declared.error.SearchError.TheVariants.{Memory};
@@ -38,7 +38,7 @@ impl<L: Language> Searcher<L> {
         ensures found { IfOk result (λ is_found. (language : L) (i : ℕ)
             → Speaks L.leaves_of leaves self.now language
             → IsFoundWord (LanguageReads (L.tokens_of language) (L.leaves_of language)) i expand
-            (bytes_of tokens.now) word.now is_found) }
+            tokens.now word.now is_found) }
         ensures errors { IfErr result (λ e. e ≡ Memory) }
     {
         let own = self.query_tokens(word)?;
@@ -48,7 +48,7 @@ impl<L: Language> Searcher<L> {
 
 /// Whether one of a word's tokens is asked for.
 fn has_asked(tokens: &[String], expand: bool, own: &[String]) -> bool
-    ensures { IsTrue result ↔ HasAsked expand (bytes_of tokens.now) (bytes_of own.now) }
+    ensures { result ≡ has_asked expand tokens.now own.now }
 {
     own.iter()
         .any(|token| is_asked(tokens, expand, token.as_str()))
@@ -56,7 +56,7 @@ fn has_asked(tokens: &[String], expand: bool, own: &[String]) -> bool
 
 /// Whether a token is one of these, or with `expand` begins with one.
 fn is_asked(tokens: &[String], expand: bool, token: &str) -> bool
-    ensures { IsTrue result ↔ IsAsked expand (bytes_of tokens.now) token.now }
+    ensures { result ≡ is_asked expand tokens.now token.now }
 {
     tokens
         .iter()
@@ -65,10 +65,10 @@ fn is_asked(tokens: &[String], expand: bool, token: &str) -> bool
 
 /// Whether a token is this one, or with `expand` begins with it.
 fn is_answer(asked: &str, expand: bool, token: &str) -> bool
-    ensures { IsTrue result ↔ IsAnswer expand asked.now token.now }
+    ensures { result ≡ is_answer expand asked.now token.now }
 {
     if expand {
-        token.starts_with(asked)
+        token.as_bytes().starts_with(asked.as_bytes())
     } else {
         token == asked
     }

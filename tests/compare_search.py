@@ -41,7 +41,7 @@ SCRIPT = os.path.join(TOP, "browser/elasticlunr-languages.js")
 # For each query of --queries: how many queries of a kind there must be, and how many of them must find something
 LEAST = {"English pages": (2, 0.8), "random": (1, 0.2)}
 # The same of ranked queries. Of random ones there are EACH for each of --indexes; of others as many as --queries
-LEAST_RANKED = {"examples": (1, 0.1), "pages": (1, 0.6), "random indexes": (ranked_queries.EACH, 1.5)}
+LEAST_RANKED = {"examples": (1, 0.1), "pages": (1, 0.3), "random indexes": (ranked_queries.EACH, 1.5)}
 SHOWN = 5  # failures that are printed
 
 # Reads one JSON object: the texts of indexes, and requests with the number of an index each.

@@ -211,7 +211,7 @@ SHOWN = [
 ON_A_TERMINAL = [
     "1. [Fox] (b)",
     "2. A [fox], \\u{1b}[2J red (a\\u{1b}[31m\\u{9b}\\u{7f})",
-    "   … three four five six seven eight ([foxes]), nine-[fox] ten. More words …",
+    "   … three four five six seven eight ([foxes]), nine-[fox] ten. More words follow …",
     "3. " + "x" * 40 + "… [fox] " + "y" * 40 + "… (c)",
     "   No such word. No such word. No such word. No such word. No such word. No …",
 ]

@@ -102,7 +102,7 @@ SEARCHES = [
     Search("any word", False, ["foxes dogs red"], "1\n2\n"),
     Search("all words", False, ["lazy dog", "--all"], "2\n"),
     Search("one field", False, ["quick", "--field", "body", "--boost", "body=2"], "1\n"),
-    Search("beginnings", False, ["fox dogs re", "--expand", "--limit", "0"], "1\n2\n"),
+    Search("beginnings", False, ["fox dogs re", "--expand", "--limit", "0"], "2\n1\n"),
     Search("JSON", False, ["lazy", "--json"], LAZY_DOG),
     Search("a pretty index", True, ["foxes dogs red", "--field", "title"], "1\n2\n"),
 ]

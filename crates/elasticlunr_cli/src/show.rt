@@ -183,19 +183,30 @@ fn shown_piece(found: &Found<'_>, piece: &str) -> Result<String, SearchError> {
 
 /// A found word: in brackets, without the punctuation around it.
 fn marked(alloc: Global, word: &str) -> Result<String, AllocError> {
-    let core = word.trim_matches(is_mark);
+    let core = word.trim_matches(is_punctuation);
+    if core.is_empty() {
+        return bracketed(alloc, "", word, "");
+    }
     match word.split_once(core) {
-        Some((before, after)) => {
-            let core = cut(alloc, core)?;
-            format!(in alloc; "{before}[{core}]{after}")
-        }
-        None => cut(alloc, word),
+        Some((before, after)) => bracketed(alloc, before, core, after),
+        None => bracketed(alloc, "", word, ""),
     }
 }
 
-/// Whether a character is neither a letter nor a digit.
-fn is_mark(c: char) -> bool {
-    !c.is_alphanumeric()
+/// A word in brackets between others.
+fn bracketed(alloc: Global, before: &str, word: &str, after: &str) -> Result<String, AllocError> {
+    let before = cut(alloc, before)?;
+    let word = cut(alloc, word)?;
+    let after = cut(alloc, after)?;
+    format!(in alloc; "{before}[{word}]{after}")
+}
+
+/// Whether a character is punctuation: of ASCII, or a quotation mark, a dash or the like.
+fn is_punctuation(c: char) -> bool {
+    matches!(
+        c,
+        '!'..='/' | ':'..='@' | '['..='`' | '{'..='~' | '\u{ab}' | '\u{bb}' | '\u{2010}'..='\u{2027}'
+    )
 }
 
 /// A word, or its beginning where it is long.

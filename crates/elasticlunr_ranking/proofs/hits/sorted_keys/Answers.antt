@@ -1,0 +1,10 @@
+use Rattle.elasticlunr_ranking.specs.Held.{told}
+use Rattle.elasticlunr_ranking.proofs.Ranked.{each, in_order}
+use Rattle.elasticlunr_ranking.proofs.hits.sorted_keys.Goals as goal
+
+pub returns-clause-permutation : goal.returns-clause-permutation
+returns-clause-permutation c = each (told c.args.scores.now) c.in_ok-keys.keys.items c.sort_unstable.new.self.items
+    c.in_ok-keys.ensures c.sort_unstable.ensures.permutation
+
+pub returns-clause-order : goal.returns-clause-order
+returns-clause-order c = in_order c.sort_unstable.new.self.items c.sort_unstable.ensures.sorted

@@ -38,17 +38,17 @@ GROUPS = [
 ]
 # How much each check must try, with what it skips. A check that can try nothing here, and says so, is no failure.
 LEAST = {
-    "compare_search": 900,
+    "compare_search": 2_900,
     "pieces": 7_400,
     "browser": 260,
-    "forgeries compare_search pieces browser": 32,
+    "forgeries compare_search pieces browser": 37,
     "compare_random": 13_000,
     "refuse_memory": 2_000,
     "refuse_calls": 140,
     "forgeries": 55,
     "long_inputs": 9,
     "check_docs": 450,
-    "command": 180,
+    "command": 210,
     "check_jobs": 150,
     "check_gate": 25,
 }

@@ -52,7 +52,7 @@ OBJECTS = [
 ]
 FOUND = [
     (["fox"], ["1"]),
-    (["foxes dogs"], ["1", "2"]),
+    (["foxes dogs"], ["2", "1"]),
     (["fox dog", "--all"], []),
     (["lazy dog", "--all"], ["2"]),
     (["red quick", "--all"], ["1"]),
@@ -154,7 +154,8 @@ def check_search(results):
         for words, wanted in FOUND:
             ended = ran(folder, ["search", "index.json", *words])
             lines = "".join(it + "\n" for it in wanted).encode()
-            results.check(f"search {words}", ended == (lines, b"", 0), ended)
+            said = b"" if wanted else b"index.json: nothing was found\n"
+            results.check(f"search {words}", ended == (lines, said, 0), ended)
         check_scripts(folder, given, results)
         ended = ran(folder, ["search", "index.json", "fox", "--field", "titel"])
         wanted = (b"", b'index.json: no field "titel"; did you mean "title"?\n', 2)
@@ -167,11 +168,11 @@ def check_deep_search(results):
     with tempfile.TemporaryDirectory() as folder:
         given = json.dumps([{"id": "1", "a": word}, {"id": "2", "a": "fox"}]).encode()
         ran(folder, ["build", "-o", "index.json"], given)
-        for query, wanted in ((word, b"1\n"), (word[1:], b""), ("fox", b"2\n")):
+        for query, *wanted in ((word, b"1\n", b""), (word[1:], b"", b"index.json: nothing was found\n"), ("fox", b"2\n", b"")):
             ended = ran(folder, ["search", "index.json", query])
-            results.check(f"search of {len(query)} letters in a deep index", ended == (wanted, b"", 0), ended)
+            results.check(f"search of {len(query)} letters in a deep index", ended == (*wanted, 0), ended)
         ended = ran(folder, ["search", "index.json", "fox", "--field", "b"])
-        results.check("search in no field of a deep index", ended == (b"", b'index.json: no field "b"\n', 2), ended)
+        results.check("search in no field of a deep index", ended == (b"", b'index.json: no field "b"; did you mean "a"?\n', 2), ended)
 
 
 def check_scripts(folder, given, results):
@@ -180,11 +181,11 @@ def check_scripts(folder, given, results):
         for more in ([], ["--pretty"]):
             ran(folder, ["build", "--fields", "title,body", "--js", before, "-o", "index.js", *more], given)
             ended = ran(folder, ["search", "index.js", "foxes dogs"])
-            results.check(f"search in a script, {before!r} {more}", ended == (b"1\n2\n", b"", 0), ended)
+            results.check(f"search in a script, {before!r} {more}", ended == (b"2\n1\n", b"", 0), ended)
     with open(os.path.join(folder, "index.json"), "rb") as file:
         text = file.read()
     files = {
-        "marked.json": (b"\xef\xbb\xbf" + text, (b"1\n2\n", b"", 0)),
+        "marked.json": (b"\xef\xbb\xbf" + text, (b"2\n1\n", b"", 0)),
         "cut.json": (text[:40], (b"", b"cut.json:1:40: not JSON: it ends in the middle of a value\n", 2)),
         "cut.js": (
             b"i = " + text[:40] + b";\n",
@@ -199,21 +200,48 @@ def check_scripts(folder, given, results):
         results.check(f"search in {name}", ended == wanted, ended)
 
 
+SHOWN = [
+    {
+        "id": "a\x1b[31m\x9b\x7f",
+        "title": "A fox,\n\x1b[2J red",
+        "body": "One two three four five six seven eight (foxes), nine-fox\tten. " + "More words follow here. " * 20,
+    },
+    {"id": "b", "title": "Fox", "body": ""},
+    {"id": "c", "title": "x" * 500 + " fox " + "y" * 500, "body": "No such word. " * 9},
+]
+ON_A_TERMINAL = [
+    "1. [Fox] (b)",
+    "2. A [fox], \\u{1b}[2J red (a\\u{1b}[31m\\u{9b}\\u{7f})",
+    "   … three four five six seven eight ([foxes]), nine-[fox] ten. More words follow …",
+    "3. " + "x" * 40 + "… [fox] " + "y" * 40 + "… (c)",
+    "   No such word. No such word. No such word. No such word. No such word. No …",
+]
+
+
+def on_a_terminal(folder, words):
+    """The status of a run of the command on a terminal, and what that gets."""
+    reader, writer = pty.openpty()
+    with os.fdopen(reader, "rb", buffering=0) as shown, os.fdopen(writer, "wb", buffering=0) as terminal:
+        status = subprocess.run([COMMAND, *words], cwd=folder, stdout=terminal, stderr=subprocess.PIPE, timeout=20).returncode
+        return status, shown.read(10_000).decode()
+
+
 def check_terminal(results):
-    """A terminal gets no control character of a reference; a pipe gets each reference byte for byte."""
-    reference = "a\x1b[31m\x9b\x7f"
+    """A terminal gets ranks, titles and lines of texts, and no control character of them; a pipe gets each reference byte
+    for byte."""
     with tempfile.TemporaryDirectory() as folder:
-        given = json.dumps([{"id": reference, "a": "fox"}]).encode()
-        ran(folder, ["build", "-o", "index.json"], given)
+        ran(folder, ["build", "-o", "index.json"], json.dumps(SHOWN).encode())
         ended = ran(folder, ["search", "index.json", "fox"])
-        results.check("a reference in a pipe", ended == (reference.encode() + b"\n", b"", 0), ended)
-        reader, writer = pty.openpty()
-        with os.fdopen(reader, "rb", buffering=0) as shown, os.fdopen(writer, "wb", buffering=0) as terminal:
-            args = [COMMAND, "search", "index.json", "fox"]
-            status = subprocess.run(args, cwd=folder, stdout=terminal, stderr=subprocess.PIPE, timeout=20).returncode
-            text = shown.read(1000)
-        wanted = b"a\\u{1b}[31m\\u{9b}\\u{7f}\r\n"
-        results.check("a reference on a terminal", (status, text) == (0, wanted), (status, text))
+        wanted = "".join(SHOWN[number]["id"] + "\n" for number in (1, 0, 2)).encode()
+        results.check("references in a pipe", ended == (wanted, b"", 0), ended)
+        ended = on_a_terminal(folder, ["search", "index.json", "fox"])
+        results.check("hits on a terminal", ended == (0, "".join(f"{line}\r\n" for line in ON_A_TERMINAL)), ended)
+        status, text = on_a_terminal(folder, ["search", "index.json", "fox", "--json"])
+        good = status == 0 and text.count("\r\n") == 3 and not set(text) & {"\x1b", "\x9b", "\x7f"}
+        results.check("JSON on a terminal", good, (status, text))
+        ran(folder, ["build", "-o", "index.json", "--no-save"], json.dumps(SHOWN).encode())
+        ended = on_a_terminal(folder, ["search", "index.json", "fox", "--limit", "1"])
+        results.check("hits without texts on a terminal", ended == (0, "1. b\r\n"), ended)
 
 
 def check_mode(folder, job, results):

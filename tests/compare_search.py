@@ -1,13 +1,16 @@
 #!/usr/bin/env python3
 """Searches printed indexes with the built program and with elasticlunr.js 0.9.5, and compares what they find.
 
-usage: compare_search.py [--queries N] [--seed N] [--script FILE] [--folder DIR]
+usage: compare_search.py [--queries N] [--indexes N] [--seed N] [--script FILE] [--folder DIR]
 
 The English texts are the paragraphs of this project's own pages. The others are those of random jobs in all languages, which
 the JavaScript knows by the script for browsers (browser/elasticlunr-languages.js, or --script). Both search the text that
 the program printed, one field at a time, without expansion, by any of the query's tokens and by all of them. The program
 must print the references that the JavaScript finds, in the order of their bytes. LEAST says how many queries there must be,
 and how many must find something. So neither a program nor a script that finds nothing passes.
+
+The command `elasticlunr search` is compared in the same way, with what elasticlunr.js ranks (ranked_queries.py): on the
+examples, on the same pages and on --indexes random indexes, with all options. LEAST_RANKED counts these.
 
 elasticlunr.js is downloaded (tools/fetch_elasticlunr.sh), or is in --folder already. If it or node can't be had, the
 comparison is counted as skipped.
@@ -16,6 +19,7 @@ import argparse
 import collections
 import glob
 import json
+import math
 import os
 import random
 import re
@@ -26,7 +30,7 @@ from typing import NamedTuple
 
 sys.path.insert(0, os.path.join(os.path.dirname(__file__), ".."))
 
-from tests import browser_tools, random_jobs
+from tests import browser_tools, random_jobs, ranked_queries
 from tests.model_tokens import LANGUAGES
 from tests.report import Results
 from tools import search_page
@@ -36,6 +40,8 @@ FINDS = program("elasticlunr_find")
 SCRIPT = os.path.join(TOP, "browser/elasticlunr-languages.js")
 # For each query of --queries: how many queries of a kind there must be, and how many of them must find something
 LEAST = {"English pages": (2, 0.8), "random": (1, 0.2)}
+# The same of ranked queries. Of random ones there are EACH for each of --indexes; of others as many as --queries
+LEAST_RANKED = {"examples": (1, 0.1), "pages": (1, 0.3), "random indexes": (ranked_queries.EACH, 1.5)}
 SHOWN = 5  # failures that are printed
 
 # Reads one JSON object: the texts of indexes, and requests with the number of an index each.
@@ -46,10 +52,7 @@ require(process.argv[3])(elasticlunr);
 elasticlunr.Pipeline.warnIfFunctionNotRegistered = () => {};
 const given = JSON.parse(fs.readFileSync(0, 'utf8'));
 const indexes = given.indexes.map((text) => elasticlunr.Index.load(JSON.parse(text)));
-const found = given.requests.map(([number, field, query, join]) => {
-  const config = { fields: { [field]: { boost: 1, bool: join === 'any' ? 'OR' : 'AND', expand: false } } };
-  return indexes[number].search(query, config).map((one) => one.ref);
-});
+const found = given.requests.map(([number, query, config]) => indexes[number].search(query, config));
 process.stdout.write(JSON.stringify(found));
 """
 
@@ -109,15 +112,20 @@ def in_all_languages(rng, count):
             yield job, rng.choice(names), " ".join(asked)
 
 
-def answers(library, script, indexes, queries):
-    """What elasticlunr.js finds for each query, in the order of bytes."""
+def answers(library, script, indexes, requests):
+    """What elasticlunr.js finds for each request: the number of an index, a query and options."""
     with tempfile.TemporaryDirectory() as folder:
         driver = write(os.path.join(folder, "driver.js"), DRIVER)
-        sent = json.dumps({"indexes": indexes, "requests": [[it.index, it.field, it.text, it.join] for it in queries]}).encode()
+        sent = json.dumps({"indexes": indexes, "requests": requests}).encode()
         ended = run(["node", driver, os.path.abspath(library), os.path.abspath(script)], sent, seconds=600)
     if ended.status != 0:
         sys.exit(f"search: node: status {ended.status}: {ended.err.decode(errors='replace')[-500:]}")
-    return [sorted(refs, key=lambda one: one.encode()) for refs in json.loads(ended.out)]
+    return json.loads(ended.out)
+
+
+def request(query):
+    options = {"boost": 1, "bool": "OR" if query.join == "any" else "AND", "expand": False}
+    return [query.index, query.text, {"fields": {query.field: options}}]
 
 
 def indexed(options, results):
@@ -142,7 +150,8 @@ def indexed(options, results):
 
 def compare(options, library, results):
     texts, queries = indexed(options, results)
-    theirs = answers(library, options.script, texts, queries)
+    theirs = answers(library, options.script, texts, list(map(request, queries)))
+    theirs = [sorted((hit["ref"] for hit in hits), key=str.encode) for hits in theirs]
     equal, some = collections.Counter(), collections.Counter()
     for query, references in zip(queries, theirs, strict=True):
         mine = found(texts[query.index], query)
@@ -160,9 +169,63 @@ def compare(options, library, results):
             results.note(False, f"search: {kind}: {some[kind]} queries found something, and {round(least_found * options.queries)} are the least")
 
 
+def ranked_indexes(rng, options):
+    """For each index its kind, its job, the number of its queries and their words."""
+    examples = list(ranked_queries.jobs_of_examples())
+    for job in examples:
+        yield "examples", job, math.ceil(options.queries / len(examples)), ranked_queries.words_of(job["docs"])
+    docs = list(paragraphs())
+    yield "pages", {"fields": ["heading", "body"], "docs": docs}, options.queries, ranked_queries.words_of(docs)
+    for _ in range(options.indexes):
+        yield "random indexes", *with_count(ranked_queries.random_index(rng))
+
+
+def with_count(index):
+    job, words = index
+    return job, ranked_queries.EACH, words
+
+
+def ranked(options, results):
+    """The texts of the indexes, and the ranked queries."""
+    rng = random.Random(options.seed)
+    texts, queries = [], []
+    for kind, job, count, words in ranked_indexes(rng, options):
+        try:
+            text = printed(job)
+        except ValueError as error:
+            results.note(False, f"search: {error}: {json.dumps(job)[:300]}")
+            continue
+        fields = json.loads(text)["fields"]
+        queries += [ranked_queries.ranked_query(rng, kind, len(texts), fields, words) for _ in range(count)]
+        texts.append(text)
+    return texts, queries
+
+
+def compare_ranked(options, library, results):
+    texts, queries = ranked(options, results)
+    theirs = answers(library, options.script, texts, [[it.index, it.text, it.config()] for it in queries])
+    equal, some = collections.Counter(), collections.Counter()
+    with tempfile.TemporaryDirectory() as folder:
+        paths = [write(os.path.join(folder, f"{number}.json"), text) for number, text in enumerate(texts)]
+        for query, hits in zip(queries, theirs, strict=True):
+            wrong = ranked_queries.why_wrong(ranked_queries.hits_of(paths[query.index], query), hits)
+            results.note(wrong is None, f"search: {json.dumps(query.said())}: {wrong}")
+            equal[query.kind] += wrong is None
+            some[query.kind] += wrong is None and len(hits) > 1
+    for kind, (least, least_found) in LEAST_RANKED.items():
+        print(f"search, ranked, {kind}: {equal[kind]} equal, {some[kind]} of them found several documents")
+        base = options.indexes if kind == "random indexes" else options.queries
+        tried = sum(query.kind == kind for query in queries)
+        if tried < max(1, least * base):
+            results.note(False, f"search: {kind}: {tried} queries, and {least * base} are the least")
+        if some[kind] < least_found * base:
+            results.note(False, f"search: {kind}: {some[kind]} queries found several documents, and {round(least_found * base)} are the least")
+
+
 def main():
     parser = argparse.ArgumentParser(description=__doc__, formatter_class=argparse.RawDescriptionHelpFormatter)
     parser.add_argument("--queries", type=int, default=300)
+    parser.add_argument("--indexes", type=int, default=500)
     parser.add_argument("--seed", type=int, default=1)
     parser.add_argument("--script", default=SCRIPT)
     parser.add_argument("--folder", default=search_page.FETCHED)
@@ -178,6 +241,7 @@ def main():
         library = search_page.ELASTICLUNR
     if os.path.exists(options.script):
         compare(options, library, results)
+        compare_ranked(options, library, results)
     else:
         results.note(False, f"search: there is no {options.script}")
     return results.report()

@@ -76,6 +76,7 @@ sys.stdout.buffer.write(out)
 sys.exit(status)
 """
 OF_A_JOB = "job = json.loads(given); %s; given = json.dumps(job).encode()"
+OF_HITS = 'out = b"".join(json.dumps(%s).encode() + b"\\n" for hit in map(json.loads, out.splitlines()))'
 INDEX, FIND, COMMAND = "elasticlunr_index", "elasticlunr_find", "elasticlunr_cli"
 JOBS = {  # forged programs that change the job
     "ignores its documents": 'job["docs"] = []',
@@ -89,6 +90,11 @@ CHANGES = {  # whose program is run, what is changed of its run, and how
     **{name: (INDEX, CHANGES_INPUT, OF_A_JOB % change) for name, change in JOBS.items()},
     "finds any word for all": (FIND, CHANGES_INPUT, 'given = given.replace(b\'"all"]\', b\'"any"]\', 1)'),
     "finds one reference less": (FIND, CHANGES_ANSWER, 'out = out[: out[:-1].rfind(b"\\n") + 1]'),
+    "ranks in the order of references": (COMMAND, CHANGES_ANSWER, 'out = b"".join(sorted(out.splitlines(True)))'),
+    "rounds scores": (COMMAND, CHANGES_ANSWER, OF_HITS % 'dict(hit, score=round(hit["score"]))'),
+    "ignores boosts": (COMMAND, CHANGES_WORDS, 'words = [word for word in words if not word.startswith("--boost=")]'),
+    "ignores beginnings": (COMMAND, CHANGES_WORDS, 'words = [word for word in words if word != "--expand"]'),
+    "prints other texts": (COMMAND, CHANGES_ANSWER, OF_HITS % 'dict(hit, doc={"id": hit["ref"]})'),
     "searches any word for all": (COMMAND, CHANGES_WORDS, 'words = [word for word in words if word != "--all"]'),
     "a command that cuts by another size": (
         COMMAND,
@@ -158,13 +164,25 @@ def forged_refusals():
 
 def forged_searches():
     """Programs that search wrongly, and searches that try nothing."""
-    few = ("--queries", "60")
+    few = ("--queries", "60", "--indexes", "30")
     other = r'^search: \{"field": '
+    ranks = r'^search: \{"options": .*: '
     for name in ("finds __proto__ for everything", "finds nothing", "finds any word for all", "finds one reference less", "crashes"):
         yield Forgery(name, "compare_search", other, name, few, FIND)
+    for name, said in [
+        ("finds nothing", r"finds \[\] instead of"),
+        ("ranks in the order of references", "has .* where elasticlunr.js has"),
+        ("rounds scores", "scores .* with"),
+        ("ignores boosts", "scores .* with"),
+        ("ignores beginnings", "finds .* instead of"),
+        ("prints other texts", "has another text of"),
+        ("crashes", "status killed"),
+    ]:
+        yield Forgery(name, "compare_search", ranks + said, name, few, COMMAND)
     yield Forgery("ignores its documents", "compare_search", r"^search: .*: 0 queries found something", "ignores its documents", few)
     yield Forgery("crashes", "compare_search", "^search: elasticlunr_index prints no index: ", "crashes", few)
     yield Forgery("no queries", "compare_search", "^search: .*: 0 queries, and ", arguments=("--queries", "0"))
+    yield Forgery("no indexes", "compare_search", "^search: random indexes: 0 queries, and ", arguments=("--indexes", "0"))
     yield Forgery("no script", "compare_search", "^search: there is no /none.js", arguments=("--script", "/none.js"))
 
 

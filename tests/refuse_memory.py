@@ -97,11 +97,14 @@ class Search(NamedTuple):
     found: str
 
 
+LAZY_DOG = '{"ref":"2","score":811445.6585028752,"doc":{"body":"A lazy dog sleeps","id":"2","title":"Dog"}}\n'
 SEARCHES = [
-    Search("any word", False, ["foxes dogs"], "1\n2\n"),
+    Search("any word", False, ["foxes dogs red"], "1\n2\n"),
     Search("all words", False, ["lazy dog", "--all"], "2\n"),
-    Search("one field", False, ["quick", "--field", "body"], "1\n"),
-    Search("a pretty index", True, ["foxes dogs", "--field", "title"], "1\n2\n"),
+    Search("one field", False, ["quick", "--field", "body", "--boost", "body=2"], "1\n"),
+    Search("beginnings", False, ["fox dogs re", "--expand", "--limit", "0"], "2\n1\n"),
+    Search("JSON", False, ["lazy", "--json"], LAZY_DOG),
+    Search("a pretty index", True, ["foxes dogs red", "--field", "title"], "1\n2\n"),
 ]
 FINDS = [
     Search("find any", False, ["body", "foxes dogs", "any"], "1\n2\n"),

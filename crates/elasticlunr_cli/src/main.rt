@@ -3,12 +3,16 @@
 //! was refused, 1 where a file failed or memory ran out, and 64 where the command line is wrong.
 #![tactic(auto)]
 
+mod asked;
 mod build;
 mod files;
 mod given;
+mod hits;
+mod json_lines;
 mod languages;
 mod pieces;
 mod search;
+mod show;
 mod tell;
 mod words;
 

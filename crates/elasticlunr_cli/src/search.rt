@@ -1,14 +1,11 @@
 //! `search`: what a query finds in a printed index.
-ghost use Rattle.std.specs.Prelude.{IfOk, option_map, string_bytes};
-ghost use Rattle.elasticlunr_input.specs.Mark.{without_mark};
-ghost use Rattle.elasticlunr_diagnostics.specs.Script.{IsIndexIn};
-ghost use Rattle.elasticlunr_search.specs.Answers.{AreLinesFound};
-ghost use Rattle.elasticlunr_search.specs.Reading.{ReadsAs};
-ghost use Rattle.elasticlunr_text.specs.Text.{Bytes};
-ghost use Rattle.serde_json.specs.Data.{Data};
 
+use crate::asked::{Asked, Misuse, asked_of};
 use crate::files::{input_name, read_input};
-use crate::tell::{failed, troubled};
+use crate::hits::hits_of;
+use crate::json_lines::json_lines;
+use crate::show::{Found, shown_hits};
+use crate::tell::{failed, say, troubled};
 use clap::ArgMatches;
 use elasticlunr_diagnostics::form::read_value;
 use elasticlunr_diagnostics::message::{InputError, unplaced};
@@ -17,44 +14,89 @@ use elasticlunr_diagnostics::outcome::Outcome;
 use elasticlunr_diagnostics::script::index_in;
 use elasticlunr_diagnostics::shown::shown_lines;
 use elasticlunr_input::mark::without_mark;
-use elasticlunr_search::Join;
-use elasticlunr_search::answer::{Refusal, lines_found};
-use serde_json::Value;
+use elasticlunr_lang::AnyLanguage;
+use elasticlunr_search::answer::Refusal;
+use elasticlunr_search::named::read_named;
+use elasticlunr_search::{Hit, SearchError, Searcher};
 use std::alloc::{AllocError, Global};
 use std::io::{self, IsTerminal};
 use std::str;
 
-/// What is searched for: a query in a field, or in each.
-#[derive(Drop)]
-struct Asked<'a> {
-    field: Option<&'a str>,
-    query: &'a str,
-    join: Join,
+/// What is printed of hits.
+#[derive(Clone, Copy)]
+enum Form {
+    /// Their references, a line each.
+    References,
+    /// Their references, scores and texts, a line of JSON each.
+    Json,
+    /// For readers: ranks, titles, references and lines of their texts.
+    Shown,
 }
 
-/// Prints the references that are found, one a line.
+/// What is printed, and what is said of it.
+#[derive(Drop)]
+struct Answer {
+    text: String,
+    /// Why there is no hit, where there is none.
+    note: Option<String>,
+}
+
+/// Prints what is found, best first.
 pub(crate) fn search(rt: &HostRuntime, given: &ArgMatches<'_>) -> io::Result<Outcome> {
+    let alloc = rt.alloc();
+    let asked = match asked_of(alloc, given) {
+        Ok(asked) => asked,
+        Err(misuse) => return misused(rt, misuse),
+    };
     let file = given.get_str("index");
     let bytes = match read_input(rt, file) {
         Ok(bytes) => bytes,
         Err(e) => return failed(rt, input_name(file), &e),
     };
-    let asked = Asked {
-        field: given.get_str("field"),
-        query: given.get_str("query").unwrap_or(""),
-        join: if given.get_flag("all") {
-            Join::All
-        } else {
-            Join::Any
-        },
-    };
-    match found_lines(rt.alloc(), &bytes, &asked) {
-        Ok(lines) => {
-            print_lines(rt, lines.as_str())?;
+    let form = form_of(given, rt.stdout().is_terminal());
+    match answer_in(alloc, &bytes, &asked, form) {
+        Ok(answer) => {
+            print_lines(rt, answer.text.as_str())?;
+            if let Some(note) = answer.note {
+                let name = input_name(file);
+                say(rt, format!(in alloc; "{name}: {note}")?.as_str())?;
+            }
             Ok(Outcome::Done)
         }
         Err(trouble) => troubled(rt, input_name(file), trouble),
     }
+}
+
+/// What is printed, to a terminal or elsewhere.
+fn form_of(given: &ArgMatches<'_>, is_terminal: bool) -> Form {
+    if given.get_flag("json") {
+        Form::Json
+    } else if is_terminal {
+        Form::Shown
+    } else {
+        Form::References
+    }
+}
+
+/// Says why the words of the command line ask for nothing.
+fn misused(rt: &HostRuntime, misuse: Misuse<'_>) -> io::Result<Outcome> {
+    let alloc = rt.alloc();
+    let said = match misuse {
+        Misuse::NoBoost(text) => {
+            format!(in alloc;
+                "`--boost {text}`: expected FIELD=NUMBER, with a number from 0 to 255"
+            )?
+        }
+        Misuse::NotSearched(field) => {
+            format!(in alloc; "`--boost` of the field \"{field}\", which `--field` leaves out")?
+        }
+        Misuse::Memory => {
+            eprintln!(rt; "elasticlunr: out of memory")?;
+            return Ok(Outcome::Failed);
+        }
+    };
+    say(rt, format!(in alloc; "error: {said}")?.as_str())?;
+    Ok(Outcome::Misused)
 }
 
 /// Prints lines: as they are, or to a terminal so that it takes none of them for a command.
@@ -67,26 +109,120 @@ fn print_lines(rt: &HostRuntime, lines: &str) -> io::Result<()> {
     }
 }
 
-/// The references that are found in an index, each with a line feed after it. A file has the index
-/// as it is or in a script, and maybe a byte order mark before it.
-fn found_lines(alloc: Global, file: &[u8], asked: &Asked<'_>) -> Result<String, InputError>
-    ensures { IfOk result (λ lines. (index : Bytes) × (v : Data)
-        × IsIndexIn (without_mark file.now) index × ReadsAs index v
-        × AreLinesFound v asked.now.join (option_map (λ f. f.now) asked.now.field)
-        asked.now.query.now
-        (string_bytes lines)) }
-{
+/// What is found in an index. A file has the index as it is or in a script, and maybe a byte order
+/// mark before it.
+fn answer_in(
+    alloc: Global,
+    file: &[u8],
+    asked: &Asked<'_>,
+    form: Form,
+) -> Result<Answer, InputError> {
     let whole = without_mark(file);
     let index = index_in(whole);
     let Ok(text) = str::from_utf8(index) else {
         return Err(unread(alloc, whole, index)?);
     };
-    match lines_found(alloc, text, asked.join, asked.field, asked.query) {
-        Ok(lines) => Ok(lines),
+    match read_named(alloc, text) {
+        Ok(searcher) => answer_of(alloc, &searcher, asked, form),
         Err(Refusal::NotRead) => Err(unread(alloc, whole, index)?),
-        Err(Refusal::NoSuchField) => Err(no_field(alloc, index, asked.field.unwrap_or(""))?),
         Err(refusal) => Err(not_searched(alloc, refusal)?),
     }
+}
+
+/// What a searcher finds.
+fn answer_of(
+    alloc: Global,
+    searcher: &Searcher<AnyLanguage>,
+    asked: &Asked<'_>,
+    form: Form,
+) -> Result<Answer, InputError> {
+    if let Some(field) = unknown_field(searcher.fields(), asked) {
+        return Err(no_field(alloc, field, searcher.fields())?);
+    }
+    match hits_text(alloc, searcher, asked, form) {
+        Ok(answer) => Ok(answer),
+        Err(e) => Err(not_searched(alloc, Refusal::from(e))?),
+    }
+}
+
+/// The hits of a search, as they are printed.
+fn hits_text(
+    alloc: Global,
+    searcher: &Searcher<AnyLanguage>,
+    asked: &Asked<'_>,
+    form: Form,
+) -> Result<Answer, SearchError> {
+    let hits = hits_of(alloc, searcher, asked)?;
+    if hits.is_empty() {
+        let note = why_nothing(alloc, searcher, asked.query)?;
+        return Ok(Answer {
+            text: String::new(alloc),
+            note: Some(note),
+        });
+    }
+    let text = match form {
+        Form::References => references_text(alloc, &hits)?,
+        Form::Json => json_lines(alloc, searcher, hits)?,
+        Form::Shown => shown_hits(&found_by(alloc, searcher, asked)?, &hits)?,
+    };
+    Ok(Answer { text, note: None })
+}
+
+/// By what the words of texts are found.
+fn found_by<'s>(
+    alloc: Global,
+    searcher: &'s Searcher<AnyLanguage>,
+    asked: &Asked<'_>,
+) -> Result<Found<'s>, SearchError> {
+    Ok(Found {
+        alloc,
+        searcher,
+        tokens: searcher.query_tokens(asked.query)?,
+        expand: asked.expand,
+    })
+}
+
+/// Why a query found nothing.
+fn why_nothing(
+    alloc: Global,
+    searcher: &Searcher<AnyLanguage>,
+    query: &str,
+) -> Result<String, SearchError> {
+    let said = if searcher.query_tokens(query)?.is_empty() {
+        "the query has no word that can be found"
+    } else {
+        "nothing was found"
+    };
+    Ok(String::from_str(alloc, said)?)
+}
+
+/// The references of hits, each with a line feed after it.
+fn references_text(alloc: Global, hits: &[Hit]) -> Result<String, AllocError> {
+    let mut text = String::new(alloc);
+    for hit in hits {
+        text.push_str(hit.reference.as_str())?;
+        text.push('\n')?;
+    }
+    Ok(text)
+}
+
+/// A field that is asked for and that the index doesn't have.
+fn unknown_field<'a>(names: &[String], asked: &Asked<'a>) -> Option<&'a str> {
+    for field in &asked.fields {
+        if !has_name(names, *field) {
+            return Some(*field);
+        }
+    }
+    for (field, _) in &asked.boosts {
+        if !has_name(names, *field) {
+            return Some(*field);
+        }
+    }
+    None
+}
+
+fn has_name(names: &[String], name: &str) -> bool {
+    names.iter().any(|it| it.as_str() == name)
 }
 
 /// Why the index that stands in a file is not read.
@@ -101,32 +237,12 @@ fn unread(alloc: Global, whole: &[u8], index: &[u8]) -> Result<InputError, Alloc
     }
 }
 
-/// The names of the fields of an index.
-fn fields_of<'v>(alloc: Global, index: &'v Value) -> Result<Vec<&'v str>, AllocError> {
-    let mut names = Vec::new(alloc);
-    if let Some(items) = index.get("fields").and_then(Value::as_array) {
-        for item in items {
-            names.push(item.as_str().unwrap_or(""))?;
-        }
+/// That an index has no such field, but these.
+fn no_field(alloc: Global, field: &str, names: &[String]) -> Result<InputError, AllocError> {
+    let mut fields = Vec::new(alloc);
+    for name in names {
+        fields.push(name.as_str())?;
     }
-    Ok(names)
-}
-
-/// The value of a text, null where it nests deeper than a value is read.
-fn value_or_null(alloc: Global, text: &[u8]) -> Result<Value, AllocError> {
-    match read_value(alloc, text) {
-        Ok(value) => Ok(value),
-        Err(trouble) => match trouble {
-            InputError::Memory => Err(AllocError),
-            _unread => Ok(Value::Null),
-        },
-    }
-}
-
-/// That an index has no such field.
-fn no_field(alloc: Global, text: &[u8], field: &str) -> Result<InputError, AllocError> {
-    let index = value_or_null(alloc, text)?;
-    let fields = fields_of(alloc, &index)?;
     let said = match nearest(alloc, field, &fields)? {
         Some(near) => format!(in alloc; "no field \"{field}\"; did you mean \"{near}\"?")?,
         None => format!(in alloc; "no field \"{field}\"")?,

@@ -1,10 +1,14 @@
 //! The words of the command line.
 
+use clap::builder::ValueParser;
 use clap::{Arg, ArgAction, Command};
 use std::alloc::{AllocError, Global};
 
 /// The version of this port, and what it is a port of.
 const VERSION: &str = "0.1.0 (a port of elasticlunr-rs 3.0.2)";
+
+/// The greatest number that an option takes.
+const MOST: u64 = 1_000_000_000;
 
 /// The command and its sub-commands.
 pub(crate) fn command_line<'a>(alloc: Global) -> Result<Command<'a>, AllocError> {
@@ -75,20 +79,40 @@ fn input_words<'a>(alloc: Global, command: Command<'a>) -> Result<Command<'a>, A
     command.args(arguments)
 }
 
-/// `search`: an index, a query, and how its words are joined.
+/// `search`: an index, a query, and what is found and printed.
 fn search_words<'a>(alloc: Global) -> Result<Command<'a>, AllocError> {
-    let about = "Prints the references that a query finds in an index, one a line";
+    let about = "Finds what a query asks for in an index, best first";
+    let limit = "Prints so many hits at most, or all for 0";
+    let json = "Prints a line of JSON for each hit: its reference, score and texts";
     let arguments = vec![in alloc;
         required(alloc, "index", "INDEX", "The file of a printed index"),
         required(alloc, "query", "QUERY", "The words to find"),
-        option(alloc, "field", "FIELD", "Finds in this field alone"),
-        flag(
-            alloc,
-            "all",
-            "Finds documents that have every word, each in some field"
-        ),
+        option(alloc, "limit", "NUMBER", limit)
+            .value_parser(ValueParser::unsigned(0, MOST))
+            .default_value("10"),
+        flag(alloc, "json", json),
     ]?;
-    Command::new(alloc, "search").about(about).args(arguments)
+    let command = Command::new(alloc, "search").about(about).args(arguments)?;
+    command.args(finding_words(alloc)?)
+}
+
+/// What is found: by which words, in which fields.
+fn finding_words<'a>(alloc: Global) -> Result<Vec<Arg<'a>>, AllocError> {
+    let all = "Finds documents that have every word, each in some field";
+    let bool_word = "Finds documents that have one word (OR), or every word in one field (AND)";
+    let expand = "Finds words that begin with a word of the query, too";
+    let field = "Finds in this field alone; may be given several times";
+    let boost = "Multiplies the scores of a field, by 0 to 255; may be given several times";
+    let arguments = vec![in alloc;
+        flag(alloc, "expand", expand),
+        flag(alloc, "all", all),
+        option(alloc, "bool", "BOOL", bool_word)
+            .value_parser(["OR", "AND"].as_slice())
+            .conflicts_with("all")?,
+        option(alloc, "field", "FIELD", field).action(ArgAction::Append),
+        option(alloc, "boost", "FIELD=NUMBER", boost).action(ArgAction::Append),
+    ]?;
+    Ok(arguments)
 }
 
 /// An argument that has to be there.

@@ -14,3 +14,5 @@ pub mod Source
 pub mod RebuiltIndex
 pub mod AfterCalls
 pub mod Reading
+pub mod Named
+pub mod FoundWords

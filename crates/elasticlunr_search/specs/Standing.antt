@@ -6,7 +6,7 @@ use Rattle.elasticlunr_text.specs.Text.{Text, Bytes, bytes_of}
 use Rattle.elasticlunr_text.specs.Stages.{IsRunBy, LeavesBy}
 use Rattle.elasticlunr_text.specs.declared.pipeline.run.Pipeline.{Pipeline}
 use Rattle.elasticlunr_trie.specs.Table.{Table}
-use Rattle.elasticlunr_store.specs.Contents.{TextMap}
+use Rattle.elasticlunr_store.specs.Contents.{Contents, TextMap}
 use Rattle.elasticlunr.specs.Fields.{has_name}
 use Rattle.elasticlunr.specs.History.{Commands}
 use Rattle.elasticlunr.specs.Reading.{LanguageReads}
@@ -48,6 +48,10 @@ module _ {L P X : Type 0} {O : X → Type 0} {p : _} where
   -- these are the tables of its fields of these names, in order
   abbrev pub AreTriesOf : Searcher L P X O p → List Bytes → List Table → Type 0
   AreTriesOf s = AllZip (IsTrieOf (fields_of s) s.printed.tries.items)
+
+  -- what its store holds
+  abbrev pub kept_contents : Searcher L P X O p → Contents
+  kept_contents s = s.printed.store
 
   -- the texts that its store has of a reference
   abbrev pub kept_texts : Searcher L P X O p → Bytes → Option TextMap

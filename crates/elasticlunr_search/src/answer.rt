@@ -169,7 +169,7 @@ pub fn lines_found(
 }
 
 /// The language that an index names.
-fn language_of(source: &Source) -> Result<AnyLanguage, Refusal>
+pub(crate) fn language_of(source: &Source) -> Result<AnyLanguage, Refusal>
     ensures named { IfOk result (λ language. (v : Data) → IsSource source.now v
         → get (codes "lang") v ≡ Some (string (language_name language))) }
     ensures none { IfErr result (λ e. (e ≡ UnknownLanguage)

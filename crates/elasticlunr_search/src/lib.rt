@@ -8,7 +8,9 @@
 
 pub mod answer;
 mod error;
+mod found_words;
 pub mod laws;
+pub mod named;
 mod parts;
 mod printed;
 mod rebuild;

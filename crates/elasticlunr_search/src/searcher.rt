@@ -33,6 +33,7 @@ use elasticlunr::laws::found::{documents_have_the_tokens_of_their_values, postin
 use elasticlunr::laws::reading::a_language_reads_what_its_pipeline_leaves;
 use elasticlunr::laws::values::{a_value_has_its_parts_once, printed_texts_have_their_parts};
 use elasticlunr_lang::Language;
+use elasticlunr_store::DocumentStore;
 use elasticlunr_text::laws::a_run_has_one_answer;
 use elasticlunr_text::pipeline::Pipeline;
 use elasticlunr_trie::InvertedIndex;
@@ -54,7 +55,7 @@ pub struct Searcher<L> {
 }
 
 impl<L: Language> Searcher<L> {
-    ghost use Rattle.elasticlunr_search.specs.Standing.{fields_of, kept_texts, AreFound};
+    ghost use Rattle.elasticlunr_search.specs.Standing.{fields_of, kept_contents, kept_texts, AreFound};
     ghost use Rattle.elasticlunr_search.specs.Standing.{AreFoundAsChosen, AreFoundInFields};
     ghost use Rattle.elasticlunr_search.specs.Standing.{AreFoundInTexts, AreFoundInTrie};
     ghost use Rattle.elasticlunr_search.specs.Standing.{AreFoundInTries, AreFoundOfTokens};
@@ -436,6 +437,13 @@ impl<L: Language> Searcher<L> {
         }
     }
 
+    /// The documents: their stored texts and the lengths of their fields.
+    pub fn document_store(&self) -> &DocumentStore
+        ensures { result.now ≡ kept_contents self.now }
+    {
+        &self.printed.store
+    }
+
     /// The tries of the fields of these names, in order.
     fn tries(&self, fields: &[&str]) -> Result<Vec<&InvertedIndex>, SearchError>
         ensures no_field { result ≡ Err NoSuchField → LacksFieldOf self.now (borrowed fields.now) }
@@ -468,7 +476,7 @@ impl<L: Language> Searcher<L> {
     }
 
     /// The tokens of a query.
-    fn tokens(&self, query: &str) -> Result<Vec<String>, AllocError>
+    pub(crate) fn tokens(&self, query: &str) -> Result<Vec<String>, AllocError>
         ensures read { IfOk result (λ tokens. (i : ℕ)
             → LeavesBy leaves self.now.pipeline (L.leaves_of self.now.language)
             → AreTokensOf (LanguageReads (L.tokens_of self.now.language)

@@ -105,7 +105,8 @@ impl Cutting<'_> {
     /// Writes the pieces of an index to the temporary folder, one after the other.
     fn fill(&self, index: &Index<AnyLanguage>) -> Result<(Head, Sizes), Stop> {
         let (alloc, folder) = (self.rt.alloc(), self.temporary);
-        let mut pieces = Pieces::new(alloc, index, self.size)?;
+        let names = index.names()?;
+        let mut pieces = Pieces::new(alloc, index.parts(&names)?, self.size)?;
         let mut sizes = Sizes {
             count: 0,
             largest: 0,

@@ -1,9 +1,9 @@
 -- Whether a field is searched, by the map of the options for fields.
-use Rattle.std.proofs.Common.{◌≡◌, ◌≢◌, ◌<◌, ◌+◌, ℕ, ◌==◌, Bool, true, false, cond, Option, Some, None, List, [], ◌∷◌}
+use Rattle.std.proofs.Common.{◌≡◌, ◌≢◌, ◌<◌, ◌+◌, ℕ, ◌==◌, Bool, false, cond, Option, Some, None, List, [], ◌∷◌}
 use Rattle.std.proofs.Common.{◌++◌, length}
-use Rattle.std.proofs.Common.{refl, sym, ap, subst, ◌∙◌, option_map, string_bytes, string_cmp, String, Global, zero}
-use Rattle.std.proofs.Common.{suc, is_some}
-use Rattle.std.proofs.Common.{map, take, get_or, arith, bytes_eq}
+use Rattle.std.proofs.Common.{refl, sym, ap, ◌∙◌, option_map, string_bytes, String, Global, zero}
+use Rattle.std.proofs.Common.{suc}
+use Rattle.std.proofs.Common.{map, take, get_or, arith}
 use Rattle.std.proofs.Math.Dec.{eqb-suc-zero}
 use Rattle.std.proofs.lemmas.Cmp.{nat_list_cmp_total}
 use Rattle.std.proofs.lemmas.List.{get_or-map, length-map, map-append, take_more}

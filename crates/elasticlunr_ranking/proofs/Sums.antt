@@ -1,7 +1,7 @@
 -- Sums with one part more.
-use Rattle.std.proofs.Common.{◌≡◌, ◌≢◌, ◌+◌, ℕ, Bool, true, false, cond, List, [], ◌∷◌, ◌++◌, map, Option, Some, None}
-use Rattle.std.proofs.Common.{refl, sym, ap, ◌∙◌, add-zero}
-use Rattle.std.specs.Prelude.{unwrap_or, count_by}
+use Rattle.std.proofs.Common.{◌≡◌, ◌≢◌, ◌+◌, ℕ, Bool, false, cond, List, [], ◌∷◌, ◌++◌, map, Option, Some, None}
+use Rattle.std.proofs.Common.{refl, ap, ◌∙◌, add-zero}
+use Rattle.std.specs.Prelude.{count_by}
 use Rattle.std.specs.List.{fold}
 use Rattle.std.specs.Float.{Float}
 use Rattle.std.proofs.lemmas.List.{map-append}

@@ -1,5 +1,5 @@
 -- The tally of a document after one token more.
-use Rattle.std.proofs.Common.{◌≡◌, ◌<◌, ◌≤◌, ◌+◌, ◌^◌, ℕ, Bool, true, false, cond, List, [], ◌∷◌, ◌++◌, length, Option}
+use Rattle.std.proofs.Common.{◌≡◌, ◌<◌, ◌+◌, ℕ, Bool, true, false, cond, List, [], ◌∷◌, ◌++◌, length, Option}
 use Rattle.std.proofs.Common.{Some, None, is_some, refl, sym, ap, ◌∙◌, arith, option_map}
 use Rattle.std.specs.Prelude.{◌&&◌, count_by}
 use Rattle.std.specs.Float.{Float}
@@ -8,10 +8,10 @@ use Rattle.elasticlunr_error.specs.Text.{Text, Bytes}
 use Rattle.elasticlunr_trie.specs.Table.{posting}
 use Rattle.elasticlunr_ranking.specs.Fields.{Field}
 use Rattle.elasticlunr_ranking.specs.Doubles.{◌+ᵈ◌}
-use Rattle.elasticlunr_ranking.specs.Weights.{added, counted, counted_if, field_score, is_found, is_found_itself, part}
+use Rattle.elasticlunr_ranking.specs.Weights.{added, counted, counted_if, field_score, is_found, is_found_itself}
 use Rattle.elasticlunr_ranking.specs.Weights.{token_score, tokens_score, weight}
 use Rattle.elasticlunr_ranking.specs.Held.{Scores, add_weight, under}
-use Rattle.elasticlunr_ranking.specs.Tallies.{add_score, add_tally, one_more, tallied, tally_of, tally_score}
+use Rattle.elasticlunr_ranking.specs.Tallies.{add_score, add_tally, one_more, tallied, tally_of}
 use Rattle.elasticlunr_ranking.specs.declared.logarithm.TheConstants.{ZERO}
 use Rattle.elasticlunr_ranking.specs.declared.tally.Tally.{Tally}
 use Rattle.elasticlunr_ranking.proofs.Sums.{count_push, none_counted, sum_push}

@@ -1,14 +1,13 @@
 -- Steps of the loops that take in postings, scores and tallies. In each `old` and `new` are what the map has before and
 -- after the step, and the entry is that at i, whatever d is read past the end.
 use Rattle.std.proofs.Common.{◌≡◌, ◌<◌, ◌+◌, ℕ, Bool, List, Option, Some, is_some, length, take, get_or, refl, sym, ap}
-use Rattle.std.proofs.Common.{subst}
-use Rattle.std.proofs.Common.{◌∙◌, option_map, bytes_eq}
+use Rattle.std.proofs.Common.{◌∙◌, bytes_eq}
 use Rattle.std.specs.Prelude.{unwrap_or}
 use Rattle.std.specs.Borrow.{Bor}
 use Rattle.std.specs.FinMap as finite
 use Rattle.std.specs.Float.{Float}
 use Rattle.std.specs.Map.{update}
-use Rattle.elasticlunr_error.specs.Text.{Text, Bytes, text_cmp}
+use Rattle.elasticlunr_error.specs.Text.{Text, Bytes}
 use Rattle.elasticlunr_store.specs.Contents.{field_length}
 use Rattle.elasticlunr_trie.specs.Table.{posting, postings}
 use Rattle.elasticlunr_ranking.specs.Doubles.{◌+ᵈ◌, ◌*ᵈ◌, whole}

@@ -1,4 +1,4 @@
-use Rattle.std.proofs.Common.{ℕ, ◌%◌, ◌≤◌, ◌<◌, ◌+◌, arith}
+use Rattle.std.proofs.Common.{ℕ, ◌%◌, ◌≤◌, ◌+◌, arith}
 use Rattle.std.specs.Float.{binary64}
 use Rattle.std.specs.Float.Ieee.{to_bits}
 use Rattle.std.proofs.lemmas.Float.{not_nan_f64_bits}

@@ -1,9 +1,7 @@
-use Rattle.std.proofs.Common.{◌≡◌, ◌<◌, ◌∙◌, [], ◌∷◌, ◌++◌, List, ap, arith, length, subst, sym, take}
+use Rattle.std.proofs.Common.{◌<◌, ◌∙◌, [], ◌∷◌, ◌++◌, List, ap, arith, length, subst, sym, take}
 use Rattle.std.proofs.lemmas.List.{length-map, length-take, take_all}
-use Rattle.std.specs.BTreeMap.{is_at}
-use Rattle.std.specs.Map.{lookup}
 use Rattle.std.specs.Str.{chars}
-use Rattle.elasticlunr_error.specs.Text.{Text, text_cmp, text_of, texts_of}
+use Rattle.elasticlunr_error.specs.Text.{Text, text_of, texts_of}
 use Rattle.elasticlunr_ranking.specs.Fields.{field_of}
 use Rattle.elasticlunr_ranking.specs.Held.{Scores, held, told}
 use Rattle.elasticlunr_ranking.specs.Tallies.{tally_of}

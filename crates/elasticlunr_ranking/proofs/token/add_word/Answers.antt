@@ -1,5 +1,4 @@
 use Rattle.std.proofs.Common.{◌∙◌, ℕ, ap, sym}
-use Rattle.std.specs.FinMap.{entries}
 use Rattle.std.specs.Str.{chars}
 use Rattle.std.proofs.lemmas.List.{length-map}
 use Rattle.elasticlunr_error.specs.Text.{Bytes}
@@ -7,7 +6,7 @@ use Rattle.elasticlunr_trie.specs.Table.{postings}
 use Rattle.elasticlunr_trie.specs.Tokens.{told_postings}
 use Rattle.std.specs.Borrow.{Bor}
 use Rattle.elasticlunr_ranking.specs.Fields.{field_of}
-use Rattle.elasticlunr_ranking.specs.Held.{add_weight, held, told, under}
+use Rattle.elasticlunr_ranking.specs.Held.{add_weight, held, under}
 use Rattle.elasticlunr_ranking.proofs.Weighing.{word_added}
 use Rattle.elasticlunr_ranking.proofs.token.add_word.Goals as goal
 

@@ -1,4 +1,4 @@
-use Rattle.std.proofs.Common.{[], ◌∷◌, ◌++◌, ◌∙◌, List, ap, arith, map, subst, sym}
+use Rattle.std.proofs.Common.{[], ◌∷◌, ◌++◌, ◌∙◌, List, ap, map, subst, sym}
 use Rattle.std.proofs.lemmas.List.{take_all}
 use Rattle.elasticlunr_error.specs.Text.{Text, texts_of}
 use Rattle.elasticlunr_ranking.specs.Fields.{Field, field_of}

@@ -110,14 +110,19 @@ fn line_of(found: &Found<'_>, text: &str) -> Result<Line, SearchError> {
     let place = first_found(found, text)?;
     let begins = place.unwrap_or(0).saturating_sub(BEFORE);
     let mut line = String::new(found.alloc);
-    let mut gap = if begins > 0 { "… " } else { "" };
+    if begins > 0 {
+        line.push_str("… ")?;
+    }
+    let mut has_gap = false;
     let mut length = 0usize;
     for piece in text
         .split_inclusive(ends_word)
         .filter(|it| is_text(*it))
         .skip(begins)
     {
-        line.push_str(gap)?;
+        if has_gap {
+            line.push(' ')?;
+        }
         if length > WIDTH {
             line.push('…')?;
             break;
@@ -127,7 +132,7 @@ fn line_of(found: &Found<'_>, text: &str) -> Result<Line, SearchError> {
             .saturating_add(shown.chars().count())
             .saturating_add(1);
         line.push_str(shown.as_str())?;
-        gap = if piece.ends_with('-') { "" } else { " " };
+        has_gap = !piece.ends_with('-');
     }
     Ok(Line {
         text: line,

@@ -6,17 +6,17 @@ use Rattle.elasticlunr_search.proofs.Stops.{told_exit}
 use Rattle.elasticlunr_search.proofs.named.read_named.Goals as goal
 
 pub returns-in_err-source-clause-refused : goal.returns-in_err-source-clause-refused
-returns-in_err-source-clause-refused c = unread_text _ c.args.text.now _ c.in_err-source.field-0.0
+returns-in_err-source-clause-refused g c = unread_text _ c.args.text.now _ c.in_err-source.field-0.0
     c.from_residual.ensures.1 c.in_err-source.ensures.err
 
 pub returns-in_err-language-clause-refused : goal.returns-in_err-language-clause-refused
-returns-in_err-language-clause-refused c =
+returns-in_err-language-clause-refused g c =
     let v = c.in_ok-source.ensures.ok in
     let none = c.in_err-language.ensures.none in
     told_exit _ _ _ c.from_residual-in_err-language.ensures.1 (rw (none.0) (v.0, v.1, none.1 v.0 v.2))
 
 pub returns-in_err-searcher-clause-refused : goal.returns-in_err-searcher-clause-refused
-returns-in_err-searcher-clause-refused c =
+returns-in_err-searcher-clause-refused g c =
     let v = c.in_ok-source.ensures.ok in
     told_exit _ (IsTextNotSearched c.args.text.now None) _ c.from_residual-in_err-searcher.ensures.1
     (why_text c.args.text.now v.0 None _ v.1
@@ -24,7 +24,7 @@ returns-in_err-searcher-clause-refused c =
     c.in_err-searcher.field-0.0 (c.in_err-searcher.ensures.refused v.0 v.2)))
 
 pub returns-clause-named : goal.returns-clause-named
-returns-clause-named c =
+returns-clause-named g c =
     let v = c.in_ok-source.ensures.ok in
     let searcher = c.in_ok-searcher.searcher in
     let parts = c.in_ok-searcher.ensures.parts v.0 v.2 in

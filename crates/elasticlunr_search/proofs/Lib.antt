@@ -20,4 +20,5 @@ pub mod Joined
 pub mod Requested
 pub mod SameText
 pub mod AfterCalls
+pub mod Ranking
 mod Made

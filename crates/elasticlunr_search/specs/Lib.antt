@@ -16,3 +16,4 @@ pub mod AfterCalls
 pub mod Reading
 pub mod Named
 pub mod FoundWords
+pub mod Ranking

@@ -23,6 +23,7 @@ mod source;
 mod tries;
 mod words;
 
+pub use elasticlunr_ranking::Hit;
 pub use error::SearchError;
 pub use searcher::Searcher;
 pub use words::Join;

@@ -1,9 +1,15 @@
 //! Searches of a printed index, by a query in its language.
 ghost use Rattle.std.specs.Prelude.{◌≡◌, ◌<◌, ◌⊎◌, ◌↔◌, ℕ, List, false, Some, Err, IfOk, IfErr};
-ghost use Rattle.std.specs.Prelude.{OnOk, IfSome, IsSome, IsTrue, length, option_map, slice_get};
+ghost use Rattle.std.specs.Prelude.{OnOk, IfSome, IsSome, IsTrue, length, map, option_map};
+ghost use Rattle.std.specs.Prelude.{slice_get};
+ghost use Rattle.std.specs.List.{zip};
 ghost use Rattle.elasticlunr_text.specs.Stages.{IsRunBy, LeavesBy, names_by};
 ghost use Rattle.elasticlunr_text.specs.Text.{bytes_of, texts_of};
 ghost use Rattle.elasticlunr_store.specs.Contents.{text_map};
+ghost use Rattle.elasticlunr_store.specs.Options.{options_of};
+ghost use Rattle.elasticlunr_ranking.specs.Choice.{fields_for, named_fields};
+ghost use Rattle.elasticlunr_ranking.specs.Fields.{field_of};
+ghost use Rattle.elasticlunr_ranking.specs.Order.{told_hits};
 ghost use Rattle.elasticlunr.specs.Fields.{has_name, borrowed};
 ghost use Rattle.elasticlunr.specs.Found.{FindsAny, FindsAll};
 ghost use Rattle.elasticlunr.specs.History.{Commands, now};
@@ -33,7 +39,10 @@ use elasticlunr::laws::found::{documents_have_the_tokens_of_their_values, postin
 use elasticlunr::laws::reading::a_language_reads_what_its_pipeline_leaves;
 use elasticlunr::laws::values::{a_value_has_its_parts_once, printed_texts_have_their_parts};
 use elasticlunr_lang::Language;
-use elasticlunr_store::DocumentStore;
+use elasticlunr_ranking::{
+    Hit, SearchedField, best_hits, names_of_options, ranked_hits, searched_fields,
+};
+use elasticlunr_store::{DocumentStore, SearchOptions};
 use elasticlunr_text::laws::a_run_has_one_answer;
 use elasticlunr_text::pipeline::Pipeline;
 use elasticlunr_trie::InvertedIndex;
@@ -55,6 +64,8 @@ pub struct Searcher<L> {
 }
 
 impl<L: Language> Searcher<L> {
+    ghost use Rattle.elasticlunr_search.specs.Ranking.{AreBestHits, AreBestAsChosen};
+    ghost use Rattle.elasticlunr_search.specs.Ranking.{AreRankedHits, AreRankedAsChosen};
     ghost use Rattle.elasticlunr_search.specs.Standing.{fields_of, kept_contents, kept_texts, AreFound};
     ghost use Rattle.elasticlunr_search.specs.Standing.{AreFoundAsChosen, AreFoundInFields};
     ghost use Rattle.elasticlunr_search.specs.Standing.{AreFoundInTexts, AreFoundInTrie};
@@ -418,6 +429,92 @@ impl<L: Language> Searcher<L> {
             Join::Any => Ok(find_any_in(self.alloc, trie, tokens)?),
             Join::All => Ok(find_all_in(self.alloc, trie, tokens)?),
         }
+    }
+
+    /// The documents that the query's tokens find in the fields that the options choose, each with
+    /// its score, the best first: in all fields, or in those for which there are options. Equally
+    /// good ones stand in the order of their references' bytes. It costs the postings of the words
+    /// that the tokens stand for, and a sort of what is found.
+    pub fn search(&self, query: &str, options: &SearchOptions) -> Result<Vec<Hit>, SearchError>
+        ensures no_field { result ≡ Err NoSuchField
+            → LacksFieldOf self.now (named_fields (options_of options.now)) }
+        ensures has_fields { OnOk result
+            (HasFieldsOf self.now (named_fields (options_of options.now))) }
+        ensures errors { IfErr result (λ e. (e ≡ NoSuchField) ⊎ (e ≡ Memory)) }
+        ensures ranked { IfOk result (λ hits. AreRankedHits L.tokens_of L.leaves_of leaves self.now
+            query.now (options_of options.now)
+            (told_hits hits.items)) }
+        ensures as_chosen { IfOk result (λ hits. AreRankedAsChosen L.tokens_of L.leaves_of leaves
+            self.now
+            query.now (options_of options.now)
+            (told_hits hits.items)) }
+    {
+        self.check_named(options)?;
+        let tokens = self.tokens(query)?;
+        let fields = self.searched_fields(options)?;
+        let hits = ranked_hits(self.alloc, &fields, &tokens)?;
+        Ok(hits)
+    }
+
+    /// The first of what `search` finds, at most so many. Only their references are copied.
+    pub fn search_best(
+        &self,
+        query: &str,
+        options: &SearchOptions,
+        limit: usize,
+    ) -> Result<Vec<Hit>, SearchError>
+        ensures no_field { result ≡ Err NoSuchField
+            → LacksFieldOf self.now (named_fields (options_of options.now)) }
+        ensures has_fields { OnOk result
+            (HasFieldsOf self.now (named_fields (options_of options.now))) }
+        ensures errors { IfErr result (λ e. (e ≡ NoSuchField) ⊎ (e ≡ Memory)) }
+        ensures ranked { IfOk result (λ hits. AreBestHits L.tokens_of L.leaves_of leaves self.now
+            query.now (options_of options.now)
+            limit (told_hits hits.items)) }
+        ensures as_chosen { IfOk result (λ hits. AreBestAsChosen L.tokens_of L.leaves_of leaves
+            self.now
+            query.now (options_of options.now)
+            limit (told_hits hits.items)) }
+    {
+        self.check_named(options)?;
+        let tokens = self.tokens(query)?;
+        let fields = self.searched_fields(options)?;
+        let hits = best_hits(self.alloc, &fields, &tokens, limit)?;
+        Ok(hits)
+    }
+
+    /// Whether each field is there for which there are options.
+    fn check_named(&self, options: &SearchOptions) -> Result<(), SearchError>
+        ensures no_field { result ≡ Err NoSuchField
+            → LacksFieldOf self.now (named_fields (options_of options.now)) }
+        ensures has_fields { OnOk result
+            (HasFieldsOf self.now (named_fields (options_of options.now))) }
+        ensures errors { IfErr result (λ e. (e ≡ NoSuchField) ⊎ (e ≡ Memory)) }
+    {
+        let named = names_of_options(self.alloc, options)?;
+        let tries = self.tries(&named);
+        match tries {
+            Ok(_) => Ok(()),
+            Err(error) => Err(error),
+        }
+    }
+
+    /// The fields that are searched by these options.
+    fn searched_fields<'a>(
+        &'a self,
+        options: &SearchOptions,
+    ) -> Result<Vec<SearchedField<'a>>, AllocError>
+        ensures { IfOk result (λ fields. map field_of fields.items ≡ fields_for
+            (options_of options.now) self.now.printed.store
+            (zip (fields_of self.now) self.now.printed.tries.items)) }
+    {
+        searched_fields(
+            self.alloc,
+            &self.printed.fields,
+            &self.printed.tries,
+            &self.printed.store,
+            options,
+        )
     }
 
     /// A copy of what is stored of the reference's current document: from the names of fields to

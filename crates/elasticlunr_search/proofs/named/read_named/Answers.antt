@@ -6,7 +6,7 @@ use Rattle.elasticlunr_search.proofs.Stops.{told_exit}
 use Rattle.elasticlunr_search.proofs.named.read_named.Goals as goal
 
 pub returns-in_err-source-clause-refused : goal.returns-in_err-source-clause-refused
-returns-in_err-source-clause-refused g c = unread_text _ c.args.text.now _ c.in_err-source.field-0.0
+returns-in_err-source-clause-refused g c = unread_text _ c.args.text.now None c.in_err-source.field-0.0
     c.from_residual.ensures.1 c.in_err-source.ensures.err
 
 pub returns-in_err-language-clause-refused : goal.returns-in_err-language-clause-refused

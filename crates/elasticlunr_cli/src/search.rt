@@ -3,7 +3,7 @@ ghost use Rattle.std.specs.Prelude.{IfOk, option_map, string_bytes};
 ghost use Rattle.elasticlunr_input.specs.Mark.{without_mark};
 ghost use Rattle.elasticlunr_diagnostics.specs.Script.{IsIndexIn};
 ghost use Rattle.elasticlunr_search.specs.Answers.{AreLinesFound};
-ghost use Rattle.elasticlunr_search.specs.Reading.{ReadsAs};
+ghost use Rattle.elasticlunr_search.specs.Readers.{ReadsAs};
 ghost use Rattle.elasticlunr_text.specs.Text.{Bytes};
 ghost use Rattle.serde_json.specs.Data.{Data};
 

@@ -20,7 +20,7 @@ use Rattle.elasticlunr.specs.Shape.{HasLanguage}
 use Rattle.elasticlunr_print.proofs.Shapes.{one_language}
 use Rattle.elasticlunr_search.specs.Answers.{Asks, HasBelow, is_line_feed}
 use Rattle.elasticlunr_search.specs.Fields.{HasNoField, IsIndexWith}
-use Rattle.elasticlunr_search.specs.Reading.{ReadsAs}
+use Rattle.elasticlunr_search.specs.Readers.{ReadsAs}
 use Rattle.elasticlunr_search.specs.Refusal.{Lacks, RefusesValue, StopsBy}
 use Rattle.elasticlunr_search.specs.Unanswered.{IsNotSearched, IsRefusedBelow, IsTextNotSearched, refusal_of}
 use Rattle.elasticlunr_search.specs.Words.{asked_fields}

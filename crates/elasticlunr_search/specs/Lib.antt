@@ -13,4 +13,4 @@ pub mod SameText
 pub mod Source
 pub mod RebuiltIndex
 pub mod AfterCalls
-pub mod Reading
+pub mod Readers

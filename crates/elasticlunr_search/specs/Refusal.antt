@@ -8,7 +8,7 @@ use Rattle.elasticlunr.specs.Printed.{IsPrintOf}
 use Rattle.elasticlunr.specs.Shape.{HasFields, HasStore, HasLanguage}
 use Rattle.elasticlunr.specs.Standing.{Plan}
 use Rattle.elasticlunr_search.specs.Fields.{HasStages, HasWholeTries}
-use Rattle.elasticlunr_search.specs.Reading.{ReadsAs}
+use Rattle.elasticlunr_search.specs.Readers.{ReadsAs}
 use Rattle.serde_json.specs.Data.{Data, depth}
 use Rattle.serde_json.specs.Read.{read, max_depth}
 use Rattle.elasticlunr_search.specs.declared.error.SearchError.{SearchError}

@@ -6,7 +6,7 @@ use Rattle.elasticlunr_lang.specs.Known.{all_languages, language_name, language_
 use Rattle.elasticlunr_lang.specs.declared.any.AnyLanguage.{AnyLanguage}
 use Rattle.elasticlunr_search.specs.Answers.{is_line_feed, Asks, HasBelow}
 use Rattle.elasticlunr_search.specs.Fields.{HasNoField, HasStages}
-use Rattle.elasticlunr_search.specs.Reading.{ReadsAs}
+use Rattle.elasticlunr_search.specs.Readers.{ReadsAs}
 use Rattle.elasticlunr_search.specs.Refusal.{Lacks}
 use Rattle.elasticlunr_search.specs.Requests.{IsNoRequest}
 use Rattle.elasticlunr_search.specs.declared.answer.Refusal.{Refusal}

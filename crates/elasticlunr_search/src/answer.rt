@@ -5,7 +5,7 @@ ghost use Rattle.elasticlunr_text.specs.Text.{bytes_of};
 ghost use Rattle.elasticlunr_lang.specs.Known.{language_name};
 ghost use Rattle.elasticlunr_search.specs.Answers.{AreFoundOf, AreLinesFound, IsFoundBelow};
 ghost use Rattle.elasticlunr_search.specs.Lines.{lines};
-ghost use Rattle.elasticlunr_search.specs.Reading.{ReadsAs};
+ghost use Rattle.elasticlunr_search.specs.Readers.{ReadsAs};
 ghost use Rattle.elasticlunr_search.specs.Source.{IsSource};
 ghost use Rattle.elasticlunr_search.specs.Unanswered.{IsNotSearched, IsRefusedBelow};
 ghost use Rattle.elasticlunr_search.specs.Unanswered.{IsTextNotSearched, NamesNone, refusal_text};

@@ -13,7 +13,7 @@ ghost use Rattle.elasticlunr.specs.Standing.{Plan, stored};
 ghost use Rattle.elasticlunr_search.specs.Query.{AreTokensOf, RunReads};
 ghost use Rattle.elasticlunr_search.specs.Tries.{tables_of};
 ghost use Rattle.elasticlunr_search.specs.Words.{asked_fields};
-ghost use Rattle.elasticlunr_search.specs.Reading.{ReadsAs};
+ghost use Rattle.elasticlunr_search.specs.Readers.{ReadsAs};
 ghost use Rattle.elasticlunr_search.specs.Refusal.{Refuses, RefusesOthers, RefusesPrint};
 ghost use Rattle.elasticlunr_search.specs.Refusal.{RefusesValue};
 ghost use Rattle.elasticlunr_search.specs.Source.{IsSource};

@@ -4,7 +4,7 @@ ghost use Rattle.elasticlunr_text.specs.Text.{Bytes, bytes_of};
 ghost use Rattle.elasticlunr.specs.Shape.{HasLanguage};
 ghost use Rattle.elasticlunr_search.specs.Fields.{HasStages, IsIndexOf};
 ghost use Rattle.elasticlunr_search.specs.Refusal.{Lacks, NamesOther, StopsBy};
-ghost use Rattle.elasticlunr_search.specs.Reading.{ReadsAs};
+ghost use Rattle.elasticlunr_search.specs.Readers.{ReadsAs};
 ghost use Rattle.elasticlunr_search.specs.Source.{IsSource};
 ghost use Rattle.elasticlunr_search.specs.declared.error.SearchError.TheVariants.{NotRead};
 ghost use Rattle.serde_json.specs.Data.{Data};

@@ -1,5 +1,5 @@
 use Rattle.std.proofs.Common.{subst}
-use Rattle.elasticlunr_search.specs.Reading.{ReadsAs}
+use Rattle.elasticlunr_search.specs.Readers.{ReadsAs}
 use Rattle.elasticlunr_text.specs.Text.{Bytes}
 use Rattle.elasticlunr_diagnostics.specs.Script.{IsIndexIn}
 use Rattle.elasticlunr_cli.proofs.search.found_lines.Goals as goal

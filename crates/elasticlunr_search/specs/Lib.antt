@@ -14,3 +14,4 @@ pub mod Source
 pub mod RebuiltIndex
 pub mod AfterCalls
 pub mod Readers
+pub mod Levels

@@ -9,6 +9,7 @@
 pub mod answer;
 mod error;
 pub mod laws;
+mod levels;
 mod parts;
 mod printed;
 mod rebuild;

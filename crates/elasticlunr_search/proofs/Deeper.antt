@@ -40,8 +40,9 @@ mutual
   members_open : (ms : Members) (n : ℕ) (rest : List Token)
       → max (n + 1 + members_depth ms) (most_open n rest) ≤ most_open (n + 1) (members_tokens ms ++ rest)
   members_open json.no_members n rest = omega (arith, closed n rest)
-  members_open (json.member k j ms) n rest = rw append_assoc
-      (omega (arith, json_opens j (n + 1) (members_tokens ms ++ rest), members_open ms n rest))
+  members_open (json.member k j ms) n rest =
+      let joined = ap (most_open (n + 1)) (append_assoc (json_tokens j) (members_tokens ms) rest) in
+      omega (arith, joined, json_opens j (n + 1) (members_tokens ms ++ rest), members_open ms n rest)
 
 -- what a reader reads of tokens that do not nest deeper, `serde_json` reads, too
 as_deep : (limit : ℕ) (ts : List Token) → most_open 0 ts ≤ max_depth → (o : Option (Json × List Token))

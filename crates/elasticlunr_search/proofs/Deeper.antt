@@ -1,6 +1,7 @@
 -- A text that no `serde_json` reads is not JSON, or nests deeper than `serde_json` goes.
-use Rattle.std.proofs.Common.{◌≡◌, ℕ, ◌+◌, ◌-◌, ◌≤◌, max, List, [], ◌∷◌, ◌++◌, Option, Some, None, option_and_then}
-use Rattle.std.proofs.Common.{refl, sym, ap, ◌∙◌, subst, arith, append_assoc}
+use Rattle.std.proofs.Common.{◌≡◌, ℕ, ◌+◌, ◌-◌, ◌<◌, ◌≤◌, max, List, [], ◌∷◌, ◌++◌, Option, Some, None, option_and_then}
+use Rattle.std.proofs.Common.{inl, inr, refl, sym, ap, ◌∙◌, subst, arith, append_assoc}
+use Rattle.std.proofs.lemmas.Bool.{cases_lt}
 use Rattle.json.specs.Lex.{tokens}
 use Rattle.json.specs.Token.{Token}
 use Rattle.json.specs.Json as json
@@ -17,6 +18,12 @@ use Rattle.elasticlunr_search.specs.Levels.{open_after, most_open, levels}
 pub open_before : (n : ℕ) (ts : List Token) → n ≤ most_open n ts
 open_before n [] = omega arith
 open_before n (t ∷ ts) = omega arith
+
+-- a text nests deeper where a token opens more
+pub opens_deeper : (limit n : ℕ) (t : Token) (ts rest : List Token) → ts ≡ t ∷ rest → limit < open_after n t
+    → limit < most_open n ts
+opens_deeper limit n t ts rest is deep =
+    subst (λ s. limit < most_open n s) (sym is) (omega (arith, open_before (open_after n t) rest, deep))
 
 closed : (n : ℕ) (rest : List Token) → most_open (n + 1 - 1) rest ≡ most_open n rest
 closed n rest = let same : n + 1 - 1 ≡ n = omega arith in ap (λ k. most_open k rest) same
@@ -56,6 +63,9 @@ as_deep limit ts shallow (Some (j, rest)) is unread =
     ap (value max_depth) spelled ∙ value-json_tokens j max_depth rest deepest in
     ap (λ p. option_and_then of_json (option_and_then (λ q. json.if_last q.0 q.1) p)) (sym again) ∙ unread
 
-pub not_json : (text : List ℕ) → read text ≡ None → levels text ≤ max_depth → (limit : ℕ)
+pub not_json : (text : List ℕ) → read text ≡ None → ¬ (max_depth < levels text) → (limit : ℕ)
     → read_within limit text ≡ None
-not_json text unread shallow limit = as_deep limit (tokens text) shallow (value limit (tokens text)) refl unread
+not_json text unread no_deeper limit = elim (cases_lt max_depth (levels text)) [
+  | inl deeper ↦ absurd (no_deeper deeper)
+  | inr shallow ↦ as_deep limit (tokens text) shallow (value limit (tokens text)) refl unread
+]

@@ -9,7 +9,6 @@ use Rattle.json.specs.Json.{Json, Items, Members, value}
 use Rattle.json.specs.Tree.{json_tokens, items_tokens, members_tokens, depth, items_depth, members_depth}
 use Rattle.json.proofs.Printed.Trees.{value-json_tokens}
 use Rattle.json.proofs.Unique.Spelling.{value-json_tokens_back}
-use Rattle.serde_json.specs.Data.{Data}
 use Rattle.serde_json.specs.Read.{of_json, read, max_depth}
 use Rattle.elasticlunr.specs.Printed.{read_within}
 use Rattle.elasticlunr_search.specs.Levels.{open_after, most_open, levels}

@@ -1,6 +1,6 @@
 -- How many values a request has, and why one finds nothing.
 use Rattle.std.proofs.Common.{◌≡◌, ◌⊎◌, ◌<◌, inl, inr, ℕ, zero, suc, List, [], ◌∷◌, length, get_or, Option, Result}
-use Rattle.std.proofs.Common.{refl, ◌∙◌, ap, sym, subst, arith, None, Some, Bool, true, false, true≢false, bytes_eq, Ok}
+use Rattle.std.proofs.Common.{refl, ◌∙◌, sym, subst, arith, None, Some, Bool, true, false, true≢false, bytes_eq, Ok}
 use Rattle.std.proofs.Common.{Err}
 use Rattle.std.specs.Prelude.{Contains, IsSomeAnd}
 use Rattle.std.specs.List.{after_first}

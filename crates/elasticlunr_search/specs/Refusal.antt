@@ -1,5 +1,5 @@
 -- Why a text is refused.
-use Rattle.std.specs.Prelude.{◌≡◌, ◌≢◌, ◌<◌, ◌⊎◌, ℕ, List, Some, None, Result, Err}
+use Rattle.std.specs.Prelude.{◌≡◌, ◌≢◌, ◌<◌, ◌⊎◌, ℕ, List, Result, Err}
 use Rattle.elasticlunr_text.specs.Text.{Bytes}
 use Rattle.elasticlunr_trie.specs.Table.{Table}
 use Rattle.elasticlunr_store.specs.Contents.{Contents, IsConsistent}

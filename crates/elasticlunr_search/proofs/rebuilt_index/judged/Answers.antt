@@ -1,4 +1,4 @@
-use Rattle.std.proofs.Common.{arith, refl, sym, subst}
+use Rattle.std.proofs.Common.{arith, refl, subst}
 use Rattle.json.specs.Lex.{tokens}
 use Rattle.serde_json.specs.Data.{depth}
 use Rattle.elasticlunr.specs.Shape.{HasLanguage}

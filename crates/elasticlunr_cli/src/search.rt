@@ -254,6 +254,7 @@ fn no_field(alloc: Global, field: &str, names: &[String]) -> Result<InputError, 
 fn not_searched(alloc: Global, refusal: Refusal) -> Result<InputError, AllocError> {
     match refusal {
         Refusal::Memory => Ok(InputError::Memory),
+        Refusal::TooDeep => refused(alloc, "not an index: nested deeper than 127 levels"),
         Refusal::UnknownLanguage => refused(alloc, "not an index: it names no language"),
         Refusal::OtherPipeline => refused(
             alloc,

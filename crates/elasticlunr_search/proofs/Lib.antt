@@ -1,5 +1,6 @@
 pub mod Arrays
 pub mod Stops
+pub mod Deeper
 pub mod Naming
 pub mod Stages
 pub mod Refusing

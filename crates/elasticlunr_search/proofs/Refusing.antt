@@ -1,5 +1,5 @@
 -- A printed text is refused out of memory, for its depth, for its language or for its stages alone.
-use Rattle.std.proofs.Common.{◌≡◌, ◌≢◌, ◌⊎◌, inl, inr, ◌<◌, ℕ, List, None, Some, Result, Err, refl, sym, subst, ◌∙◌}
+use Rattle.std.proofs.Common.{arith, ◌≡◌, ◌≢◌, ◌⊎◌, inl, inr, ◌<◌, ℕ, List, None, Some, Result, Err, refl, sym, subst, ◌∙◌}
 use Rattle.std.proofs.lemmas.Bool.{cases_lt}
 use Rattle.serde_json.specs.Data.{Data, depth}
 use Rattle.serde_json.specs.Read.{max_depth}
@@ -13,7 +13,7 @@ use Rattle.elasticlunr.specs.Standing.{Plan}
 use Rattle.elasticlunr_search.specs.Fields.{HasStages, HasWholeTries}
 use Rattle.elasticlunr_search.specs.Refusal.{Lacks, NamesOther, RefusesOthers, RefusesValue, Refuses}
 use Rattle.elasticlunr_search.specs.declared.error.SearchError.{SearchError}
-use Rattle.elasticlunr_search.specs.declared.error.SearchError.TheVariants.{NotRead, OtherLanguage, OtherPipeline}
+use Rattle.elasticlunr_search.specs.declared.error.SearchError.TheVariants.{NotRead, TooDeep, OtherLanguage, OtherPipeline}
 use Rattle.elasticlunr_search.specs.declared.error.SearchError.TheVariants.{BadFields, BadTries, BadStore, NoSuchField}
 use Rattle.elasticlunr_search.specs.declared.error.SearchError.TheVariants.{Memory}
 use Rattle.elasticlunr_search.proofs.Stages.{stages_held}
@@ -28,6 +28,7 @@ lacks_none : FieldsOnce → (v : Data) (fields : List Bytes) (tables : List Tabl
     → HasParts v fields tables contents
     → IsConsistent contents → (e : SearchError) → Lacks v e → e ≡ Memory
 lacks_none once v fields tables contents has are NotRead lacks = absurd lacks
+lacks_none once v fields tables contents has are TooDeep lacks = absurd lacks
 lacks_none once v fields tables contents has are OtherLanguage lacks = absurd lacks
 lacks_none once v fields tables contents has are OtherPipeline lacks = absurd lacks
 lacks_none once v fields tables contents has are BadFields lacks = absurd (lacks fields has.fields)
@@ -43,14 +44,14 @@ pub accepted : ((v : Data) (name other : Bytes) → HasLanguage v name → HasLa
     → FieldsOnce → (language : Bytes) (stages : List Bytes) (text : List ℕ) (e : SearchError)
     → Refuses language stages text e → (plan : Plan) (commands : Commands) (p : IsPrintOf plan commands text)
     → HasParts p.value plan.fields p.tables p.contents → HasLanguage p.value plan.language → (e ≡ Memory)
-    ⊎ (((e ≡ NotRead) × (max_depth < depth p.value))
+    ⊎ (((e ≡ TooDeep) × (max_depth < depth p.value))
     ⊎ (((e ≡ OtherLanguage) × (plan.language ≢ language)) ⊎ ((e ≡ OtherPipeline) × (plan.stages ≢ stages))))
 accepted one once language stages text e refuses plan commands p has names = by_reading refuses where
   its_stages : HasStages p.value plan.stages
   its_stages = stages_held plan p.tables p.contents p.value p.printed
 
   by_value : RefusesValue language stages p.value e
-      → (e ≡ Memory) ⊎ (((e ≡ NotRead) × (max_depth < depth p.value))
+      → (e ≡ Memory) ⊎ (((e ≡ TooDeep) × (max_depth < depth p.value))
       ⊎ (((e ≡ OtherLanguage) × (plan.language ≢ language)) ⊎ ((e ≡ OtherPipeline) × (plan.stages ≢ stages))))
   by_value r = elim r [
     | inl other ↦ inr (inr (inl (
@@ -65,18 +66,22 @@ accepted one once language stages text e refuses plan commands p has names = by_
   ]
 
   by_reading : Refuses language stages text e
-      → (e ≡ Memory) ⊎ (((e ≡ NotRead) × (max_depth < depth p.value))
+      → (e ≡ Memory) ⊎ (((e ≡ TooDeep) × (max_depth < depth p.value))
       ⊎ (((e ≡ OtherLanguage) × (plan.language ≢ language)) ⊎ ((e ≡ OtherPipeline) × (plan.stages ≢ stages))))
   by_reading r = elim r [
-    | inl none ↦ elim (cases_lt max_depth (depth p.value)) [
-      | inl deep ↦ inr (inl (none.0, deep))
-      | inr shallow ↦ (let wrong : None ≡ Some p.value = sym none.1 ∙ p.read_as.reads shallow in absurd (cc))
+    | inl unread ↦ elim unread [
+      | inl m ↦ inl m
+      | inr more ↦ elim more [
+        | inl none ↦ (let wrong : None ≡ Some p.value = sym (none.1 (depth p.value))
+            ∙ p.read_as.reads_within (depth p.value) (omega arith) in absurd (cc))
+        | inr deep ↦ elim (cases_lt max_depth (depth p.value)) [
+          | inl deeper ↦ inr (inl (deep.0, deeper))
+          | inr shallow ↦ (let wrong : None ≡ Some p.value = sym deep.1.0 ∙ p.read_as.reads shallow in absurd (cc))
+        ]
+      ]
     ]
-    | inr more ↦ elim more [
-      | inl value ↦ by_value (subst (λ w. RefusesValue language stages w e)
-          (p.read_as.no_other_within value.1.0 value.0 value.1.1) value.2)
-      | inr m ↦ inl m
-    ]
+    | inr value ↦ by_value (subst (λ w. RefusesValue language stages w e)
+        (p.read_as.no_other_within value.1.0 value.0 value.1.1) value.2)
   ]
 
 -- who is refused for another language, or for other stages

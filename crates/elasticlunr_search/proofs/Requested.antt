@@ -1,6 +1,6 @@
 -- How many values a request has, and why one finds nothing.
 use Rattle.std.proofs.Common.{◌≡◌, ◌⊎◌, ◌<◌, inl, inr, ℕ, zero, suc, List, [], ◌∷◌, length, get_or, Option, Result}
-use Rattle.std.proofs.Common.{refl, ◌∙◌, ap, sym, subst, arith, None, Some, Bool, true, false, true≢false, bytes_eq, Ok}
+use Rattle.std.proofs.Common.{refl, ◌∙◌, sym, subst, arith, None, Some, Bool, true, false, true≢false, bytes_eq, Ok}
 use Rattle.std.proofs.Common.{Err}
 use Rattle.std.specs.Prelude.{Contains, IsSomeAnd}
 use Rattle.std.specs.List.{after_first}
@@ -9,7 +9,6 @@ use Rattle.std.proofs.lemmas.List.Folds.{list_any_at}
 use Rattle.std.proofs.lemmas.Result.{err_from_is_err_and}
 use Rattle.std.proofs.lemmas.Slice.Eq.{bytes_eq-Decides}
 use Rattle.serde_json.specs.Data.{Data, item, no_items}
-use Rattle.serde_json.specs.Read.{read}
 use Rattle.serde_json.specs.View.{items_view}
 use Rattle.serde_json.specs.declared.value.Value.{Value}
 use Rattle.elasticlunr_text.specs.Text.{Bytes}
@@ -20,14 +19,15 @@ use Rattle.elasticlunr.specs.Shape.{HasLanguage}
 use Rattle.elasticlunr_print.proofs.Shapes.{one_language}
 use Rattle.elasticlunr_search.specs.Answers.{Asks, HasBelow, is_line_feed}
 use Rattle.elasticlunr_search.specs.Fields.{HasNoField, IsIndexWith}
-use Rattle.elasticlunr_search.specs.Reading.{ReadsAs}
-use Rattle.elasticlunr_search.specs.Refusal.{Lacks, RefusesValue, StopsBy}
+use Rattle.elasticlunr_search.specs.Levels.{IsTooDeep}
+use Rattle.elasticlunr_search.specs.Readers.{ReadsAs, IsNotJson}
+use Rattle.elasticlunr_search.specs.Refusal.{IsUnread, Lacks, RefusesValue}
 use Rattle.elasticlunr_search.specs.Unanswered.{IsNotSearched, IsRefusedBelow, IsTextNotSearched, refusal_of}
 use Rattle.elasticlunr_search.specs.Words.{asked_fields}
 use Rattle.elasticlunr_search.specs.declared.answer.Refusal.{Refusal}
 use Rattle.elasticlunr_search.specs.declared.answer.Refusal.TheVariants as refusal
 use Rattle.elasticlunr_search.specs.declared.error.SearchError.{SearchError}
-use Rattle.elasticlunr_search.specs.declared.error.SearchError.TheVariants.{NotRead, OtherLanguage, OtherPipeline}
+use Rattle.elasticlunr_search.specs.declared.error.SearchError.TheVariants.{NotRead, TooDeep, OtherLanguage, OtherPipeline}
 use Rattle.elasticlunr_search.specs.declared.error.SearchError.TheVariants.{BadFields, BadTries, BadStore, NoSuchField}
 use Rattle.elasticlunr_search.specs.declared.error.SearchError.TheVariants.{Memory}
 use Rattle.elasticlunr_search.specs.declared.request.Request.{Request}
@@ -68,6 +68,7 @@ why_below : (input : Bytes) (request : Request) (v : Data) (e : Refusal) → Ask
     → IsNotSearched v (Some request.field.now) e → IsRefusedBelow input e
 why_below input request v refusal.NotARequest asks below why = absurd why
 why_below input request v refusal.NotRead asks below why = absurd why
+why_below input request v refusal.TooDeep asks below why = absurd why
 why_below input request v refusal.UnknownLanguage asks below why = (request, asks, v, below, why)
 why_below input request v refusal.OtherPipeline asks below why = (request, asks, v, below, why)
 why_below input request v refusal.NoFields asks below why = (request, asks, v, below, why)
@@ -85,27 +86,37 @@ refused_below r input request v e is asks below why =
     let p = err_from_is_err_and r is in
     rw (p.1, p.2) (why_below input request v e asks below why)
 
--- below a request what is not JSON is refused
+-- below a request what is not read is refused
 pub unread_below : {T : Type 0} (r : Result T Refusal) (input text : Bytes) (request : Request) (e : SearchError)
     → IsErrAnd r (λ y. y ≡ refusal_of e) → Asks input request → text ≡ after_first is_line_feed input
-    → StopsBy NotRead (read text ≡ None) e → IfErr r (IsRefusedBelow input)
+    → IsUnread text e → IfErr r (IsRefusedBelow input)
 unread_below r input text request e is asks at why =
     let p = err_from_is_err_and r is in
-    rw (p.1, p.2) (elim why [ inl m ↦ rw m tt | inr n ↦ rw (n.0) (request, asks, ap read (sym at) ∙ n.1) ])
+    rw (p.1, p.2) (elim why [
+      | inl m ↦ rw m tt
+      | inr more ↦ elim more [
+        | inl n ↦ rw (n.0) (request, asks, subst IsNotJson at n.1)
+        | inr d ↦ rw (d.0) (request, asks, subst IsTooDeep at d.1)
+      ]
+    ])
 
--- and so is a text that is not JSON
+-- and so is a text that is not read
 pub unread_text : {T : Type 0} (r : Result T Refusal) (text : Bytes) (field : Option Bytes) (e : SearchError)
     → IsErrAnd r (λ y. y ≡ refusal_of e)
-    → StopsBy NotRead (read text ≡ None) e → IfErr r (IsTextNotSearched text field)
+    → IsUnread text e → IfErr r (IsTextNotSearched text field)
 unread_text r text field e is why =
     let p = err_from_is_err_and r is in
-    rw (p.1, p.2) (elim why [ inl m ↦ rw m tt | inr n ↦ rw (n.0) (n.1) ])
+    rw (p.1, p.2) (elim why [
+      | inl m ↦ rw m tt
+      | inr more ↦ elim more [ inl n ↦ rw (n.0) (n.1) | inr d ↦ rw (d.0) (d.1) ]
+    ])
 
 -- what is not searched of a value refuses the text that it was read of
 pub why_text : (text : Bytes) (v : Data) (field : Option Bytes) (e : Refusal) → ReadsAs text v → IsNotSearched v field e
     → IsTextNotSearched text field e
 why_text text v field refusal.NotARequest reads why = absurd why
 why_text text v field refusal.NotRead reads why = absurd why
+why_text text v field refusal.TooDeep reads why = absurd why
 why_text text v field refusal.UnknownLanguage reads why = (v, reads, why)
 why_text text v field refusal.OtherPipeline reads why = (v, reads, why)
 why_text text v field refusal.NoFields reads why = (v, reads, why)
@@ -132,6 +143,7 @@ not_opened v field language named e refuses = elim refuses [
 ] where
   lacking : (x : SearchError) → Lacks v x → IsNotSearched v field (refusal_of x)
   lacking NotRead lacks = absurd lacks
+  lacking TooDeep lacks = absurd lacks
   lacking OtherLanguage lacks = absurd lacks
   lacking OtherPipeline lacks = absurd lacks
   lacking BadFields lacks = lacks

@@ -23,7 +23,7 @@ use Rattle.elasticlunr_print.proofs.Plain.{no_float}
 use Rattle.elasticlunr_print.proofs.PlainValues.{value_plain}
 use Rattle.elasticlunr.specs.Shape.{HasParts, HasTrie, HasTries}
 use Rattle.elasticlunr_search.specs.Fields.{HasWholeTrie, HasWholeTries, IsIndexOf}
-use Rattle.elasticlunr_search.specs.Reading.{ReadsAs}
+use Rattle.elasticlunr_search.specs.Readers.{ReadsAs}
 use Rattle.elasticlunr_search.specs.Whole.{with_ones, items_with_ones, members_with_ones}
 use Rattle.elasticlunr_search.proofs.FieldTries.{each_weaker}
 

@@ -13,7 +13,7 @@ use Rattle.elasticlunr.specs.Printed.{IsPrintOf}
 use Rattle.elasticlunr.specs.Standing.{Plan}
 use Rattle.elasticlunr_search.specs.Fields.{IsIndexOf}
 use Rattle.elasticlunr_search.specs.Lines.{lines}
-use Rattle.elasticlunr_search.specs.Reading.{ReadsAs}
+use Rattle.elasticlunr_search.specs.Readers.{ReadsAs}
 use Rattle.elasticlunr_search.specs.Requests.{IsRequest}
 use Rattle.elasticlunr_search.specs.Tries.{FindsInTrie, FindsWithin}
 use Rattle.elasticlunr_search.specs.Words.{asked_fields, FindsInField, FindsWithinFields}

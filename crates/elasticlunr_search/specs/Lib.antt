@@ -13,7 +13,8 @@ pub mod SameText
 pub mod Source
 pub mod RebuiltIndex
 pub mod AfterCalls
-pub mod Reading
+pub mod Readers
+pub mod Levels
 pub mod Named
 pub mod FoundWords
 pub mod Ranking

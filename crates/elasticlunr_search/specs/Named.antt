@@ -6,7 +6,7 @@ use Rattle.elasticlunr_lang.specs.declared.any.AnyLanguage.{AnyLanguage}
 use Rattle.elasticlunr.specs.History.{Commands}
 use Rattle.elasticlunr.specs.Printed.{IsPrintOf}
 use Rattle.elasticlunr.specs.Standing.{Plan}
-use Rattle.elasticlunr_search.specs.Reading.{ReadsAs}
+use Rattle.elasticlunr_search.specs.Readers.{ReadsAs}
 use Rattle.elasticlunr_search.specs.Standing.{HasPartsOf, Searches, Speaks}
 use Rattle.elasticlunr_search.specs.declared.searcher.Searcher.{Searcher}
 use Rattle.serde_json.specs.Data.{Data, string}

@@ -1,6 +1,6 @@
 -- What is rebuilt from a text; for private clauses.
 use Rattle.std.specs.Prelude.{ℕ, List}
-use Rattle.elasticlunr_search.specs.Reading.{ReadsAs}
+use Rattle.elasticlunr_search.specs.Readers.{ReadsAs}
 use Rattle.elasticlunr_search.specs.Source.{IsOfParts}
 use Rattle.elasticlunr_search.specs.declared.rebuilt_index.RebuiltIndex.{RebuiltIndex}
 use Rattle.serde_json.specs.Data.{Data}

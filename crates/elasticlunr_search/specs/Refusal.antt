@@ -1,5 +1,5 @@
 -- Why a text is refused.
-use Rattle.std.specs.Prelude.{◌≡◌, ◌≢◌, ◌<◌, ◌⊎◌, ℕ, List, Some, None, Result, Err}
+use Rattle.std.specs.Prelude.{◌≡◌, ◌≢◌, ◌<◌, ◌⊎◌, ℕ, List, Result, Err}
 use Rattle.elasticlunr_text.specs.Text.{Bytes}
 use Rattle.elasticlunr_trie.specs.Table.{Table}
 use Rattle.elasticlunr_store.specs.Contents.{Contents, IsConsistent}
@@ -8,11 +8,13 @@ use Rattle.elasticlunr.specs.Printed.{IsPrintOf}
 use Rattle.elasticlunr.specs.Shape.{HasFields, HasStore, HasLanguage}
 use Rattle.elasticlunr.specs.Standing.{Plan}
 use Rattle.elasticlunr_search.specs.Fields.{HasStages, HasWholeTries}
-use Rattle.elasticlunr_search.specs.Reading.{ReadsAs}
+use Rattle.elasticlunr_search.specs.Levels.{IsTooDeep}
+use Rattle.elasticlunr_search.specs.Readers.{ReadsAs, IsNotJson}
 use Rattle.serde_json.specs.Data.{Data, depth}
-use Rattle.serde_json.specs.Read.{read, max_depth}
+use Rattle.serde_json.specs.Read.{max_depth}
 use Rattle.elasticlunr_search.specs.declared.error.SearchError.{SearchError}
-use Rattle.elasticlunr_search.specs.declared.error.SearchError.TheVariants.{NotRead, OtherLanguage}
+use Rattle.elasticlunr_search.specs.declared.error.SearchError.TheVariants.{NotRead, TooDeep}
+use Rattle.elasticlunr_search.specs.declared.error.SearchError.TheVariants.{OtherLanguage}
 use Rattle.elasticlunr_search.specs.declared.error.SearchError.TheVariants.{OtherPipeline}
 use Rattle.elasticlunr_search.specs.declared.error.SearchError.TheVariants.{BadFields, BadTries}
 use Rattle.elasticlunr_search.specs.declared.error.SearchError.TheVariants.{BadStore, NoSuchField}
@@ -29,6 +31,7 @@ NamesOther language v = (name : Bytes) × HasLanguage v name × (name ≢ langua
 -- what the value lacks
 abbrev pub Lacks : Data → SearchError → Type 0
 Lacks v NotRead = ⊥
+Lacks v TooDeep = ⊥
 Lacks v OtherLanguage = ⊥
 Lacks v OtherPipeline = ⊥
 Lacks v BadFields = (names : List Bytes) → ¬ HasFields v names
@@ -44,17 +47,22 @@ abbrev pub RefusesValue : (language : Bytes) → (stages : List Bytes) → Data 
 RefusesValue language stages v e = ((e ≡ OtherLanguage) × NamesOther language v)
     ⊎ (((e ≡ OtherPipeline) × ¬ HasStages v stages) ⊎ Lacks v e)
 
--- why it refuses the text: `serde_json` does not read it, or its value is refused
-abbrev pub Refuses : (language : Bytes) → (stages : List Bytes) → List ℕ → SearchError → Type 0
-Refuses language stages text e = ((e ≡ NotRead) × (read text ≡ None))
-    ⊎ (((v : Data) × ReadsAs text v × RefusesValue language stages v e) ⊎ (e ≡ Memory))
+-- why no value is read of the text: it is not JSON, or nests deeper than `serde_json` goes
+abbrev pub IsUnread : List ℕ → SearchError → Type 0
+IsUnread text e = (e ≡ Memory)
+    ⊎ (((e ≡ NotRead) × IsNotJson text) ⊎ ((e ≡ TooDeep) × IsTooDeep text))
 
--- why it refuses a text that was printed of an index: out of memory, as one that is not read, for
--- its depth, or since the index has another language or other stages
+-- why it refuses the text: no value is read of it, or its value is refused
+abbrev pub Refuses : (language : Bytes) → (stages : List Bytes) → List ℕ → SearchError → Type 0
+Refuses language stages text e = IsUnread text e
+    ⊎ ((v : Data) × ReadsAs text v × RefusesValue language stages v e)
+
+-- why it refuses a text that was printed of an index: out of memory, for its depth, or since the
+-- index has another language or other stages
 abbrev pub RefusesPrint : (language : Bytes) → (stages : List Bytes) → List ℕ → SearchError → Type 0
 RefusesPrint language stages text e = (plan : Plan) (commands : Commands)
     (print : IsPrintOf plan commands text)
-    → (e ≡ Memory) ⊎ (((e ≡ NotRead) × (max_depth < depth print.value))
+    → (e ≡ Memory) ⊎ (((e ≡ TooDeep) × (max_depth < depth print.value))
     ⊎ (((e ≡ OtherLanguage) × (plan.language ≢ language))
     ⊎ ((e ≡ OtherPipeline) × (plan.stages ≢ stages))))
 

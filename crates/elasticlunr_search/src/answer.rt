@@ -5,7 +5,7 @@ ghost use Rattle.elasticlunr_text.specs.Text.{bytes_of};
 ghost use Rattle.elasticlunr_lang.specs.Known.{language_name};
 ghost use Rattle.elasticlunr_search.specs.Answers.{AreFoundOf, AreLinesFound, IsFoundBelow};
 ghost use Rattle.elasticlunr_search.specs.Lines.{lines};
-ghost use Rattle.elasticlunr_search.specs.Reading.{ReadsAs};
+ghost use Rattle.elasticlunr_search.specs.Readers.{ReadsAs};
 ghost use Rattle.elasticlunr_search.specs.Source.{IsSource};
 ghost use Rattle.elasticlunr_search.specs.Unanswered.{IsNotSearched, IsRefusedBelow};
 ghost use Rattle.elasticlunr_search.specs.Unanswered.{IsTextNotSearched, NamesNone, refusal_text};
@@ -32,6 +32,7 @@ use std::alloc::{AllocError, AllocFailed, Global};
 pub enum Refusal {
     NotARequest,
     NotRead,
+    TooDeep,
     UnknownLanguage,
     OtherPipeline,
     NoFields,
@@ -72,6 +73,7 @@ impl From<SearchError> for Refusal {
     fn from(error: SearchError) -> Refusal {
         match error {
             SearchError::NotRead => Refusal::NotRead,
+            SearchError::TooDeep => Refusal::TooDeep,
             SearchError::OtherLanguage => Refusal::UnknownLanguage,
             SearchError::OtherPipeline => Refusal::OtherPipeline,
             SearchError::BadFields => Refusal::NoFields,
@@ -90,6 +92,7 @@ pub fn reason(refusal: Refusal) -> &'static str
     match refusal {
         Refusal::NotARequest => "not a request",
         Refusal::NotRead => "not JSON",
+        Refusal::TooDeep => "nested deeper than 127 levels",
         Refusal::UnknownLanguage => "unknown language",
         Refusal::OtherPipeline => "other stages than its language has",
         Refusal::NoFields => "no fields",

@@ -5,8 +5,10 @@ use std::alloc::{AllocError, AllocFailed};
 /// Why a text was not read, or a field was not searched.
 #[derive(Clone, Copy, Debug, PartialEq, Eq)]
 pub enum SearchError {
-    /// The text is not JSON, or is nested deeper than `serde_json` reads.
+    /// The text is not JSON.
     NotRead,
+    /// The text is nested deeper than `serde_json` reads, and is not read as what an index printed.
+    TooDeep,
     /// Under the key `lang` is the name of another language than the searcher's.
     OtherLanguage,
     /// Under the key `pipeline` are not the names of the searcher's stages: other ones, or no list

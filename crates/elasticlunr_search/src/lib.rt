@@ -10,6 +10,7 @@ pub mod answer;
 mod error;
 mod found_words;
 pub mod laws;
+mod levels;
 pub mod named;
 mod parts;
 mod printed;

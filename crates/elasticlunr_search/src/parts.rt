@@ -8,9 +8,8 @@ ghost use Rattle.elasticlunr_store.specs.Contents.{Contents, IsConsistent};
 ghost use Rattle.elasticlunr.specs.Printed.{texts};
 ghost use Rattle.elasticlunr.specs.Shape.{HasFields, HasLanguage, HasStore};
 ghost use Rattle.elasticlunr_search.specs.Fields.{HasStages, HasWholeTrie, HasWholeTries};
-ghost use Rattle.elasticlunr_search.specs.Refusal.{NamesOther, StopsBy};
+ghost use Rattle.elasticlunr_search.specs.Refusal.{IsUnread, NamesOther, StopsBy};
 ghost use Rattle.elasticlunr_search.specs.Whole.{with_ones};
-ghost use Rattle.elasticlunr_search.specs.declared.error.SearchError.TheVariants.{NotRead};
 ghost use Rattle.elasticlunr_search.specs.declared.error.SearchError.TheVariants.{BadFields};
 ghost use Rattle.elasticlunr_search.specs.declared.error.SearchError.TheVariants.{BadTries};
 ghost use Rattle.elasticlunr_search.specs.declared.error.SearchError.TheVariants.{BadStore};
@@ -19,6 +18,7 @@ ghost use Rattle.serde_json.specs.Read.{read};
 ghost use Rattle.serde_json.specs.View.{view};
 
 use crate::error::SearchError;
+use crate::levels::nests_deeper;
 use crate::rounding::round;
 use elasticlunr_store::DocumentStore;
 use elasticlunr_text::IndexError;
@@ -29,12 +29,24 @@ use std::alloc::{AllocError, Global};
 /// The JSON value that the text is.
 pub(crate) fn value_of(alloc: Global, text: &str) -> Result<Value, SearchError>
     ensures ok { IfOk result (λ value. read text.now ≡ Some (view value)) }
-    ensures err { IfErr result (StopsBy NotRead (read text.now ≡ None)) }
+    ensures err { IfErr result (IsUnread text.now) }
 {
     match Value::from_str(alloc, text) {
         Ok(value) => Ok(value),
         Err(e) if e.is_memory() => Err(SearchError::Memory),
-        Err(_) => Err(SearchError::NotRead),
+        Err(_) => Err(unread(alloc, text)),
+    }
+}
+
+/// Why `serde_json` does not read a text.
+fn unread(alloc: Global, text: &str) -> SearchError
+    requires { read text.now ≡ None }
+    ensures { IsUnread text.now result }
+{
+    match nests_deeper(alloc, text) {
+        Ok(true) => SearchError::TooDeep,
+        Ok(false) => SearchError::NotRead,
+        Err(_) => SearchError::Memory,
     }
 }
 

@@ -6,6 +6,7 @@ ghost use Rattle.std.specs.Prelude.{◌<◌, IfOk, OnOk, length};
 ghost use Rattle.elasticlunr_store.specs.Contents.{IsConsistent};
 
 use crate::error::SearchError;
+use crate::levels::MAX_DEPTH;
 use elasticlunr_store::DocumentStore;
 use elasticlunr_text::IndexError;
 use elasticlunr_trie::InvertedIndex;
@@ -13,26 +14,54 @@ use json::{Reader, Token};
 use serde_json::Value;
 use std::alloc::{AllocError, Global};
 
-/// How deep `serde_json` reads, which is deeper than a document store nests.
-const MAX_DEPTH: usize = 127;
+/// How many steps through tries a text may cost, and how many more for each of its bytes.
+const ALL_STEPS: u64 = 1 << 28;
+
+const STEPS_PER_BYTE: u64 = 16;
+
+/// The steps through tries that are left: one for each byte of a path, each time a posting is added
+/// from the root. A text with long paths and many postings would cost the square of its length.
+#[derive(Drop)]
+struct Steps {
+    left: u64,
+}
+
+impl Steps {
+    /// The steps for a text.
+    fn of_text(text: &str) -> Steps {
+        let of_bytes = (text.len() as u64).saturating_mul(STEPS_PER_BYTE);
+        Steps {
+            left: of_bytes.saturating_add(ALL_STEPS),
+        }
+    }
+
+    /// Takes the steps of a path, if there are as many.
+    fn take(&mut self, path: &str) -> Result<(), SearchError> {
+        let Some(left) = self.left.checked_sub(path.len() as u64) else {
+            return Err(SearchError::NotRead);
+        };
+        self.left = left;
+        Ok(())
+    }
+}
 
 /// What a printed text has, as it seems.
 #[derive(Drop)]
-pub(crate) struct Rebuilt<'a> {
+pub(crate) struct Rebuilt {
     pub fields: Vec<String>,
-    pub ref_field: &'a str,
-    pub language: &'a str,
+    pub ref_field: String,
+    pub language: String,
     pub stages: Vec<String>,
-    pub tries: Vec<(&'a str, InvertedIndex)>,
+    pub tries: Vec<(String, InvertedIndex)>,
     pub store: DocumentStore,
 }
 
 /// The parts that stand in a text in the order in which an index is printed.
-pub(crate) fn rebuild<'a>(
+pub(crate) fn rebuild(
     alloc: Global,
-    text: &'a str,
-    reader: &mut Reader<'a>,
-) -> Result<Rebuilt<'a>, SearchError>
+    text: &str,
+    reader: &mut Reader<'_>,
+) -> Result<Rebuilt, SearchError>
     ensures { IfOk result (λ r. IsConsistent r.store) }
 {
     take(reader, Token::BeginObject)?;
@@ -41,13 +70,13 @@ pub(crate) fn rebuild<'a>(
     take(reader, Token::Key("fields"))?;
     let fields = read_names(alloc, reader)?;
     take(reader, Token::Key("index"))?;
-    let tries = read_tries(alloc, reader)?;
+    let tries = read_tries(alloc, reader, Steps::of_text(text))?;
     take(reader, Token::Key("lang"))?;
-    let language = read_text(reader)?;
+    let language = read_text(alloc, reader)?;
     take(reader, Token::Key("pipeline"))?;
     let stages = read_names(alloc, reader)?;
     take(reader, Token::Key("ref"))?;
-    let ref_field = read_text(reader)?;
+    let ref_field = read_text(alloc, reader)?;
     Ok(Rebuilt {
         fields,
         ref_field,
@@ -84,9 +113,9 @@ fn take(reader: &mut Reader<'_>, token: Token<'_>) -> Result<(), SearchError>
 }
 
 /// A text.
-fn read_text<'a>(reader: &mut Reader<'a>) -> Result<&'a str, SearchError> {
+fn read_text(alloc: Global, reader: &mut Reader<'_>) -> Result<String, SearchError> {
     match next(reader)? {
-        Token::String(text) => Ok(text),
+        Token::String(text) => Ok(String::from_str(alloc, text)?),
         _ => Err(SearchError::NotRead),
     }
 }
@@ -126,10 +155,11 @@ fn read_store(
     if reader.skip_value(MAX_DEPTH).is_err() {
         return Err(SearchError::NotRead);
     }
-    let Some(part) = text.as_bytes().get(start..reader.offset()) else {
+    let Some(part) = text.get(start..reader.offset()) else {
         return Err(SearchError::NotRead);
     };
-    let value = match Value::from_slice(alloc, part.strip_suffix(b",").unwrap_or(part)) {
+    let part = part.trim_ascii_end();
+    let value = match Value::from_str(alloc, part.strip_suffix(',').unwrap_or(part)) {
         Ok(value) => value,
         Err(e) if e.is_memory() => return Err(SearchError::Memory),
         Err(_) => return Err(SearchError::NotRead),
@@ -142,15 +172,20 @@ fn read_store(
 }
 
 /// Tries under the names of their fields.
-fn read_tries<'a>(
+fn read_tries(
     alloc: Global,
-    reader: &mut Reader<'a>,
-) -> Result<Vec<(&'a str, InvertedIndex)>, SearchError> {
+    reader: &mut Reader<'_>,
+    mut steps: Steps,
+) -> Result<Vec<(String, InvertedIndex)>, SearchError> {
     take(reader, Token::BeginObject)?;
     let mut tries = Vec::new(alloc);
     'tries: loop {
         match next(reader)? {
-            Token::Key(name) => tries.push((name, read_trie(alloc, reader)?))?,
+            Token::Key(name) => {
+                let name = String::from_str(alloc, name)?;
+                let trie = read_trie(alloc, reader, &mut steps)?;
+                tries.push((name, trie))?;
+            }
             Token::EndObject => return Ok(tries),
             _ => return Err(SearchError::NotRead),
         }
@@ -159,7 +194,11 @@ fn read_tries<'a>(
 
 /// A trie. Each posting is added under the characters of the keys that lead to it, so it costs a
 /// step for each of them. Texts that lead to no posting, as a removal leaves them, are known, too.
-fn read_trie(alloc: Global, reader: &mut Reader<'_>) -> Result<InvertedIndex, SearchError>
+fn read_trie(
+    alloc: Global,
+    reader: &mut Reader<'_>,
+    steps: &mut Steps,
+) -> Result<InvertedIndex, SearchError>
     ensures { OnOk result (length reader.new < length reader.old) }
 {
     take(reader, Token::BeginObject)?;
@@ -172,7 +211,7 @@ fn read_trie(alloc: Global, reader: &mut Reader<'_>) -> Result<InvertedIndex, Se
     'trie: loop {
         match next(reader)? {
             Token::Key("docs") => {
-                if read_postings(reader, &mut trie, path.as_str())? {
+                if read_postings(reader, &mut trie, path.as_str(), steps)? {
                     known = path.len();
                 }
             }
@@ -185,7 +224,7 @@ fn read_trie(alloc: Global, reader: &mut Reader<'_>) -> Result<InvertedIndex, Se
             }
             Token::EndObject => {
                 if known < path.len() {
-                    learn(&mut trie, path.as_str())?;
+                    learn(&mut trie, path.as_str(), steps)?;
                 }
                 if path.pop().is_none() {
                     take(reader, Token::EndObject)?;
@@ -199,7 +238,8 @@ fn read_trie(alloc: Global, reader: &mut Reader<'_>) -> Result<InvertedIndex, Se
 }
 
 /// Makes a text and its beginnings known, with no posting of it.
-fn learn(trie: &mut InvertedIndex, text: &str) -> Result<(), SearchError> {
+fn learn(trie: &mut InvertedIndex, text: &str, steps: &mut Steps) -> Result<(), SearchError> {
+    steps.take(text)?;
     if trie.add_token("", text, 1).is_err() {
         return Err(SearchError::Memory);
     }
@@ -218,6 +258,7 @@ fn read_postings(
     reader: &mut Reader<'_>,
     trie: &mut InvertedIndex,
     token: &str,
+    steps: &mut Steps,
 ) -> Result<bool, SearchError>
     ensures { OnOk result (length reader.new < length reader.old) }
 {
@@ -227,6 +268,7 @@ fn read_postings(
         match next(reader)? {
             Token::Key(reference) => {
                 any = true;
+                steps.take(token)?;
                 let frequency = read_frequency(reader)?;
                 if trie.add_token(reference, token, frequency).is_err() {
                     return Err(SearchError::Memory);

@@ -41,19 +41,27 @@ pub(crate) fn rebuild_and_compare(
     ensures { IfOk result (λ o. IfSome o (IsRebuilt text.now)) }
 {
     let mut scratch = Scratch::new(alloc);
-    let mut reader = Reader::new(text, &mut scratch)?;
-    match rebuild(alloc, text, &mut reader) {
-        Ok(rebuilt) => judged(alloc, text, rebuilt),
+    match rebuilt_of(alloc, text, &mut scratch) {
+        Ok(rebuilt) => judged(alloc, text, &mut scratch, rebuilt),
         Err(SearchError::Memory) => Err(AllocError),
         Err(_) => Ok(None),
     }
+}
+
+/// What the text has, as it seems.
+fn rebuilt_of(alloc: Global, text: &str, scratch: &mut Scratch) -> Result<Rebuilt, SearchError>
+    ensures { IfOk result (λ r. IsConsistent r.store) }
+{
+    let mut reader = Reader::new(text, scratch)?;
+    rebuild(alloc, text, &mut reader)
 }
 
 /// What was rebuilt, if the text is printed of it.
 fn judged(
     alloc: Global,
     text: &str,
-    rebuilt: Rebuilt<'_>,
+    scratch: &mut Scratch,
+    rebuilt: Rebuilt,
 ) -> Result<Option<RebuiltIndex>, AllocError>
     requires { IsConsistent rebuilt.store }
     ensures { IfOk result (λ o. IfSome o (IsRebuilt text.now)) }
@@ -74,17 +82,17 @@ fn judged(
     };
     let parts = Parts {
         fields: &fields,
-        ref_field,
-        language,
+        ref_field: ref_field.as_str(),
+        language: language.as_str(),
         stages: &stages,
         tries: &tries,
         store: &store,
     };
-    if !is_text_of(alloc, parts, text)? {
+    if !is_text_of(alloc, parts, text, scratch)? {
         return Ok(None);
     }
     Ok(Some(RebuiltIndex {
-        language: String::from_str(alloc, language)?,
+        language,
         stages,
         printed: Printed {
             fields,
@@ -115,7 +123,7 @@ fn all_differ(names: &[String]) -> bool
 fn in_order(
     alloc: Global,
     fields: &[String],
-    mut named: Vec<(&str, InvertedIndex)>,
+    mut named: Vec<(String, InvertedIndex)>,
 ) -> Result<Option<Vec<InvertedIndex>>, AllocError>
     ensures { IfOk result (λ o. IfSome o (λ tries. vec_len tries ≡ length fields.now)) }
 {
@@ -130,11 +138,11 @@ fn in_order(
 }
 
 /// Where the trie of this name stands.
-fn place_among(named: &[(&str, InvertedIndex)], name: &str) -> Option<usize>
+fn place_among(named: &[(String, InvertedIndex)], name: &str) -> Option<usize>
     ensures { IfSome result (λ i. i < length named.now) }
 {
     for (i, other) in named.iter().enumerate() {
-        if other.0 == name {
+        if other.0.as_str() == name {
             return Some(i);
         }
     }
@@ -142,12 +150,16 @@ fn place_among(named: &[(&str, InvertedIndex)], name: &str) -> Option<usize>
 }
 
 /// Whether the tokens of the text are those that an index with these parts is printed with.
-fn is_text_of(alloc: Global, parts: Parts<'_>, text: &str) -> Result<bool, AllocError>
+fn is_text_of(
+    alloc: Global,
+    parts: Parts<'_>,
+    text: &str,
+    scratch: &mut Scratch,
+) -> Result<bool, AllocError>
     ensures { IfOk result (λ is. is ≡ true → (v : Data) × IsPrinted parts.entry v
         × (tokens text.now ≡ json_tokens (outline v)) × All IsSmallToken (tokens text.now)) }
 {
-    let mut scratch = Scratch::new(alloc);
-    let mut out = SameText::new(text, &mut scratch)?;
+    let mut out = SameText::new(text, scratch)?;
     match write_index(alloc, parts, &mut out) {
         Ok(()) => Ok(out.is_all_of(text)),
         Err(_) if out.differs() => Ok(false),

@@ -19,7 +19,7 @@ ghost use Rattle.elasticlunr.specs.Standing.{Plan, stored};
 ghost use Rattle.elasticlunr_search.specs.Query.{AreTokensOf, RunReads};
 ghost use Rattle.elasticlunr_search.specs.Tries.{tables_of};
 ghost use Rattle.elasticlunr_search.specs.Words.{asked_fields};
-ghost use Rattle.elasticlunr_search.specs.Reading.{ReadsAs};
+ghost use Rattle.elasticlunr_search.specs.Readers.{ReadsAs};
 ghost use Rattle.elasticlunr_search.specs.Refusal.{Refuses, RefusesOthers, RefusesPrint};
 ghost use Rattle.elasticlunr_search.specs.Refusal.{RefusesValue};
 ghost use Rattle.elasticlunr_search.specs.Source.{IsSource};
@@ -79,9 +79,9 @@ impl<L: Language> Searcher<L> {
 
     /// Reads the printed text of an index, in any layout, once. The index must have been built with
     /// this language and its pipeline: a text that names another language or other stages is
-    /// refused, and one that names no language is read. A compact text that an index printed may
-    /// nest as deep as it likes. A pretty one, one that others wrote, or one with more than a
-    /// thousand fields may nest no deeper than `serde_json` reads.
+    /// refused, and one that names no language is read. A text that an index printed may nest as
+    /// deep as it likes. One that others wrote, one with more than a thousand fields, or one whose
+    /// postings have too many bytes of tokens may nest no deeper than `serde_json` reads.
     pub fn read(alloc: Global, language: L, text: &str) -> Result<Searcher<L>, SearchError>
         ensures stands { IfOk result (λ s. (plan : Plan) (commands : Commands)
             → IsPrintOf plan commands text.now

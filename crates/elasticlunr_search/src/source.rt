@@ -3,12 +3,10 @@ ghost use Rattle.std.specs.Prelude.{◌≡◌, ◌↔◌, Some, None, IfOk, IfEr
 ghost use Rattle.elasticlunr_text.specs.Text.{Bytes, bytes_of};
 ghost use Rattle.elasticlunr.specs.Shape.{HasLanguage};
 ghost use Rattle.elasticlunr_search.specs.Fields.{HasStages, IsIndexOf};
-ghost use Rattle.elasticlunr_search.specs.Refusal.{Lacks, NamesOther, StopsBy};
-ghost use Rattle.elasticlunr_search.specs.Reading.{ReadsAs};
+ghost use Rattle.elasticlunr_search.specs.Refusal.{IsUnread, Lacks, NamesOther};
+ghost use Rattle.elasticlunr_search.specs.Readers.{ReadsAs};
 ghost use Rattle.elasticlunr_search.specs.Source.{IsSource};
-ghost use Rattle.elasticlunr_search.specs.declared.error.SearchError.TheVariants.{NotRead};
 ghost use Rattle.serde_json.specs.Data.{Data};
-ghost use Rattle.serde_json.specs.Read.{read};
 
 use crate::error::SearchError;
 use crate::parts::{are_same, has_stages, language_of, names_other, value_of};
@@ -28,7 +26,7 @@ impl Source {
     /// The index of a text.
     pub(crate) fn of_text(alloc: Global, text: &str) -> Result<Source, SearchError>
         ensures ok { IfOk result (λ source. (v : Data) × ReadsAs text.now v × IsSource source v) }
-        ensures err { IfErr result (StopsBy NotRead (read text.now ≡ None)) }
+        ensures err { IfErr result (IsUnread text.now) }
     {
         if let Some(index) = rebuild_and_compare(alloc, text)? {
             return Ok(Source::RebuiltIndex(index));

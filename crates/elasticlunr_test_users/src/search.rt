@@ -80,3 +80,31 @@ fn an_index_with_a_long_token_is_searched(rt: HostRuntime) -> Result<(), Fail> {
     assert_eq!(rt; searcher.find_all("body", "fox")?.len(), 1);
     Ok(())
 }
+
+#[test]
+fn a_pretty_index_with_a_long_token_is_searched(rt: HostRuntime) -> Result<(), Fail> {
+    let alloc = rt.alloc();
+    let token = repeated(alloc, 'b', 150)?;
+    let mut index = Index::new(alloc, &["body"])?;
+    index.add_doc("1", &[token.as_str()])?;
+    let text = index.to_json_pretty()?;
+    let searcher = Searcher::read(alloc, English::new(), text.as_str())?;
+    assert_eq!(rt; searcher.find_all("body", token.as_str())?.len(), 1);
+    Ok(())
+}
+
+#[test]
+fn a_text_that_no_index_printed_may_not_nest_as_deep(rt: HostRuntime) -> Result<(), Fail> {
+    let alloc = rt.alloc();
+    let text = repeated(alloc, '[', 127)?;
+    let deeper = repeated(alloc, '[', 128)?;
+    assert_eq!(rt;
+        Searcher::read(alloc, English::new(), text.as_str()).err(),
+        Some(SearchError::NotRead)
+    );
+    assert_eq!(rt;
+        Searcher::read(alloc, English::new(), deeper.as_str()).err(),
+        Some(SearchError::TooDeep)
+    );
+    Ok(())
+}

@@ -1,4 +1,4 @@
-use Rattle.std.proofs.Common.{arith, refl, sym, subst}
+use Rattle.std.proofs.Common.{arith, refl, subst}
 use Rattle.json.specs.Lex.{tokens}
 use Rattle.serde_json.specs.Data.{depth}
 use Rattle.elasticlunr.specs.Shape.{HasLanguage}
@@ -21,7 +21,7 @@ returns c =
       record {
         parts = of_parts v.0 _ _ _ (rw (c.deref-3.ensures.value, c.deref-5.ensures.value) at
             (index_parts _ _ _ v.0 v.1)) c.requires;
-        language = subst (HasLanguage v.0) (sym c.in_ok-from_str.ensures.ok) (language_held _ _ _ v.0 v.1.printed);
+        language = subst (HasLanguage v.0) c.as_str-2.ensures.value (language_held _ _ _ v.0 v.1.printed);
         stages = rw (c.deref-4.ensures.value) at (stages_held _ _ _ v.0 v.1.printed);
       },
     )

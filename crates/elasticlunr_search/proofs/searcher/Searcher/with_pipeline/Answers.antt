@@ -1,4 +1,4 @@
-use Rattle.std.proofs.Common.{◌≡◌, inl, inr, subst}
+use Rattle.std.proofs.Common.{◌≡◌, inr, subst}
 use Rattle.std.proofs.lemmas.Result.{IfErr-weaker, IfOk-weaker}
 use Rattle.elasticlunr_text.specs.Text.{bytes_of}
 use Rattle.serde_json.specs.Read.{max_depth}
@@ -23,7 +23,7 @@ returns-clause-parts g c = IfOk-weaker c.of_source.result _ _
 
 pub returns-clause-refused : goal.returns-clause-refused
 returns-clause-refused g c = IfErr-weaker c.of_source.result _ _
-    (λ e refused. let made = c.in_ok-source.ensures.ok in inr (inl (made.0, made.1, refused made.0 made.2)))
+    (λ e refused. let made = c.in_ok-source.ensures.ok in inr (made.0, made.1, refused made.0 made.2))
     c.of_source.ensures.refused
 
 pub returns-clause-accepted : goal.returns-clause-accepted
@@ -33,7 +33,7 @@ returns-clause-accepted g c =
     let made = c.in_ok-source.ensures.ok in
     IfErr-weaker c.of_source.result _ _ (λ e refused plan commands print. accepted
     c.a_value_has_its_parts_once.ensures.language c.a_value_has_its_parts_once.ensures.fields _ _ text e
-    (inr (inl (made.0, made.1, refused made.0 made.2))) plan commands print (laws.parts plan commands text print)
+    (inr (made.0, made.1, refused made.0 made.2)) plan commands print (laws.parts plan commands text print)
     (laws.language plan commands text print)) c.of_source.ensures.refused
 
 pub returns-clause-other : goal.returns-clause-other

@@ -1,5 +1,6 @@
 -- A printed text is refused out of memory, for its depth, for its language or for its stages alone.
-use Rattle.std.proofs.Common.{arith, ◌≡◌, ◌≢◌, ◌⊎◌, inl, inr, ◌<◌, ℕ, List, None, Some, Result, Err, refl, sym, subst, ◌∙◌}
+use Rattle.std.proofs.Common.{◌≡◌, ◌≢◌, ◌⊎◌, inl, inr, ◌<◌, ℕ, List, None, Some, Result, Err}
+use Rattle.std.proofs.Common.{arith, refl, sym, subst, ◌∙◌}
 use Rattle.std.proofs.lemmas.Bool.{cases_lt}
 use Rattle.serde_json.specs.Data.{Data, depth}
 use Rattle.serde_json.specs.Read.{max_depth}
@@ -13,9 +14,9 @@ use Rattle.elasticlunr.specs.Standing.{Plan}
 use Rattle.elasticlunr_search.specs.Fields.{HasStages, HasWholeTries}
 use Rattle.elasticlunr_search.specs.Refusal.{Lacks, NamesOther, RefusesOthers, RefusesValue, Refuses}
 use Rattle.elasticlunr_search.specs.declared.error.SearchError.{SearchError}
-use Rattle.elasticlunr_search.specs.declared.error.SearchError.TheVariants.{NotRead, TooDeep, OtherLanguage, OtherPipeline}
-use Rattle.elasticlunr_search.specs.declared.error.SearchError.TheVariants.{BadFields, BadTries, BadStore, NoSuchField}
-use Rattle.elasticlunr_search.specs.declared.error.SearchError.TheVariants.{Memory}
+use Rattle.elasticlunr_search.specs.declared.error.SearchError.TheVariants.{NotRead, TooDeep, OtherLanguage}
+use Rattle.elasticlunr_search.specs.declared.error.SearchError.TheVariants.{OtherPipeline, BadFields, BadTries, BadStore}
+use Rattle.elasticlunr_search.specs.declared.error.SearchError.TheVariants.{NoSuchField, Memory}
 use Rattle.elasticlunr_search.proofs.Stages.{stages_held}
 use Rattle.elasticlunr_search.proofs.Whole.{of_parts}
 

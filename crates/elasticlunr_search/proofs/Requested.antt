@@ -27,9 +27,9 @@ use Rattle.elasticlunr_search.specs.Words.{asked_fields}
 use Rattle.elasticlunr_search.specs.declared.answer.Refusal.{Refusal}
 use Rattle.elasticlunr_search.specs.declared.answer.Refusal.TheVariants as refusal
 use Rattle.elasticlunr_search.specs.declared.error.SearchError.{SearchError}
-use Rattle.elasticlunr_search.specs.declared.error.SearchError.TheVariants.{NotRead, TooDeep, OtherLanguage, OtherPipeline}
-use Rattle.elasticlunr_search.specs.declared.error.SearchError.TheVariants.{BadFields, BadTries, BadStore, NoSuchField}
-use Rattle.elasticlunr_search.specs.declared.error.SearchError.TheVariants.{Memory}
+use Rattle.elasticlunr_search.specs.declared.error.SearchError.TheVariants.{NotRead, TooDeep, OtherLanguage}
+use Rattle.elasticlunr_search.specs.declared.error.SearchError.TheVariants.{OtherPipeline, BadFields, BadTries, BadStore}
+use Rattle.elasticlunr_search.specs.declared.error.SearchError.TheVariants.{NoSuchField, Memory}
 use Rattle.elasticlunr_search.specs.declared.request.Request.{Request}
 
 -- what has three items has three values

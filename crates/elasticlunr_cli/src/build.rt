@@ -278,7 +278,10 @@ fn write_text(rt: &HostRuntime, task: &Task<'_, '_>, line: &str) -> io::Result<(
 
 /// The name of the output in a message.
 fn output_name<'a>(task: &'a Task<'_, '_>) -> &'a str {
-    task.given.get_str("output").unwrap_or("standard output")
+    match task.given.get_str("output") {
+        Some(name) => name,
+        None => "standard output",
+    }
 }
 
 /// Writes the text of an index where that is wanted, publishes the pieces, and says how many there

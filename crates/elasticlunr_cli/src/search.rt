@@ -57,14 +57,19 @@ pub(crate) fn search(rt: &HostRuntime, given: &ArgMatches<'_>) -> io::Result<Out
     match answer_in(alloc, &bytes, &asked, form) {
         Ok(answer) => {
             print_lines(rt, answer.text.as_str())?;
-            if let Some(note) = answer.note {
-                let name = input_name(file);
-                say(rt, format!(in alloc; "{name}: {note}")?.as_str())?;
+            if let Some(note) = &answer.note {
+                say_of(rt, input_name(file), note.as_str())?;
             }
             Ok(Outcome::Done)
         }
         Err(trouble) => troubled(rt, input_name(file), trouble),
     }
+}
+
+/// Says something of a file.
+fn say_of(rt: &HostRuntime, file: &str, said: &str) -> io::Result<()> {
+    let line = format!(in rt.alloc(); "{file}: {said}")?;
+    say(rt, line.as_str())
 }
 
 /// What is printed, to a terminal or elsewhere.

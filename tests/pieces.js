@@ -240,7 +240,7 @@ async function tryWrongHeads(given, answers) {
 
 // What a call gives when it is the only one, for many calls.
 function manyCalls({ index, files, names }) {
-  const head = JSON.parse(files[HEAD]), options = { expand: true };
+  const head = JSON.parse(files[HEAD]), options = { expand: true, minimum: 1 };
   return head.tries.map((token) => {
     const word = Array.from(token)[0], want = searchWhole(index, word, options, names);
     return async (site) => assert.deepStrictEqual(bits(await site.search(word, options)), want);
@@ -280,7 +280,7 @@ const CASES = {
 
   async "a head that is replaced"({ site, other }) {
     const newer = withoutPipeline(other), server = new Server(withoutPipeline(site).files), opened = await open(server.get);
-    const store = JSON.parse(other.whole).documentStore, options = { expand: true };
+    const store = JSON.parse(other.whole).documentStore, options = { expand: true, minimum: 1 };
     const want = searchWhole(newer.index, "wo", options, newer.names);
     assert(want.length > 0);
     server.files = newer.files;
@@ -326,7 +326,7 @@ const CASES = {
   },
 
   async "a head that is replaced after a call failed"({ site, other }) {
-    const old = withoutPipeline(site), newer = withoutPipeline(other), options = { expand: true };
+    const old = withoutPipeline(site), newer = withoutPipeline(other), options = { expand: true, minimum: 1 };
     const want = searchWhole(newer.index, "wo", options, newer.names);
     for (const files of [{}, { [HEAD]: old.files[HEAD] }]) {
       const server = new Server(old.files), opened = await open(server.get);

@@ -96,7 +96,11 @@ impl<T: Copy> InlineList<T> {
                 self.kept = Kept::Many(Box::new(self.alloc, items)?);
             }
             Kept::Many(items) => {
-                items.insert(at, item)?;
+                if at == items.len() {
+                    items.push(item)?;
+                } else {
+                    items.insert(at, item)?;
+                }
             }
         }
         Ok(())

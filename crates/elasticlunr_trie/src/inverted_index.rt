@@ -63,17 +63,18 @@ use value::tree_value;
 /// kept once. A name may stay when its postings go, until the trie is compacted; no call shows it.
 ///
 /// A node takes 32 bytes, and more where it has several children or several postings. A token of up
-/// to 27 bytes that came when it was known already, for the second time or as the beginning of
-/// another one, is remembered with its node, if a slot is free for it: a slot takes 32 bytes, and
-/// at most three of four are taken. There are numbers for 2^43 nodes and 2^48 references, more than
-/// memory has room for: a call that would make more of them fails as where memory is refused.
+/// to 27 bytes that `add_tokens` is given when it is known already, for the second time or as the
+/// beginning of another one, is remembered with its node, if a slot is free for it: a slot takes 32
+/// bytes, and at most three of four are taken. Where memory for more slots is refused, the token
+/// isn't remembered. There are numbers for 2^43 nodes and 2^48 references, more than memory has
+/// room for: a call that would make more of them fails as where memory is refused.
 #[derive(Drop)]
 pub struct InvertedIndex {
     root: Vec<Child>,
     nodes: Vec<Node>,
     names: Names,
     references: Vec<Reference>,
-    // where tokens lead that came when they were known already
+    // where tokens lead that `add_tokens` was given when they were known already
     ends: TokenCache,
 }
 
@@ -115,10 +116,11 @@ impl InvertedIndex {
     /// nothing.
     ///
     /// Where memory is refused, the table stays as it was. What changes then is shown by no call:
-    /// the reference may have a number, or a node in its list, without a posting, and no token is
-    /// remembered. The work is in proportion to the token; the reference is looked up among all
-    /// names unless it is the one that was entered last, and by binary search among the postings of
-    /// the token unless it is newer than all of them.
+    /// the reference may have a number, or a node in its list, without a posting, and the tokens
+    /// that `add_tokens` remembered are forgotten. The token is walked, and not remembered. The work
+    /// is in proportion to the token; the reference is looked up among all names unless it is the
+    /// one that was entered last, and by binary search among the postings of the token unless it is
+    /// newer than all of them.
     pub fn add_token(
         &mut self,
         doc_ref: &str,
@@ -153,9 +155,13 @@ impl InvertedIndex {
     ///
     /// A token that is remembered is at its end by one look-up. The others are walked side by side:
     /// while one walk waits for memory, the others go on, so that in a large trie this takes less
-    /// time than a call for each; and the reference gets room for all of them at once. Where memory
-    /// is wanting, the postings of some tokens may be set, from the first on, and nothing else has
-    /// changed.
+    /// time than a call for each; and the reference gets room for all of them at once. Those that
+    /// are known are remembered; where memory for that is refused, the call goes on without it.
+    ///
+    /// Where memory is refused otherwise, the postings of some tokens may be set, from the first on,
+    /// and no others have changed. What else changes then is shown by no call: the reference may
+    /// have a number, or a node in its list, without a posting, and the tokens that were remembered
+    /// may be forgotten, so that they are walked again.
     pub fn add_tokens(&mut self, doc_ref: &str, tokens: &[(&str, u64)]) -> Result<(), IndexError>
         ensures ok { OnOk result (AreChanged (additions doc_ref.now (told_tokens tokens.now))
             self.old self.new) }

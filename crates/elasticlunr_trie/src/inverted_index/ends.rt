@@ -1,5 +1,6 @@
-//! Where tokens lead that came before. To look that up takes one hash, and waits for memory once;
-//! to walk there takes a step for each character, and waits at each.
+//! Where tokens lead that `add_tokens` was given before. To look that up takes one hash, and waits
+//! for memory once; to walk there takes a step for each character, and waits at each. No result
+//! needs it, so where memory for it is refused, it isn't kept.
 ghost use Rattle.std.specs.Prelude.{◌≡◌, ◌≢◌, ◌<◌, ℕ, Some, IfOk, IfSome, All, length, take};
 ghost use Rattle.std.specs.Str.{chars};
 ghost use Rattle.elasticlunr_trie_nodes.specs.Starts.{IsStart, told};
@@ -65,8 +66,9 @@ impl CachedToken {
     }
 }
 
-// Tokens with their nodes, each in one of the slots that its hash names; a token for which all of
-// them are taken isn't remembered. So a look-up never visits more, whatever the tokens are.
+// Tokens with their nodes, each in one of the slots that its hash names, and in no second one; a
+// token for which all of them are taken isn't remembered. So a look-up never visits more, whatever
+// the tokens are.
 #[derive(Drop)]
 pub struct TokenCache {
     slots: Vec<CachedToken>,
@@ -105,22 +107,27 @@ impl TokenCache {
         None
     }
 
-    // Remembers where a token leads, if it has room and a slot is free for it. Where memory is
-    // wanting, nothing has changed.
-    fn put(&mut self, alloc: Global, token: &str, node: u32) -> Result<(), AllocError>
+    // Remembers where a token leads, unless that is remembered already, if it has room and a slot
+    // is free for it. Where the table can't be made larger, nothing has changed.
+    fn put(&mut self, alloc: Global, token: &str, node: u32)
         ensures { (step : Step) → AreEnds step self.old → walk step Root (chars token.now)
             ≡ Some (At node) → AreEnds step self.new }
     {
         let Some(end) = CachedToken::new(token, node) else {
-            return Ok(());
+            return;
         };
+        if self.get(token).is_some() {
+            return;
+        }
         if self.taken >= self.slots.len() / 4 * 3 {
-            self.slots = twice_as_many(alloc, &self.slots)?;
+            let Ok(more) = twice_as_many(alloc, &self.slots) else {
+                return;
+            };
+            self.slots = more;
         }
         if put_end(&mut self.slots, end) {
             self.taken = self.taken.saturating_add(1);
         }
-        Ok(())
     }
 }
 
@@ -201,26 +208,27 @@ pub(super) fn begin<'a>(
     }
 }
 
-// Remembers where a token leads, if it is known and the number of the node has 32 bits.
+// Remembers where a token leads, if it is known and the number of the node has 32 bits. Where
+// memory is refused, the token isn't remembered.
 pub(super) fn remember(
     alloc: Global,
     root: &[Child],
     nodes: &[Node],
     ends: &mut TokenCache,
     start: WalkedToken<'_>,
-) -> Result<(), AllocError>
+)
     requires ends { AreEnds (step_of root.now nodes.now) ends.old }
     requires start { IsStart (step_of root.now nodes.now) start }
     ensures ends { AreEnds (step_of root.now nodes.now) ends.new }
 {
     if !start.rest.is_empty() {
-        return Ok(());
+        return;
     }
     let Place::At(k) = start.place else {
-        return Ok(());
+        return;
     };
     let Ok(node) = u32::try_from(k) else {
-        return Ok(());
+        return;
     };
-    ends.put(alloc, start.token, node)
+    ends.put(alloc, start.token, node);
 }

@@ -93,8 +93,8 @@ fn finish_all(root: &[Child], nodes: &[Node], starts: &mut [WalkedToken<'_>])
     }
 }
 
-// Tokens with their frequencies, each walked as far as it is known. A token that came before may
-// lead to its end at once.
+// Tokens with their frequencies, each walked as far as it is known. One that is remembered is at
+// its end at once.
 pub(super) fn walked_tokens<'a>(
     alloc: Global,
     root: &[Child],
@@ -114,12 +114,12 @@ pub(super) fn walked_tokens<'a>(
         step_all(root, nodes, &mut starts);
     }
     finish_all(root, nodes, &mut starts);
-    remember_all(alloc, root, nodes, ends, &starts, &missed)?;
+    remember_all(alloc, root, nodes, ends, &starts, &missed);
     Ok(starts)
 }
 
 // Tokens with their frequencies, each at its end, where that is remembered. The numbers of the
-// others are told.
+// others are told, where the list of them has room or gets it.
 fn begun<'a>(
     alloc: Global,
     root: &[Child],
@@ -136,7 +136,7 @@ fn begun<'a>(
     for &(token, frequency) in tokens {
         let start = begin(root, nodes, ends, token, frequency);
         if matches!(start.place, Place::Root) {
-            missed.push(starts.len())?;
+            let _ = missed.push(starts.len());
         }
         starts.push(start)?;
     }
@@ -151,17 +151,16 @@ fn remember_all(
     ends: &mut TokenCache,
     starts: &[WalkedToken<'_>],
     missed: &[usize],
-) -> Result<(), AllocError>
+)
     requires ends { AreEnds (step_of root.now nodes.now) ends.old }
     requires starts { All (IsStart (step_of root.now nodes.now)) starts.now }
     ensures ends { AreEnds (step_of root.now nodes.now) ends.new }
 {
     for i in missed {
         if *i < starts.len() {
-            remember(alloc, root, nodes, ends, starts[*i])?;
+            remember(alloc, root, nodes, ends, starts[*i]);
         }
     }
-    Ok(())
 }
 
 // Sets the posting of a token, unless it is empty.

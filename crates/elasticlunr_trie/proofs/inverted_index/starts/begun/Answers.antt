@@ -14,7 +14,7 @@ pub loop-token-preserved : goal.loop-token-preserved
 loop-token-preserved c =
     pushed (step_of c.args.root.now c.args.nodes.now) c.loop-token.starts.items c.push-in-loop-token.new.self.items
     c.begin-start.result c.args.tokens.now c.loop-token.token-index _ c.loop-token-test.true
-    c.in_ok-push-2.ensures.items c.begin-start.ensures.start c.begin-start.ensures.told c.loop-token.invariant
+    c.in_ok-push.ensures.items c.begin-start.ensures.start c.begin-start.ensures.told c.loop-token.invariant
 
 pub returns-clause-starts : goal.returns-clause-starts
 returns-clause-starts c = c.loop-token.invariant.0

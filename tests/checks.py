@@ -50,7 +50,7 @@ LEAST = {
     "check_docs": 450,
     "command": 210,
     "check_jobs": 150,
-    "check_gate": 25,
+    "check_gate": 38,
 }
 COUNT = re.compile(r"^(?:[a-z]+: )?(\d+) passed, (\d+) failed(?:, (\d+) skipped)?$")
 AT_ONCE = re.compile(r"^\S+: (installs|downloads) ")

@@ -45,7 +45,7 @@ LEAST = {
     "compare_random": 13_000,
     "refuse_memory": 2_000,
     "refuse_calls": 140,
-    "forgeries": 55,
+    "forgeries": 71,
     "long_inputs": 9,
     "check_docs": 450,
     "command": 210,

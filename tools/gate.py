@@ -71,7 +71,8 @@ class Checks:
     def __init__(self, log):
         self.log = log
         self.own = os.path.join(os.path.dirname(log), "checks.log")
-        self.since = time.time()
+        os.utime(log)
+        self.since = os.path.getmtime(log)  # by the clock of the files
         self.sources = {name: build.sources_of(name) for name in names_of_programs()}
         self.missing = set(programs())
         self.running = None
@@ -87,7 +88,7 @@ class Checks:
 
     def is_new(self, path):
         """Whether this run of `rt ci` left a program there. If it didn't, the checks wait for its end."""
-        return os.path.isfile(path) and os.path.getmtime(path) > self.since
+        return os.path.isfile(path) and os.path.getmtime(path) >= self.since
 
     def begin(self):
         note_programs(self.sources)
@@ -130,6 +131,7 @@ def main():
         print("gate.py: there is no rt on the path: the Rattle kit has it")
         return 1
     log = sys.argv[1]
+    append(log, "")
     checks = Checks(log)
     proved = prove(log, checks)
     if proved.status:

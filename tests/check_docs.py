@@ -26,7 +26,6 @@ import json
 import os
 import re
 import sys
-import tempfile
 
 sys.path.insert(0, os.path.join(os.path.dirname(__file__), ".."))
 
@@ -40,7 +39,7 @@ CLAIMS = ("README.md", "PROVED.md")  # pages whose names of code are looked up
 USES = "elasticlunr_uses"  # a page may show some files of this crate; any other crate is shown whole
 RUST, PROOF, CRATE, LINES, SHELL, JOB, JSON = "Rust", "a proof", "a whole crate", "lines of crates.txt", "shell", "a job", "JSON"
 NEEDED = {  # what a page has, by its name
-    "README.md": (CRATE, PROOF, LINES, SHELL, JOB),
+    "README.md": (CRATE, LINES, SHELL, JOB),
     "LIBRARY.md": (CRATE, PROOF, LINES),
     "BROWSER.md": (SHELL,),
     "COMMAND.md": (SHELL, JOB, JSON),
@@ -133,16 +132,19 @@ def part_failure(crate, paths, is_listed):
     return None if is_listed else "the page has no line of crates.txt for it"
 
 
+def kinds(found):
+    """What a page has, of what a page may need."""
+    names = {"console": SHELL, "json": JSON}
+    there = {names.get(kind) for kind, _, _ in found} | {it for _, it, _, _, _ in shown(found)}
+    there |= {JOB for kind, _, text in found if kind == "json" and is_job(text)}
+    there |= {CRATE for _ in crates_of(found) - {USES}}
+    return there | {LINES for _ in lines_of_crates(found)}
+
+
 def needed_failures(name, found):
     """Each kind of block that a page needs, and whether it has none."""
-    has = {SHELL: "console", JSON: "json"}
-    there = {name for name, kind in has.items() if any(it == kind for it, _, _ in found)}
-    there |= {PROOF} if any(name == PROOF for _, name, _, _, _ in shown(found)) else set()
-    there |= {CRATE} if crates_of(found) - {USES} else set()
-    there |= {LINES} if any(lines_of_crates(found)) else set()
-    there |= {JOB} if any(kind == "json" and is_job(text) for kind, _, text in found) else set()
     for needed in NEEDED.get(name, ()):
-        yield 0, needed, None if needed in there else "the page has none"
+        yield 0, needed, None if needed in kinds(found) else "the page has none"
 
 
 def commands(text):

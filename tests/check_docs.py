@@ -3,16 +3,20 @@
 
 usage: check_docs.py [PAGE ..]
 
-Without a page it takes README.md, CONTRIBUTING.md, docs/ and each crate's CALLING.md.
+Without a page it takes README.md, CONTRIBUTING.md, docs/ and each crate's CALLING.md. Another file is taken for the page of
+its name.
 
-- A block of Rust is a file of a crate, byte for byte, so `rt ci`, which proves every crate, has proved it. A block of proofs
-  after one is the file of that crate whose path the block begins with.
+- A block of Rust is the root file of a library, or a file of elasticlunr_uses, byte for byte, so `rt ci`, which proves every
+  crate, has proved it. A block of proofs after one is the file of that crate whose path the block begins with. A page that
+  shows a file of a crate, or its line of crates.txt, shows the whole crate, that line and each file that a proof reads;
+  elasticlunr_uses alone is shown in part.
 - A block of lines of crates.txt has lines that crates.txt has.
 - Each command of a block of shell runs at the top of the repository and must end well. Where lines follow it, it must print
   these, its seconds apart. `make test`, which runs this check, `make compare`, what downloads, and `make try` on a page that
   is not the repository's own are only looked up.
 - A block of JSON is a job, which the built program must answer as the definitions say (model.py), or documents, which
-  `elasticlunr check` must accept.
+  `elasticlunr check` must accept. In README.md it is a job.
+- A page has each kind of block that it needs (NEEDED).
 - A link leads to a file, and to a heading of it. In README.md and docs/PROVED.md each name of code is in a crate.
 - Where a page names the logic of the kit, it is that of the kit here (`rt version`).
 """
@@ -22,16 +26,25 @@ import json
 import os
 import re
 import sys
-import tempfile
 
 sys.path.insert(0, os.path.join(os.path.dirname(__file__), ".."))
 
 from tests import model
 from tests.report import Results
+from tools import crates
 from tools.repository import TOP, lines_of, program, read, run
 
 PAGES = ["README.md", "CONTRIBUTING.md", "docs/*.md", "crates/*/CALLING.md"]
 CLAIMS = ("README.md", "PROVED.md")  # pages whose names of code are looked up
+USES = "elasticlunr_uses"  # a page may show some files of this crate; any other crate is shown whole
+RUST, PROOF, CRATE, LINES, SHELL, JOB, JSON = "Rust", "a proof", "a whole crate", "lines of crates.txt", "shell", "a job", "JSON"
+NEEDED = {  # what a page has, by its name
+    "README.md": (CRATE, LINES, SHELL, JOB),
+    "LIBRARY.md": (CRATE, PROOF, LINES),
+    "BROWSER.md": (SHELL,),
+    "COMMAND.md": (SHELL, JOB, JSON),
+    "SEARCH.md": (SHELL,),
+}
 LONG = re.compile(r"make (test|compare|demo)\b")
 SLOW = re.compile(r"make try\b")  # takes up to a minute
 DOWNLOADS = re.compile(r"tools/fetch_")  # tests/browser.py runs it
@@ -53,9 +66,11 @@ def blocks(text):
 
 @functools.cache
 def sources():
-    """The crate of each file of Rust, by its text."""
-    paths = glob.glob(os.path.join(TOP, "crates", "*", "src", "**", "*.rt"), recursive=True)
-    return {read(path): os.path.relpath(path, TOP).split(os.sep)[1] for path in paths}
+    """The crate, and the path in it, of each file of Rust that a page may show, by its text."""
+    paths = glob.glob(os.path.join(TOP, "crates", "*", "src", "lib.rt"))
+    paths += glob.glob(os.path.join(TOP, "crates", USES, "src", "**", "*.rt"), recursive=True)
+    places = [os.path.relpath(path, os.path.join(TOP, "crates")).split(os.sep, 1) for path in paths]
+    return {read(path): place for path, place in zip(paths, places)}
 
 
 @functools.cache
@@ -65,26 +80,71 @@ def words_of_code():
     return {word for path in paths for word in re.findall(r"\w+", read(path))} | set(os.listdir(os.path.join(TOP, "crates")))
 
 
-def code_failures(found):
-    """Each block of Rust or of a proof, and why it is not one of a crate."""
+def shown(found):
+    """Each block of Rust or of a proof: its line, what it is, its crate, its path in the crate, and its text."""
     crate = None
     for kind, line, text in found:
         if kind == "rust":
-            crate = sources().get(text)
-            yield line, "Rust", None if crate else "no crate has this file"
+            crate, path = sources().get(text, (None, ""))
+            yield line, RUST, crate, path, text
         elif kind == "antt":
             path, _, rest = text.partition("\n")
-            path = os.path.join(TOP, "crates", crate or "", path.removeprefix("-- "))
-            is_there = os.path.isfile(path) and read(path) == rest
-            yield line, "a proof", None if is_there else f"{os.path.relpath(path, TOP)} is another text"
+            yield line, PROOF, crate, path.removeprefix("-- "), rest
 
 
-def crate_line_failures(found):
-    known = [it.rstrip("\n") for it in lines_of("crates.txt")]
+def code_failures(found):
+    """Each block of Rust or of a proof, and why it is not one of a crate."""
+    for line, name, crate, path, text in shown(found):
+        if name == RUST:
+            yield line, name, None if crate else "no crate has this file"
+        else:
+            at = os.path.join(crates.folder(crate or ""), path)
+            is_there = os.path.isfile(at) and read(at) == text
+            yield line, name, None if is_there else f"{os.path.relpath(at, TOP)} is another text"
+
+
+def lines_of_crates(found):
+    """The lines of crates.txt that a page has, each with the number of the first line of its block."""
     for kind, line, text in found:
-        if kind == "text" and re.fullmatch(r"(elasticlunr\w*:( \w+)+\n)+", text):
-            missing = [it for it in text.splitlines() if it not in known]
-            yield line, "lines of crates.txt", f"crates.txt has no line `{missing[0]}`" if missing else None
+        if kind == "text" and re.fullmatch(r"(\w+:( \w+)+\n)+", text):
+            yield from ((line, it) for it in text.splitlines())
+
+
+def crate_failures(found):
+    """Each line of crates.txt, and each crate of which a page shows something, and why they don't fit together."""
+    known = [it.rstrip("\n") for it in lines_of("crates.txt")]
+    for line, text in lines_of_crates(found):
+        yield line, LINES, None if text in known else f"crates.txt has no line `{text}`"
+    listed = {text.partition(":")[0] for _, text in lines_of_crates(found)}
+    for crate in sorted((listed | crates_of(found)) - {USES}):
+        yield 0, crate, part_failure(crate, {path for _, _, it, path, _ in shown(found) if it == crate}, crate in listed)
+
+
+def crates_of(found):
+    return {crate for _, _, crate, _, _ in shown(found) if crate}
+
+
+def part_failure(crate, paths, is_listed):
+    """Why a page doesn't show a whole crate."""
+    whole = {os.path.relpath(path, crates.folder(crate)) for path in crates.files(crate)}
+    if paths != whole:
+        return f"the page shows {sorted(paths)} instead of {sorted(whole)}"
+    return None if is_listed else "the page has no line of crates.txt for it"
+
+
+def kinds(found):
+    """What a page has, of what a page may need."""
+    names = {"console": SHELL, "json": JSON}
+    there = {names.get(kind) for kind, _, _ in found} | {it for _, it, _, _, _ in shown(found)}
+    there |= {JOB for kind, _, text in found if kind == "json" and is_job(text)}
+    there |= {CRATE for _ in crates_of(found) - {USES}}
+    return there | {LINES for _ in lines_of_crates(found)}
+
+
+def needed_failures(name, found):
+    """Each kind of block that a page needs, and whether it has none."""
+    for needed in NEEDED.get(name, ()):
+        yield 0, needed, None if needed in kinds(found) else "the page has none"
 
 
 def commands(text):
@@ -115,13 +175,17 @@ def command_failure(command, lines, is_page):
     return f"it prints {printed[:300]!r}"
 
 
-def json_failure(text):
-    """Why a block is no job that is answered as the model says, and no documents."""
+def is_job(text):
     try:
-        is_job = "docs" in json.loads(text)
+        job = json.loads(text)
     except ValueError:
-        is_job = False
-    if is_job:
+        return False
+    return isinstance(job, dict) and "docs" in job
+
+
+def json_failure(text, has_jobs_alone):
+    """Why a block is no job that is answered as the model says, and no documents."""
+    if has_jobs_alone or is_job(text):
         expected, status = model.answer(text.encode())
         ended = run([program("elasticlunr_index")], text.encode())
         if status != 0:
@@ -169,24 +233,27 @@ def tried(path):
     text = read(path)
     found = list(blocks(text))
     is_page = path in pages()
+    name = os.path.basename(path)
+    page = path if is_page else next((it for it in pages() if os.path.basename(it) == name), path)
     yield 0, "the kit", logic_failure(text)
     yield from code_failures(found)
-    yield from crate_line_failures(found)
-    yield from link_failures(text, os.path.dirname(path) if is_page else TOP)
-    if os.path.basename(path) in CLAIMS or not is_page:
+    yield from crate_failures(found)
+    yield from needed_failures(name, found)
+    yield from link_failures(text, os.path.dirname(page))
+    if name in CLAIMS:
         yield from name_failures(text)
     for kind, line, block in found:
         if kind == "console":
             for command, lines in commands(block):
                 yield line, command, command_failure(command, lines, is_page)
         if kind == "json":
-            yield line, "JSON", json_failure(block)
+            yield line, JSON, json_failure(block, name == "README.md")
 
 
 def main():
     results = Results("docs")
     for path in [os.path.abspath(it) for it in sys.argv[1:]] or pages():
-        page = os.path.relpath(path, TOP) if path in pages() else os.path.basename(path)
+        page = os.path.relpath(path, TOP) if path in pages() else os.path.relpath(path, os.path.dirname(os.path.dirname(path)))
         for line, name, wrong in tried(path):
             results.note(wrong is None, f"{page}, line {line}, {name}: {wrong}")
     return results.report()

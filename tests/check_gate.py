@@ -25,10 +25,14 @@ CHANGE = "echo '// more' >>crates/prog/src/main.rt"
 CHANGE_AND_BACK = "cp crates/prog/src/main.rt out/old; " + CHANGE + "; cp out/old crates/prog/src/main.rt"
 STUB = 'print("stub: 1000000 passed, 0 failed")\n'
 
-RT = r"""#!/bin/sh
-[ "$1" = version ] && { echo "a kit"; exit; }
-cd "$TOP" && mkdir -p crates/prog/out && echo program >crates/prog/out/prog
+TESTS = "elasticlunr_test_calls"  # the crate whose tests the checks run
+RT = rf"""#!/bin/sh
+[ "$1" = version ] && {{ echo "a kit"; exit; }}
+cd "$TOP" && mkdir -p crates/prog/out crates/{TESTS}/out
+echo program >crates/prog/out/prog
+echo tests >crates/{TESTS}/out/{TESTS}_tests
 eval "$MEANWHILE"
+[ -e out/checks.log ] && : >out/early
 printf '%s\n' "$SAID"
 exit "$STATUS"
 """
@@ -85,7 +89,7 @@ class Repository:
         """What a command prints on both streams, and its status."""
         path = os.path.join(self.path, "stubs") + os.pathsep + os.environ["PATH"]
         set_here = {"PATH": path, "TOP": self.path, "SAID": said, "STATUS": str(status), "MEANWHILE": meanwhile, "OWN": release(), "TOO_NEW": "none"}
-        kept = {name: value for name, value in os.environ.items() if name not in ("BESIDE", "MIRROR", "APT_CONFIG", "RT_JOBS")}
+        kept = {name: value for name, value in os.environ.items() if name not in ("BESIDE", "MIRROR", "APT_CONFIG")}
         ended = subprocess.run(
             command, cwd=self.path, env={**kept, **set_here, **more}, stdout=subprocess.PIPE, stderr=subprocess.STDOUT, text=True, timeout=120
         )
@@ -110,9 +114,10 @@ class Gate(NamedTuple):
     passes: bool
     shown: tuple = ()  # lines of the output. If the gate fails, they are at its end, below WHAT_FAILED
     status: int = 0
-    meanwhile: str = ""  # what happens while `rt ci` runs, once it has built the program
+    meanwhile: str = ""  # what happens while `rt ci` runs, once it has built the programs
     is_noted: bool = True
     check: str = STUB  # one of the checks
+    is_early: bool = False  # whether the checks begin before `rt ci` ends
 
 
 PROVED = "rt: prog proved\nrt: prog: trying its must-fail edits (1)\n"
@@ -123,8 +128,21 @@ ERROR = "src/main.rt:1:1: error[type]: another type"
 NOT_PROVED = f"fn main: proved\n{ERROR}\nrt: prog NOT PROVED\n0 passed, 1 failed"
 FAILURES = "".join(f'print("{FAILED}job {number}: status 1")\n' for number in range(40)) + 'print("jobs: 1000000 passed, 40 failed")\n'
 KILLS = "import os, signal\nos.kill(os.getppid(), signal.SIGKILL)\n"
-TEST_OF_CALLS = "crates/elasticlunr_test_calls/out/elasticlunr_test_calls_tests"
-ALL_BUILT = f"mkdir -p $(dirname {TEST_OF_CALLS}); echo test >{TEST_OF_CALLS}; "  # then the checks begin
+HANGS = "import time\ntime.sleep(300)\n"
+
+
+def says(*lines):
+    """What `rt ci` says while it runs."""
+    return "".join(f"echo 'rt: {line}'; " for line in lines)
+
+
+TESTS_BUILT = f"{TESTS}: its tests are proved"
+TESTS_KEPT = f"{TESTS}: its tests passed"
+KEPT = "prog is kept: its files are those of an earlier run"
+RAN = "prog ran, and wrote what its file stdout has"
+WAITS = "for turn in $(seq 100); do [ -e out/checks.log ] && break; sleep 0.1; done; "  # until the checks have begun, ten seconds at most
+ALL_BUILT = says("prog proved", TESTS_BUILT) + WAITS
+A_WHILE = "sleep 1"  # in which the checks would begin
 GATES = [
     Gate("a gate that passes", PROVED + REFUSED + "2 passed, 0 failed", True, ("  1 mutants refused",)),
     Gate("an edit that is refused only for a name", PROVED + BY_NAME + "2 passed, 0 failed", False, (f"  {BY_NAME.strip()}",)),
@@ -135,7 +153,14 @@ GATES = [
     Gate("a check that fails", PROVED + "1 passed, 0 failed", False, ("  check_jobs FAILED", "    job 0: status 1"), check=FAILURES),
     Gate("a check that breaks off", PROVED + "1 passed, 0 failed", False, ("  check_jobs FAILED: it broke off", "    ZeroDivisionError: division by zero"), check="1 / 0\n"),
     Gate("checks that are killed", PROVED + "1 passed, 0 failed", False, ("  tests/checks.py broke off",), check=KILLS),
-    Gate("a check that fails before `rt ci` ends", PROVED + "1 passed, 0 failed", False, ("  check_jobs FAILED", "    job 0: status 1"), check=FAILURES, meanwhile=ALL_BUILT + "sleep 14"),
+    Gate("a check that fails before `rt ci` ends", "1 passed, 0 failed", False, ("  check_jobs FAILED", "    job 0: status 1"), check=FAILURES, meanwhile=ALL_BUILT, is_early=True),
+    Gate("programs that are proved", "1 passed, 0 failed", True, meanwhile=ALL_BUILT, is_early=True),
+    Gate("programs that are kept and run", "1 passed, 0 failed", True, meanwhile=says(KEPT, RAN, TESTS_KEPT) + WAITS, is_early=True),
+    Gate("a program that is kept, and not yet run", f"rt: {RAN}\n1 passed, 0 failed", True, meanwhile=says(KEPT, TESTS_BUILT) + A_WHILE),
+    Gate("tests that are not yet proved", "1 passed, 0 failed", True, meanwhile=says("prog proved") + A_WHILE),
+    Gate("a program of an earlier run", "1 passed, 0 failed", True, meanwhile="touch -d yesterday crates/prog/out/prog; " + says("prog proved", TESTS_BUILT) + A_WHILE),
+    Gate("a program that is not there yet", "1 passed, 0 failed", True, meanwhile="rm crates/prog/out/prog; " + says("prog proved", TESTS_BUILT) + A_WHILE + "; echo program >crates/prog/out/prog"),
+    Gate("a crate that fails after the checks began", NOT_PROVED.replace("prog", "other"), False, ("  rt: other NOT PROVED",), status=1, check=HANGS, meanwhile=ALL_BUILT, is_early=True),
 ]
 
 
@@ -148,8 +173,9 @@ def try_gate(case):
         end = lines if case.passes else lines[-3 - checks.MOST : -1]
         is_said = set(case.shown) <= set(end) and (case.passes or checks.WHAT_FAILED in end)
         is_noted = repository.is_noted()
-        good = (status == 0) == case.passes and counted and is_said and is_noted == case.is_noted
-        return None if good else f"status {status}, {'' if is_noted else 'not '}noted: {text[-600:]}"
+        is_early = os.path.exists(os.path.join(repository.path, "out", "early"))
+        good = (status == 0) == case.passes and counted and is_said and is_noted == case.is_noted and is_early == case.is_early
+        return None if good else f"status {status}, {'' if is_noted else 'not '}noted, begun {'early' if is_early else 'late'}: {text[-600:]}"
 
 
 # What a check says at its end, its status, and whether it passes
@@ -180,14 +206,45 @@ def try_what_failed():
     return None if checks.what_failed([]) == [] else "lines of no failure"
 
 
-def try_build(meanwhile):
-    """A build notes the sources that it was made from, or nothing if they changed during the build."""
+LOW = "crate low: modules loaded=1 checked=2\nlogic=proved functions=1\n"
+PROG = "library low: modules loaded=0 checked=0\ncrate prog: modules loaded=1 checked=2\n"
+RUNS = "rt: running out/prog; to give it other input, run that file yourself\nthe output"
+ALL_PROVED = LOW + PROG + "logic=proved functions=2\n" + RUNS
+UNCHANGED = "rt: nothing has changed since the last proved build, so nothing is checked now\n" + RUNS
+
+
+def try_build(said, status=0, meanwhile="", is_built=True, is_noted=True, shown=()):
+    """A build notes the sources that it was made from, or nothing if they changed during the build. It shows the crates in the
+    order in which they are proved. The status of the program doesn't matter."""
     with Repository() as repository:
-        text, status = repository.run(sys.executable, "tools/build.py", "prog", said="\nlogic=proved x", meanwhile=meanwhile)
-        if status != 0 or repository.is_noted() != (not meanwhile):
-            return f"status {status}, noted: {repository.is_noted()}: {text[-300:]}"
-        repository.run(sys.executable, "tools/build.py", "prog", said="\nlogic=proved x")
+        build = (sys.executable, "tools/build.py", "prog")
+        text, ended = repository.run(*build, said=said, status=status, meanwhile=meanwhile)
+        proved = re.findall(r"^  (\w+): proved \(\d+ s\)$", text, re.MULTILINE)
+        if (ended == 0) != is_built or repository.is_noted() != is_noted or proved != list(shown):
+            return f"status {ended}, noted: {repository.is_noted()}: {text[-300:]}"
+        repository.run(*build, said=ALL_PROVED)
         return None if repository.is_noted() else "not noted by a second build"
+
+
+BUILDS = {
+    "a build": lambda: try_build(ALL_PROVED, shown=("low", "prog")),
+    "a build of a program that ends with another status": lambda: try_build(ALL_PROVED, status=64, shown=("low", "prog")),
+    "a build of what has not changed": lambda: try_build(UNCHANGED),
+    "a build that is not proved": lambda: try_build(LOW + PROG + "logic=not-proved\n", 1, is_built=False, is_noted=False, shown=("low",)),
+    "a build whose linking fails": lambda: try_build(LOW + PROG + "logic=proved functions=2\n", 2, is_built=False, is_noted=False, shown=("low", "prog")),
+    "a build of a source that is changed meanwhile": lambda: try_build(ALL_PROVED, meanwhile=CHANGE, is_noted=False, shown=("low", "prog")),
+    "a build of a source that is changed and changed back": lambda: try_build(ALL_PROVED, meanwhile=CHANGE_AND_BACK, is_noted=False, shown=("low", "prog")),
+}
+
+
+def try_costs():
+    """The seconds before a line are those of its function."""
+    with Repository() as repository:
+        said = "checked prog::b, 2 of 2\nfn prog::a: proved\nfn prog::b: proved"
+        command = (sys.executable, "tools/costs.py", "prog")
+        text, status = repository.run(*command, said=said, meanwhile="echo 'checked prog::a, 1 of 2'; sleep 2")
+        shown = re.fullmatch(r" +\d+\.\d in total\n +\d+\.\d prog::b\n +\d+\.\d prog::a\n", text)
+        return None if status == 0 and shown else f"status {status}: {text[-300:]}"
 
 
 INSTALLS = """import os, sys, time
@@ -257,9 +314,8 @@ def cases():
     for name, *end in ENDS:
         yield name, lambda end=end: try_end(*end)
     yield "what failed is said in few lines", try_what_failed
-    yield "a build", lambda: try_build("")
-    yield "a build of a source that is changed meanwhile", lambda: try_build(CHANGE)
-    yield "a build of a source that is changed and changed back", lambda: try_build(CHANGE_AND_BACK)
+    yield from BUILDS.items()
+    yield "the costs of a proof", try_costs
     yield "what is installed", try_install
     compare = ("bench/compare/compare.sh",)
     yield "the newest crates below the original", lambda: try_download(compare, ["trixie", "trixie"])

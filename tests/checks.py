@@ -45,12 +45,12 @@ LEAST = {
     "compare_random": 13_000,
     "refuse_memory": 2_000,
     "refuse_calls": 140,
-    "forgeries": 55,
+    "forgeries": 71,
     "long_inputs": 9,
     "check_docs": 450,
     "command": 210,
     "check_jobs": 150,
-    "check_gate": 25,
+    "check_gate": 38,
 }
 COUNT = re.compile(r"^(?:[a-z]+: )?(\d+) passed, (\d+) failed(?:, (\d+) skipped)?$")
 AT_ONCE = re.compile(r"^\S+: (installs|downloads) ")

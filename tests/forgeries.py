@@ -293,25 +293,60 @@ def forged_tables(folder):
         yield Forgery(name, "check_jobs", says, arguments=(path,))
 
 
-def forged_docs(folder):
-    readme, library = read("README.md"), read("docs/LIBRARY.md")
+def without(kinds, page):
+    """A page without its blocks of these kinds."""
+    return re.sub(rf"^```({kinds})\n.*?^```\n", "", page, flags=re.DOTALL | re.MULTILINE)
+
+
+def forged_code():
+    """Pages whose blocks of Rust, of proofs or of lines of crates.txt are others, or are gone. They have no shell, which takes
+    seconds."""
+    readme, library = without("console", read("README.md")), read("docs/LIBRARY.md")
+    part = r"elasticlunr_site: the page shows \[.*\] instead of \["
+    find = read("crates/elasticlunr_find/src/main.rt")
+    error = read("crates/elasticlunr_error/src/lib.rt")
+    yield "another line of Rust", "README.md", readme.replace("    index.compact()?;\n", "", 1), "Rust: no crate has this file"
+    yield "one more block of Rust", "README.md", readme + "```rust\npub fn nothing() {}\n```\n", "Rust: no crate has this file"
+    yield "a file of a program", "README.md", readme + f"```rust\n{find}```\n", "Rust: no crate has this file"
+    yield "one more crate in part", "README.md", readme + f"```rust\n{error}```\n", "elasticlunr_error: the page shows "
+    yield "a crate without its proof", "README.md", without("antt", readme), part
+    yield "no Rust", "README.md", without("rust|antt", readme), "a whole crate: the page has none"
+    yield "no Rust but the lines of crates.txt", "README.md", without("rust|antt", readme), part
+    yield "modules of one crate alone", "README.md", without("rust|antt|text", readme) + library[library.index("This module,") :], "a whole crate: the page has none"
+    yield "no lines of crates.txt", "README.md", without("text", readme), "lines of crates.txt: the page has none"
+    yield "no line of its crate", "README.md", without("text", readme), "elasticlunr_site: the page has no line of crates.txt for it"
+    yield "one more line of crates.txt", "README.md", readme + "```text\nelasticlunr_find: elasticlunr_search\n```\n", "elasticlunr_find: the page shows "
+    yield "another line of crates.txt", "README.md", readme.replace("site: elasticlunr\n", "site: std\n"), "crates.txt has no line"
+    yield "a line of another name", "README.md", readme.replace("elasticlunr_site: elasticlunr\n", "my_site: elasticlunr\n"), "crates.txt has no line"
+    yield "another module", "LIBRARY.md", library.replace('from_str(alloc, "xx")', 'from_str(alloc, "yy")', 1), "Rust: no crate has this file"
+    yield "another proof", "LIBRARY.md", library.replace("if-is_empty.true", "if-is_empty.false", 1), r"a proof: crates/\S+ is another text"
+    yield "another proof of its crate", "README.md", readme.replace("= ¬ IsFailed", "= IsFailed", 1), r"a proof: crates/\S+ is another text"
+
+
+def forged_text():
+    """Pages whose commands, jobs, links, names or kit are others, or are gone."""
+    readme = read("README.md")
+    quiet, command = without("console", readme), without("console", read("docs/COMMAND.md"))
     kit = re.compile(r"logic [0-9a-f]{16}")
-    forged = [
-        ("a page with another line of Rust", readme.replace("    index.compact()?;\n", "", 1), "Rust: no crate has this file"),
-        ("a page with one more block of Rust", readme + "```rust\npub fn nothing() {}\n```\n", "Rust: no crate has this file"),
-        ("a page with another proof", library.replace("if-is_empty.true", "if-is_empty.false", 1), r"a proof: crates/\S+ is another text"),
-        ("a page with another line of crates.txt", library.replace("uses: elasticlunr ", "uses: std "), "crates.txt has no line"),
-        ("a page with a command that fails", readme + "```console\n$ make no-such-thing\n```\n", "make no-such-thing: status 2"),
-        ("a page with a command that doesn't exist", readme.replace("$ make test", "$ make tested"), "make tested: status 2"),
-        ("a page with another answer", readme.replace("\nguide/search.html\n", "\nguide/other.html\n"), "it prints "),
-        ("a page with a job that is none", readme.replace('"docs": [[', '"pages": [['), 'JSON: .*"pages" is not a key of a job'),
-        ("a page with a link to no file", readme.replace("docs/PERF.md", "docs/SPEED.md"), "docs/SPEED.md: there is no such file"),
-        ("a page with a link to no heading", readme.replace("#minutes", "#hours"), "there is no such heading"),
-        ("a page with a name that no crate has", readme.replace("_are_as_new", "_are_new"), "no crate has this name"),
-        ("a page with another kit", kit.sub("logic 0123456789abcdef", readme), "the kit: the kit here has logic"),
-    ]
-    for name, text, says in forged:
-        path = write(os.path.join(folder, name.replace(" ", "-") + ".md"), text)
+    documents = without("json", quiet) + '```json\n[{"id": "1", "body": "word"}]\n```\n'
+    yield "a command that fails", "README.md", readme + "```console\n$ make no-such-thing\n```\n", "make no-such-thing: status 2"
+    yield "a command that doesn't exist", "README.md", readme.replace("$ make test", "$ make tested"), "make tested: status 2"
+    yield "another answer", "README.md", readme.replace("\nguide/search.html\n", "\nguide/other.html\n"), "it prints "
+    yield "no shell", "README.md", quiet, "shell: the page has none"
+    yield "a job that is none", "README.md", quiet.replace('"docs": [[', '"pages": [['), "JSON: it is no job: refused"
+    yield "a job that is none", "COMMAND.md", command.replace('"docs": [\n', '"pages": [\n'), 'JSON: .*"pages" is not a key of a job'
+    yield "documents instead of a job", "README.md", documents, "JSON: it is no job: refused"
+    yield "no job", "README.md", without("json", quiet), "a job: the page has none"
+    yield "a link to no file", "README.md", quiet.replace("docs/PERF.md", "docs/SPEED.md"), "docs/SPEED.md: there is no such file"
+    yield "a link to no heading", "README.md", quiet.replace("#minutes", "#hours"), "there is no such heading"
+    yield "a name that no crate has", "README.md", quiet.replace("_are_as_new", "_are_new"), "no crate has this name"
+    yield "another kit", "README.md", kit.sub("logic 0123456789abcdef", quiet), "the kit: the kit here has logic"
+
+
+def forged_docs(folder):
+    for what, page, text, says in (*forged_code(), *forged_text()):
+        name = f"{page} with {what}"
+        path = write(os.path.join(folder, name.replace(" ", "-"), page), text)
         yield Forgery(name, "check_docs", says, arguments=(path,))
 
 

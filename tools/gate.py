@@ -1,5 +1,5 @@
 #!/usr/bin/env python3
-"""Runs `rt ci` and, as soon as its programs are built, the checks of tests/ at the same time, and shows the progress.
+"""Runs `rt ci` and, once it has said that each program is built, the checks of tests/ at the same time, and shows the progress.
 
 usage: gate.py LOG
 
@@ -9,7 +9,8 @@ A crate of which that is so has a line that says so. Tests and programs run each
 
 Everything that `rt ci` says goes to the log. What it says of a crate that is not proved, of a mutant that was not refused
 or of a test that failed is shown, too; then the checks are stopped and count for nothing. What the checks say
-(tests/checks.py) is shown as it comes, and follows in the log.
+(tests/checks.py) is shown as it comes, and follows in the log. If `rt ci` doesn't say of each program that it is built, the
+checks begin after its end.
 
 A mutant that can't be applied, or that is refused only because a proof names what it took away, shows nothing of a
 contract. `rt ci` passes it; the gate names it, counts it and fails.
@@ -22,7 +23,6 @@ import shutil
 import signal
 import subprocess
 import sys
-import threading
 import time
 from typing import NamedTuple
 
@@ -30,16 +30,16 @@ sys.path.insert(0, os.path.join(os.path.dirname(__file__), ".."))
 
 from tests.checks import WHAT_FAILED, Failure, what_failed
 from tools import build
+from tools.crates import crates, folder
 from tools.repository import TOP, read
 
-CRATES = os.path.join(TOP, "crates")
-WHOLE = 5  # a program is whole when it was written so many seconds ago
-GIGABYTES_OF_ONE = 6  # of memory, for the greatest check of a crate
-GIGABYTES_OF_NEXT = 4  # for each further one at the same time
+CALLS = "elasticlunr_test_calls"  # its test makes single calls, and a check runs it
 SHOWN = 30  # lines that rt said before a failure
 GOOD = re.compile(r"rt: \w+(: its tests( are)?)? (proved|passed)$")
 KEPT = re.compile(r"rt: (\w+) is kept: ")
 RAN = re.compile(r"rt: (\w+) ran\b.*")
+# A program is proved, or kept and then ran; its tests are proved, or kept and then passed. `rt` links them before it says so.
+BUILT = re.compile(r"rt: (\w+(?:: its tests)?) (?:(?:are )?proved$|passed$|ran\b)")
 TRIED = re.compile(r"rt: \w+: (\d+) of its \d+ must-fail edits were tried by an earlier run")
 TRYING = re.compile(r"rt: (\w+): trying its must-fail edits \((\d+)\)$")
 REFUSED = re.compile(r"rt: must-fail \S+: refused, as it must be(?! \(only because)")
@@ -48,21 +48,14 @@ BAD = re.compile(r"rt: .*(NOT PROVED|NOT REFUSED|NOT TRIED|BAD EDIT|FAILED|had n
 ERROR = re.compile(r".*(: error|\berror\[)")
 
 
-def environment():
-    """Lets rt check as many crates at a time as there are processors, if the machine's memory allows that. Else rt decides."""
-    processors = build.processors()
-    fits = build.gigabytes() >= GIGABYTES_OF_ONE + GIGABYTES_OF_NEXT * (processors - 1)
-    return {**os.environ, "RT_JOBS": str(processors)} if fits and "RT_JOBS" not in os.environ else dict(os.environ)
-
-
 def names_of_programs():
-    return [it for it in sorted(os.listdir(CRATES)) if os.path.isfile(os.path.join(CRATES, it, "src", "main.rt"))]
+    return [it for it in crates() if os.path.isfile(os.path.join(folder(it), "src", "main.rt"))]
 
 
 def programs():
-    """What `rt ci` builds and a check runs: each program, and the test that makes single calls."""
-    built = [(it, it) for it in names_of_programs()] + [("elasticlunr_test_calls", "elasticlunr_test_calls_tests")]
-    return [os.path.join(CRATES, crate, "out", program) for crate, program in built]
+    """What the checks run, by the name that `rt ci` has for it: each program, and the test that makes single calls."""
+    paths = {name: build.built(name) for name in names_of_programs()}
+    return {**paths, f"{CALLS}: its tests": os.path.join(folder(CALLS), "out", f"{CALLS}_tests")}
 
 
 def note_programs(sources):
@@ -72,60 +65,55 @@ def note_programs(sources):
             build.note_built(name, sources[name])
 
 
-class Checks(threading.Thread):
-    """The checks of tests/. They begin once all programs are there that this run built, or took from an earlier one."""
+class Checks:
+    """The checks of tests/. They begin once `rt ci` has said of each program that it is built, or after its end."""
 
     def __init__(self, log):
-        super().__init__(daemon=True)
         self.log = log
         self.own = os.path.join(os.path.dirname(log), "checks.log")
-        self.since = time.time()
+        os.utime(log)
+        self.since = os.path.getmtime(log)  # by the clock of the files
         self.sources = {name: build.sources_of(name) for name in names_of_programs()}
-        self.gate_ended = threading.Event()
-        self.turn = threading.Lock()
-        self.is_dropped = False
+        self.missing = set(programs())
         self.running = None
-        self.status = 1
-        self.start()
 
-    def run(self):
-        while not self.gate_ended.wait(WHOLE) and not all(map(self.is_whole, programs())):
-            pass
-        with self.turn:
-            if self.is_dropped:
-                return
-            note_programs(self.sources)
-            open(self.own, "w", encoding="utf-8").close()
-            command = [sys.executable, os.path.join(TOP, "tests", "checks.py"), self.own]
-            self.running = subprocess.Popen(command, start_new_session=True)
-        self.status = self.running.wait()
+    def hear(self, line):
+        """Takes a line of `rt ci`, and begins if it was the last one that was missing."""
+        built = BUILT.match(line)
+        if not built:
+            return
+        self.missing.discard(built[1])
+        if not self.missing and not self.running and all(map(self.is_new, programs().values())):
+            self.begin()
 
-    def is_whole(self, path):
-        try:
-            return self.since < os.path.getmtime(path) < time.time() - WHOLE
-        except OSError:
-            return False
+    def is_new(self, path):
+        """Whether this run of `rt ci` left a program there. If it didn't, the checks wait for its end."""
+        return os.path.isfile(path) and os.path.getmtime(path) >= self.since
+
+    def begin(self):
+        note_programs(self.sources)
+        open(self.own, "w", encoding="utf-8").close()
+        command = [sys.executable, os.path.join(TOP, "tests", "checks.py"), self.own]
+        self.running = subprocess.Popen(command, start_new_session=True)
 
     def end(self):
         """Waits for their end: their status, and the lines of what failed, unless they are shown only now. What the checks said
         goes to the log."""
         is_shown = self.running is None or self.running.poll() is None
-        self.gate_ended.set()
-        self.join()
+        if self.running is None:
+            self.begin()
+        status = self.running.wait()
         said = read(self.own)
         append(self.log, said)
-        if self.status and WHAT_FAILED not in said:
+        if status and WHAT_FAILED not in said:
             append(self.log, "0 passed, 1 failed\n")
-            return self.status, what_failed([Failure("tests/checks.py broke off", [])])
-        return self.status, said[said.index(WHAT_FAILED) :].splitlines() if self.status and not is_shown else []
+            return status, what_failed([Failure("tests/checks.py broke off", [])])
+        return status, said[said.index(WHAT_FAILED) :].splitlines() if status and not is_shown else []
 
     def drop(self):
-        with self.turn:
-            self.is_dropped = True
-            if self.running:
-                os.killpg(self.running.pid, signal.SIGKILL)
-        self.gate_ended.set()
-        self.join()
+        if self.running and self.running.poll() is None:
+            os.killpg(self.running.pid, signal.SIGKILL)
+            self.running.wait()
 
 
 def append(path, text):
@@ -143,8 +131,9 @@ def main():
         print("gate.py: there is no rt on the path: the Rattle kit has it")
         return 1
     log = sys.argv[1]
+    append(log, "")
     checks = Checks(log)
-    proved = prove(log)
+    proved = prove(log, checks)
     if proved.status:
         checks.drop()
         show(what_failed(proved.failures))
@@ -167,15 +156,15 @@ class Proved(NamedTuple):
     failures: list  # and the mutants that show nothing of a contract
 
 
-def prove(log):
-    """Runs `rt ci`."""
+def prove(log, checks):
+    """Runs `rt ci`, and has the checks hear what it says."""
     command = ["nice", "-n", "5", "rt", "ci"]
     begun = time.monotonic()
     refused = earlier = 0
     said = []  # of one crate, until it is known whether the crate is proved
     failures = []
     line = ""
-    gate = subprocess.Popen(command, env=environment(), stdout=subprocess.PIPE, stderr=subprocess.STDOUT, text=True, errors="replace")
+    gate = subprocess.Popen(command, stdout=subprocess.PIPE, stderr=subprocess.STDOUT, text=True, errors="replace")
     for line in gate.stdout:
         append(log, line)
         line = line.rstrip("\n")
@@ -195,6 +184,7 @@ def prove(log):
             show([f"  {line[4:]} {seconds}"])
         elif not REFUSED.match(line):
             said.append(line)
+        checks.hear(line)
     if refused:
         show([f"  {refused} mutants refused" + (f", {earlier} of them in an earlier run" if earlier else "")])
     status = gate.wait()

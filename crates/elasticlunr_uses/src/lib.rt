@@ -9,5 +9,4 @@ pub mod job;
 pub mod order;
 pub mod own;
 pub mod page;
-pub mod site;
 pub mod update;

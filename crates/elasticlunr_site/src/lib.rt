@@ -1,4 +1,5 @@
 //! The search index of a site.
+#![tactic(auto)]
 
 ghost use Rattle.std.specs.Prelude.{◌≡◌, IfErr};
 ghost use Rattle.elasticlunr.specs.IndexError.TheVariants.{Memory};

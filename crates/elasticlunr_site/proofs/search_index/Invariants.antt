@@ -1,5 +1,5 @@
 use Rattle.elasticlunr.specs.Index.{IsFailed}
-use Rattle.elasticlunr_uses.proofs.site.search_index.Given as goal
+use Rattle.elasticlunr_site.proofs.search_index.Given as goal
 
 -- the index works
 abbrev pub invariant-loop-page : goal.invariant-loop-page

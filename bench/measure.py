@@ -1,5 +1,5 @@
 #!/usr/bin/env python3
-"""Runs a program on a file, and prints its status, its seconds and the megabytes that it took at most.
+"""Runs a program on a file, and prints its status, its seconds, the megabytes that it took at most, and the processor's seconds.
 
 usage: measure.py STACK IN OUT PROGRAM [ARGUMENT ..]
 
@@ -25,6 +25,7 @@ class Measured(NamedTuple):
     status: object  # a number, or why there is none
     seconds: float
     megabytes: int
+    processor: float = 0  # seconds of the processor
 
 
 def measured(command, given, printed, stack=None):
@@ -33,8 +34,8 @@ def measured(command, given, printed, stack=None):
     ended = subprocess.run(words, stdout=subprocess.PIPE, stderr=subprocess.PIPE)
     if ended.returncode != 0:
         return Measured("not started, or no answer: " + ended.stderr.decode(errors="replace").strip()[-200:], 0, 0)
-    status, seconds, megabytes = ended.stdout.split()
-    return Measured(int(status), float(seconds), int(megabytes))
+    status, seconds, megabytes, processor = ended.stdout.split()
+    return Measured(int(status), float(seconds), int(megabytes), float(processor))
 
 
 def set_limits(stack):
@@ -54,7 +55,8 @@ def main():
         while program.stdout and program.stdout.read(CHUNK):
             pass
         _, status, used = os.wait4(program.pid, 0)
-        print(os.waitstatus_to_exitcode(status), f"{time.monotonic() - begun:.3f}", used.ru_maxrss // 1024)
+        seconds, processor = time.monotonic() - begun, used.ru_utime + used.ru_stime
+        print(os.waitstatus_to_exitcode(status), f"{seconds:.3f}", used.ru_maxrss // 1024, f"{processor:.3f}")
 
 
 if __name__ == "__main__":

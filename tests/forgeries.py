@@ -90,6 +90,13 @@ CHANGES = {  # whose program is run, what is changed of its run, and how
     **{name: (INDEX, CHANGES_INPUT, OF_A_JOB % change) for name, change in JOBS.items()},
     "finds any word for all": (FIND, CHANGES_INPUT, 'given = given.replace(b\'"all"]\', b\'"any"]\', 1)'),
     "finds one reference less": (FIND, CHANGES_ANSWER, 'out = out[: out[:-1].rfind(b"\\n") + 1]'),
+    "takes time by the square": (
+        FIND,
+        CHANGES_ANSWER,
+        "until = os.times().user + (os.fstat(0).st_size / 4e6) ** 2\nwhile os.times().user < until: pass",
+    ),
+    "may take more steps": (FIND, CHANGES_INPUT, 'given = given.replace(b\'"fields"\', b" " * 200_000 + b\'"fields"\', 1)'),
+    "reads no index at any depth": (FIND, CHANGES_INPUT, 'given = given.replace(b"{", b\'{"x":0,\', 1)'),
     "ranks in the order of references": (COMMAND, CHANGES_ANSWER, 'out = b"".join(sorted(out.splitlines(True)))'),
     "rounds scores": (COMMAND, CHANGES_ANSWER, OF_HITS % 'dict(hit, score=round(hit["score"]))'),
     "ignores boosts": (COMMAND, CHANGES_WORDS, 'words = [word for word in words if not word.startswith("--boost=")]'),
@@ -184,6 +191,22 @@ def forged_searches():
     yield Forgery("no queries", "compare_search", "^search: .*: 0 queries, and ", arguments=("--queries", "0"))
     yield Forgery("no indexes", "compare_search", "^search: random indexes: 0 queries, and ", arguments=("--indexes", "0"))
     yield Forgery("no script", "compare_search", "^search: there is no /none.js", arguments=("--script", "/none.js"))
+
+
+def forged_orders():
+    """Programs that search long texts wrongly or too long."""
+    keys, levels = ("keys that fall",), ("levels and children",)
+    bound, deep = ("the bound of steps",), ("deep jobs",)
+    for name, arguments, said in [
+        ("finds nothing", keys, "keys that fall: .*: status 0, or another answer: ''"),
+        ("crashes", keys, "keys that fall: .*: status -9, or another answer: ''"),
+        ("takes time by the square", levels, r"levels and children: .*: 2\.6 times are the most"),
+        ("finds one reference less", bound, r"the bound of steps: \d+ documents share 10000 letters: another answer"),
+        ("may take more steps", bound, r"the bound of steps: \d+ documents share 30000 letters: another answer"),
+        ("finds one reference less", deep, r"deep job \d+, .* instead of "),
+        ("reads no index at any depth", deep, r"deep job \d+, .*nested deeper than 127 levels.* instead of "),
+    ]:
+        yield Forgery(name, "orders", f"^order, {said}", name, arguments, FIND)
 
 
 def forged_commands(folder):
@@ -386,6 +409,7 @@ def forgeries(folder):
     few_jobs = write_table(os.path.join(folder, "few-jobs.jsonl"), lines_of(tables.JOBS)[-ROWS:], ROWS)
     yield from forged_programs(few_jobs)
     yield from forged_refusals()
+    yield from forged_orders()
     yield from forged_commands(folder)
     yield from forged_tables(folder)
     yield from forged_docs(folder)

@@ -1,5 +1,5 @@
 use Rattle.std.proofs.Common.{◌<◌, length}
-use Rattle.elasticlunr_search.proofs.rebuild.read_trie.Given as goal
+use Rattle.elasticlunr_search.proofs.walk.Walk.read.Given as goal
 
 abbrev pub invariant-trie : goal.invariant-trie
 invariant-trie l = length l.reader < length l.fn.reader

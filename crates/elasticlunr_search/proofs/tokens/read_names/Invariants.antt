@@ -1,6 +1,6 @@
 use Rattle.std.proofs.Common.{length}
 use Rattle.std.specs.Prelude.{⊤}
-use Rattle.elasticlunr_search.proofs.rebuild.read_names.Given as goal
+use Rattle.elasticlunr_search.proofs.tokens.read_names.Given as goal
 
 abbrev pub invariant-names : goal.invariant-names
 invariant-names l = ⊤

@@ -54,7 +54,8 @@ impl Child {
     pub fn character(&self) -> char
         ensures { result ≡ self.now.0 }
     {
-        char::from_u32((self.bits / NODES) as u32).unwrap()
+        // SAFETY: the high bits are those of a character.
+        unsafe { char::from_u32_unchecked((self.bits / NODES) as u32) }
     }
 
     /// The number of the node.

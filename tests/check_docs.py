@@ -9,7 +9,7 @@ its name.
 - A block of Rust is the root file of a library, or a file of elasticlunr_uses, byte for byte, so `rt ci`, which proves every
   crate, has proved it. A block of proofs after one is the file of that crate whose path the block begins with. A page that
   shows a file of a crate, or its line of crates.txt, shows the whole crate, that line and each file that a proof reads;
-  elasticlunr_uses alone is shown in part.
+  elasticlunr_uses alone is shown in part. README.md may leave out the proofs of a crate that LIBRARY.md shows whole.
 - A block of lines of crates.txt has lines that crates.txt has.
 - Each command of a block of shell runs at the top of the repository and must end well. Where lines follow it, it must print
   these, its seconds apart. `make test`, which runs this check, `make compare`, what downloads, and `make try` on a page that
@@ -110,14 +110,34 @@ def lines_of_crates(found):
             yield from ((line, it) for it in text.splitlines())
 
 
-def crate_failures(found):
+def crate_failures(name, found):
     """Each line of crates.txt, and each crate of which a page shows something, and why they don't fit together."""
     known = [it.rstrip("\n") for it in lines_of("crates.txt")]
     for line, text in lines_of_crates(found):
         yield line, LINES, None if text in known else f"crates.txt has no line `{text}`"
     listed = {text.partition(":")[0] for _, text in lines_of_crates(found)}
     for crate in sorted((listed | crates_of(found)) - {USES}):
-        yield 0, crate, part_failure(crate, {path for _, _, it, path, _ in shown(found) if it == crate}, crate in listed)
+        paths = paths_of(crate, found)
+        if name == "README.md" and crate in whole_in_library():
+            paths |= {it for it in files_of(crate) if it.startswith("proofs")}
+        yield 0, crate, part_failure(crate, paths, crate in listed)
+
+
+def paths_of(crate, found):
+    """The paths of a crate that a page shows."""
+    return {path for _, _, it, path, _ in shown(found) if it == crate}
+
+
+def files_of(crate):
+    """The paths in a crate that its proof reads."""
+    return {os.path.relpath(path, crates.folder(crate)) for path in crates.files(crate)}
+
+
+@functools.cache
+def whole_in_library():
+    """The crates that LIBRARY.md shows whole."""
+    found = list(blocks(read("docs/LIBRARY.md")))
+    return {crate for crate in crates_of(found) if paths_of(crate, found) == files_of(crate)}
 
 
 def crates_of(found):
@@ -126,7 +146,7 @@ def crates_of(found):
 
 def part_failure(crate, paths, is_listed):
     """Why a page doesn't show a whole crate."""
-    whole = {os.path.relpath(path, crates.folder(crate)) for path in crates.files(crate)}
+    whole = files_of(crate)
     if paths != whole:
         return f"the page shows {sorted(paths)} instead of {sorted(whole)}"
     return None if is_listed else "the page has no line of crates.txt for it"
@@ -237,7 +257,7 @@ def tried(path):
     page = path if is_page else next((it for it in pages() if os.path.basename(it) == name), path)
     yield 0, "the kit", logic_failure(text)
     yield from code_failures(found)
-    yield from crate_failures(found)
+    yield from crate_failures(name, found)
     yield from needed_failures(name, found)
     yield from link_failures(text, os.path.dirname(page))
     if name in CLAIMS:

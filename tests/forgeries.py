@@ -332,7 +332,7 @@ def forged_code():
     yield "one more block of Rust", "README.md", readme + "```rust\npub fn nothing() {}\n```\n", "Rust: no crate has this file"
     yield "a file of a program", "README.md", readme + f"```rust\n{find}```\n", "Rust: no crate has this file"
     yield "one more crate in part", "README.md", readme + f"```rust\n{error}```\n", "elasticlunr_error: the page shows "
-    yield "a crate without its proof", "README.md", without("antt", readme), part
+    yield "a crate without its proof", "LIBRARY.md", re.sub(r"^```antt\n.*?^```\n", "", library, count=1, flags=re.DOTALL | re.MULTILINE), part
     yield "no Rust", "README.md", without("rust|antt", readme), "a whole crate: the page has none"
     yield "no Rust but the lines of crates.txt", "README.md", without("rust|antt", readme), part
     yield "modules of one crate alone", "README.md", without("rust|antt|text", readme) + library[library.index("This module,") :], "a whole crate: the page has none"
@@ -343,7 +343,7 @@ def forged_code():
     yield "a line of another name", "README.md", readme.replace("elasticlunr_site: elasticlunr\n", "my_site: elasticlunr\n"), "crates.txt has no line"
     yield "another module", "LIBRARY.md", library.replace('from_str(alloc, "xx")', 'from_str(alloc, "yy")', 1), "Rust: no crate has this file"
     yield "another proof", "LIBRARY.md", library.replace("if-is_empty.true", "if-is_empty.false", 1), r"a proof: crates/\S+ is another text"
-    yield "another proof of its crate", "README.md", readme.replace("= ¬ IsFailed", "= IsFailed", 1), r"a proof: crates/\S+ is another text"
+    yield "another proof of its crate", "LIBRARY.md", library.replace("= ¬ IsFailed", "= IsFailed", 1), r"a proof: crates/\S+ is another text"
 
 
 def forged_text():

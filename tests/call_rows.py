@@ -10,8 +10,8 @@ from tools.repository import read
 
 TABLE = "crates/elasticlunr_test_calls/rows.txt"
 # how many rows and calls the table has
-ROWS = 143
-CALLS = 1365
+ROWS = 149
+CALLS = 1417
 
 MEMORY = "refused: out of memory"  # IndexError::Memory
 ALLOC_ERROR = "no memory"  # AllocError
@@ -41,25 +41,28 @@ def table():
     return rows_of(read(TABLE))
 
 
-# Lines of a row that prepare calls, and are no calls of the library.
-PREPARING = {"swap", "give", "script", "EnglishTrimmer", "EnglishStemmer", "ArabicStemmer", "Keep"}
+# Lines of a row that prepare calls or show what they made, and are no calls of the library.
+PREPARING = {"swap", "give", "script", "kept", "EnglishTrimmer", "EnglishStemmer", "ArabicStemmer", "Keep"}
 
 # What a call answers when memory is refused. None: the call does not allocate.
 TRIE = {"new": None, "from_value": MEMORY, "compacted": MEMORY, "eq": None, "add_token": MEMORY, "add_tokens": MEMORY,
         "remove_token": None, "remove_doc": None, "has_token": None, "get_docs": MEMORY, "get_doc_frequency": None, "get_term_frequency": None,
-        "has_posting": None, "references": MEMORY, "tokens": ALLOC_ERROR, "postings": ALLOC_ERROR, "to_value": MEMORY}
+        "has_posting": None, "references": MEMORY, "put_references": MEMORY, "copied": ALLOC_ERROR, "tokens": ALLOC_ERROR,
+        "postings": ALLOC_ERROR, "to_value": MEMORY, "write": ALLOC_ERROR}
 STORE = {"new": None, "from_value": MEMORY, "clone": MEMORY, "eq": None, "add_doc": MEMORY, "add_field_length": MEMORY,
          "remove_doc": None, "forget_doc": None, "is_empty": None, "is_stored": None, "has_doc": None, "get_doc": MEMORY,
-         "to_value": MEMORY, "len": None, "length": None, "docs": None, "doc_info": None, "get_field_length": None}
+         "to_value": MEMORY, "write": ALLOC_ERROR, "len": None, "length": None, "docs": None, "doc_info": None,
+         "get_field_length": None}
 OPTIONS = {"new": None, "from_value": MEMORY, "clone": MEMORY, "eq": None, "to_value": MEMORY}
 FUNCTIONS = {"tokenize_whitespace": ALLOC_ERROR, "lower_char": None, "languages": None, "from_code": None,
              "from_name": None, "root": None, "m_above_0": None, "m_above_1": None, "m_is_1": None, "has_vowel": None,
              "is_short": None}
 STAGES = {"StopWordFilter::new": MEMORY, "RegexTrimmer::new": MEMORY, "RegexTrimmer::of_scripts": MEMORY, "stem": None,
           "stop_words": None, "contains": None,
-          "name": ALLOC_ERROR, "Stage::name": ALLOC_ERROR, "names": ALLOC_ERROR, "run": ALLOC_ERROR}
+          "name": ALLOC_ERROR, "Stage::name": ALLOC_ERROR, "names": ALLOC_ERROR, "run": ALLOC_ERROR,
+          "run_on": ALLOC_ERROR, "run_on_words": ALLOC_ERROR}
 LANGUAGE = {"name": ALLOC_ERROR, "code": ALLOC_ERROR, "tokenize": ALLOC_ERROR, "make_pipeline": ALLOC_ERROR,
-            "names": ALLOC_ERROR, "run": ALLOC_ERROR}
+            "names": ALLOC_ERROR, "run": ALLOC_ERROR, "run_on_words": ALLOC_ERROR}
 BUILDER = {"IndexBuilder::new": MEMORY, "IndexBuilder::with_language": MEMORY, "Index::new": MEMORY,
            "Index::with_language": MEMORY, "add_field": MEMORY, "add_fields": MEMORY, "set_ref": MEMORY,
            "add_field_with_tokenizer": MEMORY, "save_docs": None, "with_pipeline": None, "build": MEMORY}
@@ -71,6 +74,15 @@ INDEX = {"add_doc": MEMORY, "remove_doc": None, "compact": MEMORY, "get_fields":
 SUBJECTS = {"InvertedIndex": (TRIE, '["to_value"]'), "DocumentStore": (STORE, '["to_value"]'),
             "SearchOptions": (OPTIONS, '["to_value"]'), "functions": (FUNCTIONS, None),
             "Pipeline": (STAGES, '["names"]'), "Index": ({**BUILDER, **INDEX}, '["to_json"]')}
+
+# Calls that show another state than that of their subject.
+STATES = {"run_on": '["kept"]'}
+
+# Calls that may go on without a request that is refused, and then give their whole answer. Where a trie can't remember a
+# token, it is walked the next time as well. The others collect the characters of a class or a list of stop words, and
+# `collect` of the kit makes do with less room than it asks for first.
+GOES_ON = {"InvertedIndex add_tokens", "Index add_doc", "Index Index::new", "Index Index::with_language", "Index build",
+           "Pipeline RegexTrimmer::new", "language make_pipeline"}
 
 # What the filter and the clone of the last stage answer when memory is refused.
 FILTERS = {"EnglishTrimmer": None, "EnglishStemmer": None, "ArabicStemmer": None, "Keep": None,
@@ -98,6 +110,13 @@ def promise(row, number):
         return f"{kind} {call} of the empty token", None
     # each language has its own type
     return f"{row.kind() if promises is LANGUAGE else kind} {call}", promises[call]
+
+
+def goes_on(row, number):
+    """The name of a call of a row in GOES_ON, or None."""
+    kind = row.kind().split(" ")[0]
+    name = f"{kind if kind in SUBJECTS else 'language'} {name_of(row.calls[number])}"
+    return name if name in GOES_ON else None
 
 
 def fields_of(row, number):

@@ -33,7 +33,7 @@ NEEDS = {
 ROW_1 = tables.row_of({"fields": ["body"], "docs": [["1", "go"]]}).out.decode()
 
 # Programs in C, which don't read their input
-INCLUDES = "".join(f"#include <{name}.h>\n" for name in ("signal", "stdlib", "string", "unistd"))
+INCLUDES = "".join(f"#include <{name}.h>\n" for name in ("signal", "stdio", "stdlib", "string", "unistd"))
 BODIES = {
     "prints one fixed text": 'const char *text = "{}\\n"; return write(1, text, strlen(text)) < 0;',
     "prints row 1 for everything": f"const char *text = {json.dumps(ROW_1)}; return write(1, text, strlen(text)) < 0;",
@@ -47,6 +47,25 @@ FINDERS = {
     "finds less when out of memory": REQUESTS + 'return write(1, "1\\n2\\n", at ? 4 : 2) < 0;',
     "says something else when out of memory": REQUESTS + 'return at ? write(1, "1\\n2\\n", 4) < 0 : write(2, "no index\\n", 9) == 9;',
     "says nothing when out of memory": REQUESTS + 'return at ? write(1, "1\\n2\\n", 4) < 0 : 1;',
+}
+
+# Programs in C that answer the calls of a row of a trie, and request so many bytes for a line of this size
+CALLS = """
+char line[999];
+if (!fgets(line, sizeof line, stdin) || write(1, line, strlen(line)) < 0) return 1;
+while (fgets(line, sizeof line, stdin) && line[0] != '\\n') {
+    size_t size = strlen(line) - 1;
+    const char *answer = strstr(line, "to_value") ? "{\\"root\\":{\\"df\\":0,\\"docs\\":{}}}\\n" : "done\\n";
+    void *volatile at = write(1, line, size) < 0 || strstr(line, "new") ? NULL : malloc(BYTES);
+    if (write(1, " -> ", 4) < 0 || write(1, answer, strlen(answer)) < 0) return 1;
+}
+return write(1, "\\n\\n\\ntest result: ok\\n", 19) < 0;
+"""
+SLOTS, NO_SLOTS, GOES_ON = "takes slots for each token of a call", "remembers no token", "goes on when out of memory"
+CALLED = {
+    SLOTS: CALLS.replace("BYTES", "128 * size"),
+    NO_SLOTS: CALLS.replace("BYTES", "1"),
+    GOES_ON: CALLS.replace("BYTES", "1"),
 }
 
 # Programs in Python that change the input, the words or the answer of a built program. `path` is the program.
@@ -141,6 +160,12 @@ def forged_programs(few_jobs):
         yield Forgery(name, "check_jobs", WRONG_JOB, name, (few_jobs,))
         yield Forgery(name, "compare_random", WRONG_RANDOM_JOB, name, FEW)
     yield Forgery(FIXED, "refuse_calls", ": printed another row$", FIXED, crate="elasticlunr_test_calls")
+    for name, case, said in [
+        (SLOTS, "slots", r".* where the token is given once$"),
+        (NO_SLOTS, "slots", "0 tables of slots were requested"),
+        (GOES_ON, "InvertedIndex: new", r"\[\"to_value\"\]: request 1: \[\"to_value\"\] -> "),
+    ]:
+        yield Forgery(name, "refuse_calls", f"^calls: {case}: {said}", name, (case,), "elasticlunr_test_calls")
     yield Forgery(FIXED, "long_inputs", "or another text$", FIXED)
     yield Forgery(SLOW, "long_inputs", r"^long input, a search: .*, and \d+ are the most$", SLOW, ("a search",), COMMAND)
 
@@ -375,8 +400,8 @@ def forged_docs(folder):
 
 def write_programs(folder):
     """Writes the forged programs, and gives their paths by name."""
-    paths = {name: os.path.join(folder, re.sub(r"\W+", "-", name)) for name in [*BODIES, *FINDERS, *CHANGES]}
-    for name, body in {**BODIES, **FINDERS}.items():
+    paths = {name: os.path.join(folder, re.sub(r"\W+", "-", name)) for name in [*BODIES, *FINDERS, *CALLED, *CHANGES]}
+    for name, body in {**BODIES, **FINDERS, **CALLED}.items():
         text = INCLUDES + "int main(void) { " + body + " }\n"
         subprocess.run(["cc", "-x", "c", "-o", paths[name], "-"], input=text.encode(), check=True)
     for name, (crate, way, change) in CHANGES.items():

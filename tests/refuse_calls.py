@@ -1,23 +1,30 @@
 #!/usr/bin/env python3
 """Makes the calls of each row, counts the requests for memory of each call, and refuses these requests one after another.
 
-usage: refuse_calls.py [-v]
+usage: refuse_calls.py [-v] [WORD ..]
 
 The built test of `elasticlunr_test_calls` makes the calls that its input lists. It writes a call right before it makes it
 and ` -> ` right after, so the requests of the call alone are counted (count_requests.c). A row passes if
 
 - each call answers what the table says;
 - a call that promises not to allocate makes no request between its beginning and its end;
-- each other call, with its first, second and each later request refused, either gives its whole answer, or answers that
-  it is out of memory, and then the state before the call is the state after it. After `add_tokens` the first of its two
-  tokens may have its posting. After `add_doc` of an index each call but `get_fields` answers that the index has failed.
+- each other call, with its first, second and each later request refused, answers that it is out of memory, and then the
+  state before the call is the state after it. After `add_tokens` the first of its tokens may have their postings. After
+  `add_doc` of an index each call but `get_fields` answers that the index has failed. The calls of GOES_ON may give their
+  whole answer as well, and then what follows is as if nothing had been refused.
 
-And each call that may run out of memory did so at least once. call_rows.py says what each call promises. With -v each call
-has a line.
+And each call that may run out of memory did so at least once, and so did each that may go on. call_rows.py says what each
+call promises. With -v each call has a line.
+
+Known tokens are given to a trie eight times in each call, which must take no more memory than to give them once: a token has
+one slot. This case is called `slots`.
+
+With words, only the rows and the case run that have one of them in their names.
 """
 import json
 import os
 import sys
+from typing import NamedTuple
 
 sys.path.insert(0, os.path.join(os.path.dirname(__file__), ".."))
 
@@ -35,6 +42,20 @@ PASSED = b"\n\ntest result: ok\n"  # what a test prints at its end
 ON_FAILED = [["add_doc", "1", "fox"], ["add_doc", "1", *["fox"] * 9], ["remove_doc", "1"], ["compact"], ["to_value"],
              ["to_json"], ["to_json_pretty"], ["document_store"], ["inverted_index", "body"]]
 
+KNOWN = 60  # known tokens, more than the first table of slots takes
+FIRST_TABLE = 64 * 32  # bytes
+
+
+class Requests(NamedTuple):
+    """Those of a call."""
+
+    before: int  # the number of the last one before the call
+    last: int
+    bytes: int
+
+    def count(self):
+        return self.last - self.before
+
 
 class Program(Shim):
     """Runs the program, and counts the requests of each call."""
@@ -42,13 +63,13 @@ class Program(Shim):
     source = "count_requests.c"
 
     def run(self, subject, listed, refused=0):
-        """The row of these calls, and the first and the last request of each call; or why there is none."""
+        """The row of these calls, and the requests of each call; or why there is none."""
         given = "\n".join([subject, *listed, "", ""])
         ended = repository.run([PROGRAM, TEST], given.encode(), env=self.environment(refused))
         if ended.status != 0:
             return f"status {ended.status}", []
         made = rows_of(ended.out.removesuffix(PASSED).decode(errors="replace"))
-        counts = [tuple(map(int, line.split())) for line in repository.lines_of(self.counts)]
+        counts = [Requests(*map(int, line.split())) for line in repository.lines_of(self.counts)]
         os.remove(self.counts)
         if len(made) != 1 or made[0].calls != listed or len(counts) != len(listed):
             return "printed another row", []
@@ -65,47 +86,58 @@ def after(row, number):
         fields = ["get_fields", *fields_of(row, number)]
         shown = [json.dumps(made, ensure_ascii=False) for made in [fields, *ON_FAILED]]
         return shown, ["true", *[FAILED] * len(ON_FAILED)]
+    state = call_rows.STATES.get(call, state)
     return ([state], None) if state else ([], [])
 
 
-def half_added(program, row, number):
-    """The state after the first of the two tokens of `add_tokens`."""
-    _, reference, token, _, frequency = json.loads(row.calls[number])
-    first = json.dumps(["add_token", reference, token, frequency], ensure_ascii=False)
-    found, _ = program.run(row.subject, [*row.calls[:number], first, '["to_value"]'])
-    return found if isinstance(found, str) else found.answers[-1]
+def partly_added(program, row, number):
+    """The states after the first token of `add_tokens`, after the first two, and so on, without the last."""
+    _, reference, *tokens, frequency = json.loads(row.calls[number])
+    added = [json.dumps(["add_token", reference, token, frequency], ensure_ascii=False) for token in tokens]
+    for count in range(1, len(tokens)):
+        found, _ = program.run(row.subject, [*row.calls[:number], *added[:count], '["to_value"]'])
+        yield found if isinstance(found, str) else found.answers[-1]
 
 
-def refuse(program, row, number, wanted):
-    """Refuses each request of a call of a row in turn: why the call fails, or None, and how often it was out of memory. Then it
-    must answer what is wanted."""
+class Refused(NamedTuple):
+    """What came of a call whose requests were refused in turn."""
+
+    wrong: str = ""  # why it fails
+    ended: int = 0  # how often it was out of memory
+    went_on: int = 0  # how often it went on without the request
+
+
+def refuse(program, row, number, wanted, may_go_on):
+    """Refuses each request of a call of a row in turn. Out of memory, it must answer what is wanted."""
     shown, answers = after(row, number)
     before = shown if answers is None else []
     listed = [*row.calls[:number], *before, row.calls[number], *shown]
     at = number + len(before)
     whole, counts = program.run(row.subject, listed)
     if isinstance(whole, str):
-        return whole, 0
+        return Refused(whole)
     if whole.answers[at] != row.answers[number]:
-        return f"answered {whole.answers[at]}", 0
+        return Refused(f"answered {whole.answers[at]}")
     expected = [*whole.answers[:at], wanted, *(whole.answers[number:at] if answers is None else answers)]
     accepted = [expected]
     if name_of(row.calls[number]) == "add_tokens":
-        accepted.append([*expected[:-1], half_added(program, row, number)])
-    first, last = counts[at]
-    out_of_memory = 0
-    for request in range(first + 1, last + 1):
-        found, _ = program.run(row.subject, listed, request)
+        accepted += [[*expected[:-1], state] for state in partly_added(program, row, number)]
+    ended = went_on = 0
+    for request in range(1, counts[at].count() + 1):
+        found, _ = program.run(row.subject, listed, counts[at].before + request)
         if isinstance(found, str):
-            return f"request {request - first}: {found}", 0
-        out_of_memory += found.answers in accepted
-        if found.answers not in (*accepted, whole.answers):
+            return Refused(f"request {request}: {found}")
+        if found.answers in accepted:
+            ended += 1
+        elif may_go_on and found.answers == whole.answers:
+            went_on += 1
+        else:
             wrong = next(place for place, pair in enumerate(zip(found.answers, expected)) if pair[0] != pair[1])
-            return f"request {request - first}: {found.calls[wrong]} -> {found.answers[wrong][:200]}", 0
-    return None, out_of_memory
+            return Refused(f"request {request}: {found.calls[wrong]} -> {found.answers[wrong][:200]}")
+    return Refused("", ended, went_on)
 
 
-def check(program, row, refused, done):
+def check(program, row, ended, went_on, done):
     """Each wrong call of a row, and why. `done` has the calls, with those before them, that were refused already."""
     found, counts = program.run(row.subject, row.calls)
     if isinstance(found, str):
@@ -118,37 +150,86 @@ def check(program, row, refused, done):
         if name_of(call) in call_rows.PREPARING:
             continue
         name, wanted = promise(row, number)
-        own = counts[number][1] - counts[number][0]
-        refused.setdefault(name, 0 if wanted else None)
+        own = counts[number].count()
+        ended.setdefault(name, 0 if wanted else None)
         if wanted is None and own:
             wrong.append(f"{call} requested memory {own} times, and promises not to allocate")
         elif wanted and own and (row.kind(), *row.calls[: number + 1]) not in done:
             done.add((row.kind(), *row.calls[: number + 1]))
-            why, count = refuse(program, row, number, wanted)
-            refused[name] += count
-            if why:
-                wrong.append(f"{call}: {why}")
+            may_go_on = call_rows.goes_on(row, number)
+            refused = refuse(program, row, number, wanted, may_go_on)
+            ended[name] += refused.ended
+            if may_go_on:
+                went_on[may_go_on] += refused.went_on
+            if refused.wrong:
+                wrong.append(f"{call}: {refused.wrong}")
     return wrong
 
 
-def main():
+def check_rows(program, words, results):
     rows = table()
-    refused, done = {}, set()
-    results = Results("calls")
+    ended, went_on, done = {}, dict.fromkeys(call_rows.GOES_ON, 0), set()
     calls = sum(len(row.calls) for row in rows)
     if (len(rows), calls) != (call_rows.ROWS, call_rows.CALLS):
         results.note(False, f"calls: the table has {len(rows)} rows with {calls} calls")
-    with Program() as program:
-        for row in rows:
-            wrong = check(program, row, refused, done)
-            results.note(not wrong, f"calls: {row.subject}: {'; '.join(wrong)}")
-    for name in (name for name, count in refused.items() if count == 0):
-        results.note(False, f"calls: {name}: it was never out of memory")
+    for row in (row for row in rows if is_asked(row.subject, words)):
+        wrong = check(program, row, ended, went_on, done)
+        results.note(not wrong, f"calls: {row.subject}: {'; '.join(wrong)}")
+    if not words:
+        for name in (name for name, count in ended.items() if count == 0):
+            results.note(False, f"calls: {name}: it was never out of memory")
+        for name in (name for name, count in went_on.items() if count == 0):
+            results.note(False, f"calls: {name}: it never went on without a request that was refused")
     if "-v" in sys.argv:
-        for name, count in sorted(refused.items()):
+        for name, count in sorted(ended.items()):
             print(f"calls: {name}: {'does not allocate' if count is None else f'{count} times out of memory'}")
-    none = sum(count is None for count in refused.values())
-    print(f"calls: {sum(filter(None, refused.values()))} answers of being out of memory; {none} kinds of calls do not allocate")
+        for name, count in sorted(went_on.items()):
+            print(f"calls: {name}: went on {count} times")
+    none = sum(count is None for count in ended.values())
+    print(f"calls: {sum(filter(None, ended.values()))} answers of being out of memory; {none} kinds of calls do not allocate; "
+          f"{sum(went_on.values())} went on")
+
+
+def given_again(program, times):
+    """The calls that give known tokens so often, and the requests of each; or why there are none. Each token comes in two
+    calls: in the first it is known, and in the second it may be remembered."""
+    tokens = [f"t{number}" for number in range(KNOWN)]
+    known = [json.dumps(["add_token", "1", token, 1]) for token in tokens]
+    again = 2 * [json.dumps(["add_tokens", "1", *[token] * times, 1]) for token in tokens]
+    found, counts = program.run(f"InvertedIndex: known tokens, {times} in a call", [*known, *again])
+    if isinstance(found, str):
+        return found, []
+    wrong = next((call for call, answer in zip(found.calls, found.answers) if answer != "done"), None)
+    return (f"{wrong} isn't done", []) if wrong else (again, counts[len(known):])
+
+
+def why_more_slots(program):
+    """Why a known token that is given eight times in each call has more slots than one that is given once, or None."""
+    calls, once = given_again(program, 1)
+    eight_calls, eight = given_again(program, 8)
+    if not (once and eight):
+        return eight_calls if once else calls
+    tables = sum(requests.bytes >= FIRST_TABLE for requests in once)
+    if tables < 2:
+        return f"{tables} tables of slots were requested for {KNOWN} tokens, and 2 are the least"
+    for call, less, more in zip(eight_calls, once, eight):
+        if more.bytes > less.bytes:
+            return f"{call} requested {more.bytes} bytes, and {less.bytes} where the token is given once"
+    return None
+
+
+def is_asked(name, words):
+    return not words or any(word in name for word in words)
+
+
+def main():
+    words = [word for word in sys.argv[1:] if word != "-v"]
+    results = Results("calls")
+    with Program() as program:
+        if is_asked("slots", words):
+            wrong = why_more_slots(program)
+            results.note(wrong is None, f"calls: slots: {wrong}")
+        check_rows(program, words, results)
     return results.report()
 
 

@@ -4,16 +4,18 @@ use crate::call::Call;
 use crate::subject::Subject;
 use elasticlunr::IndexError;
 use elasticlunr::lang::common::{RegexTrimmer, StopWordFilter};
-use elasticlunr::lang::{ar, en};
+use elasticlunr::lang::{ar, en, run_on_words};
 use elasticlunr::pipeline::{Pipeline, PipelineFn, Stage};
-use std::alloc::Global;
+use std::alloc::{AllocError, Global};
 use unicode::properties::Script;
 
-/// A pipeline, whose last stage is called, and the scripts of the next trimmer.
+/// A pipeline, whose last stage is called, the scripts of the next trimmer, and the list to which
+/// the pipeline adds single tokens.
 #[derive(Drop)]
 pub struct Stages {
     pub pipeline: Pipeline,
     scripts: Vec<Script>,
+    kept: Vec<String>,
 }
 
 impl Stages {
@@ -21,6 +23,7 @@ impl Stages {
         Stages {
             pipeline,
             scripts: Vec::new(alloc),
+            kept: Vec::new(alloc),
         }
     }
 
@@ -84,7 +87,17 @@ impl Stages {
                 self.push_trimmer(made)
             }
             "clone" => self.copy_last(call.alloc),
+            "run_on" => self.run_on(call.alloc, tokens),
+            "kept" => Answer::texts(copies_of(call.alloc, &self.kept)),
             _ => called(&self.pipeline, call, tokens),
+        }
+    }
+
+    fn run_on(&mut self, alloc: Global, tokens: Vec<String>) -> Answer {
+        let token = last_of(alloc, tokens);
+        match self.pipeline.run_on(alloc, token, &mut self.kept) {
+            Ok(()) => Answer::Done,
+            Err(AllocError) => Answer::NoMemory,
         }
     }
 
@@ -121,11 +134,20 @@ fn last_of(alloc: Global, tokens: Vec<String>) -> String {
     }
 }
 
+fn copies_of(alloc: Global, texts: &[String]) -> Result<Vec<String>, AllocError> {
+    let mut copies = Vec::with_capacity(alloc, texts.len())?;
+    for text in texts {
+        copies.push(text.clone()?)?;
+    }
+    Ok(copies)
+}
+
 /// A call of the pipeline.
 fn called(pipeline: &Pipeline, call: &Call<'_>, tokens: Vec<String>) -> Answer {
     match call.name {
         "names" => Answer::texts(pipeline.names(call.alloc)),
         "run" => Answer::texts(pipeline.run(call.alloc, tokens)),
+        "run_on_words" => Answer::texts(run_on_words(call.alloc, call.text(0), pipeline)),
         _ => match pipeline.queue.last() {
             Some(stage) => of_stage(stage, call, last_of(call.alloc, tokens)),
             None => Answer::NoSuchCall,

@@ -2,10 +2,10 @@
 use crate::answer::Answer;
 use crate::call::Call;
 use crate::subject::Subject;
-use elasticlunr::IndexError;
 use elasticlunr::document_store::DocumentStore;
+use elasticlunr::{CompactText, IndexError};
 use serde_json::Value;
-use std::alloc::Global;
+use std::alloc::{AllocError, Global};
 use std::collections::BTreeMap;
 use std::mem;
 
@@ -114,8 +114,15 @@ fn looked_up(store: &DocumentStore, call: &Call<'_>) -> Answer {
         "has_doc" => Answer::Flag(store.has_doc(call.text(0))),
         "get_doc" => Answer::document(store.get_doc(call.text(0))),
         "to_value" => Answer::value(store.to_value()),
+        "write" => Answer::text(written(store, call.alloc)),
         _ => counted(store, call),
     }
+}
+
+fn written(store: &DocumentStore, alloc: Global) -> Result<String, AllocError> {
+    let mut out = CompactText::new(alloc)?;
+    store.write(&mut out)?;
+    Ok(out.into_string())
 }
 
 fn counted(store: &DocumentStore, call: &Call<'_>) -> Answer {

@@ -2,10 +2,11 @@
 use crate::answer::Answer;
 use crate::call::Call;
 use crate::subject::Subject;
-use elasticlunr::IndexError;
-use elasticlunr::inverted_index::InvertedIndex;
+use elasticlunr::inverted_index::{InvertedIndex, copied};
+use elasticlunr::{CompactText, IndexError};
 use serde_json::Value;
 use std::alloc::{AllocError, Global};
+use std::collections::BTreeSet;
 use std::mem;
 
 /// The trie that is called, and another, which may be put in its place.
@@ -68,10 +69,7 @@ impl Subject for Tries {
 fn changed(trie: &mut InvertedIndex, call: &Call<'_>) -> Answer {
     match call.name {
         "add_token" => Answer::done(trie.add_token(call.text(0), call.text(1), call.number())),
-        "add_tokens" => {
-            let tokens = [(call.text(1), call.number()), (call.text(2), call.number())];
-            Answer::done(trie.add_tokens(call.text(0), &tokens))
-        }
+        "add_tokens" => { Answer::done(trie.add_tokens(call.text(0), &eight_tokens(call))) }
         "remove_token" => {
             trie.remove_token(call.text(0), call.text(1));
             Answer::Done
@@ -82,6 +80,22 @@ fn changed(trie: &mut InvertedIndex, call: &Call<'_>) -> Answer {
         }
         _ => looked_up(trie, call),
     }
+}
+
+/// The texts after the first, up to eight of them, each with the number of the call. One that is
+/// missing is empty.
+fn eight_tokens<'a>(call: &Call<'a>) -> [(&'a str, u64); 8] {
+    let number = call.number();
+    [
+        (call.text(1), number),
+        (call.text(2), number),
+        (call.text(3), number),
+        (call.text(4), number),
+        (call.text(5), number),
+        (call.text(6), number),
+        (call.text(7), number),
+        (call.text(8), number),
+    ]
 }
 
 /// Postings as an array of arrays, which shows their order.
@@ -109,7 +123,42 @@ pub fn looked_up(trie: &InvertedIndex, call: &Call<'_>) -> Answer {
         "get_term_frequency" => {
             Answer::Number(trie.get_term_frequency(call.text(0), call.text(1)))
         }
+        _ => told(trie, call),
+    }
+}
+
+/// A call that makes a text of the whole trie, or whose answer is made of a set.
+fn told(trie: &InvertedIndex, call: &Call<'_>) -> Answer {
+    match call.name {
         "to_value" => Answer::value(trie.to_value()),
+        "write" => Answer::text(written(trie, call.alloc)),
+        "put_references" => Answer::listed(put_references(trie, call)),
+        "copied" => Answer::texts(copied_once(call)),
         _ => Answer::NoSuchCall,
     }
+}
+
+fn written(trie: &InvertedIndex, alloc: Global) -> Result<String, AllocError> {
+    let mut out = CompactText::new(alloc)?;
+    trie.write(&mut out)?;
+    Ok(out.into_string())
+}
+
+/// The references of all tokens of a call, each once.
+fn put_references(trie: &InvertedIndex, call: &Call<'_>) -> Result<Vec<String>, IndexError> {
+    let mut found = BTreeSet::new(call.alloc);
+    for token in &call.texts {
+        trie.put_references(token, &mut found)?;
+    }
+    let references = copied(call.alloc, &found)?;
+    Ok(references)
+}
+
+/// The texts of a call, each once.
+fn copied_once(call: &Call<'_>) -> Result<Vec<String>, AllocError> {
+    let mut texts = BTreeSet::new(call.alloc);
+    for text in &call.texts {
+        texts.insert(*text)?;
+    }
+    copied(call.alloc, &texts)
 }

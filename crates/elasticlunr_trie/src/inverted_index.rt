@@ -117,10 +117,10 @@ impl InvertedIndex {
     ///
     /// Where memory is refused, the table stays as it was. What changes then is shown by no call:
     /// the reference may have a number, or a node in its list, without a posting, and the tokens
-    /// that `add_tokens` remembered are forgotten. The token is walked, and not remembered. The work
-    /// is in proportion to the token; the reference is looked up among all names unless it is the
-    /// one that was entered last, and by binary search among the postings of the token unless it is
-    /// newer than all of them.
+    /// that `add_tokens` remembered are forgotten. The token is walked, and not remembered. The
+    /// work is in proportion to the token; the reference is looked up among all names unless it is
+    /// the one that was entered last, and by binary search among the postings of the token unless
+    /// it is newer than all of them.
     pub fn add_token(
         &mut self,
         doc_ref: &str,
@@ -158,10 +158,10 @@ impl InvertedIndex {
     /// time than a call for each; and the reference gets room for all of them at once. Those that
     /// are known are remembered; where memory for that is refused, the call goes on without it.
     ///
-    /// Where memory is refused otherwise, the postings of some tokens may be set, from the first on,
-    /// and no others have changed. What else changes then is shown by no call: the reference may
-    /// have a number, or a node in its list, without a posting, and the tokens that were remembered
-    /// may be forgotten, so that they are walked again.
+    /// Where memory is refused otherwise, the postings of some tokens may be set, from the first
+    /// on, and no others have changed. What else changes then is shown by no call: the reference
+    /// may have a number, or a node in its list, without a posting, and the tokens that were
+    /// remembered may be forgotten, so that they are walked again.
     pub fn add_tokens(&mut self, doc_ref: &str, tokens: &[(&str, u64)]) -> Result<(), IndexError>
         ensures ok { OnOk result (AreChanged (additions doc_ref.now (told_tokens tokens.now))
             self.old self.new) }

@@ -102,7 +102,7 @@ def falling_references(count):
 
 
 def own_letters(count, known):
-    """Tokens of one reference each, which has more of these references the later it stands, and a token that all have."""
+    """Tokens of one reference each, whose references fall, and a token of all of them."""
     references = [reference(number) for number in range(count)]
     below = [node(letter, posted([it])) for letter, it in zip(letters(count), reversed(references))]
     members = [node("A", ",".join([EMPTY, *below])), EMPTY, node("k", posted(references))]
@@ -242,8 +242,7 @@ def check_deep_jobs(results):
             results.note(found == lines(references), f"order, deep job {number}, {field!r}: {found} instead of {references}")
 
 
-def main():
-    results = Results("orders")
+def check_all(results):
     with tempfile.TemporaryDirectory() as folder:
         for case in ORDERS:
             if is_asked(case[0]):
@@ -253,6 +252,14 @@ def main():
             check_bound(length, results)
     if is_asked("deep jobs"):
         check_deep_jobs(results)
+
+
+def main():
+    results = Results("orders")
+    try:
+        check_all(results)
+    except ValueError as error:
+        results.note(False, f"order: {error}")
     return results.report()
 
 

@@ -121,8 +121,8 @@ impl<'a> Walk<'a> {
         }
     }
 
-    /// A member of the node: its postings, their number, or a child, which is entered. Its key comes
-    /// after those before it, so no node is visited twice.
+    /// A member of the node: its postings, their number, or a child, which is entered. Its key
+    /// comes after those before it, so no node is visited twice.
     fn read_member(&mut self, reader: &mut Reader<'_>, key: &str) -> Result<(), SearchError>
         ensures { OnOk result (length reader.new < length reader.old) }
     {

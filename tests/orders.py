@@ -25,8 +25,8 @@ from tools.repository import printed, program, run, write
 
 PROGRAM = program("elasticlunr_find")
 TIMES = 2.6
-RUNS, MOST_RUNS = 3, 5
-LEAST = 0.2  # seconds of the longer text, below which a time says nothing
+RUNS, MOST_RUNS = 3, 9
+LEAST = 0.05  # seconds of the longer text, below which a time says nothing
 LONGEST = 15  # seconds, after which no other run is made
 STEPS_PER_BYTE, MORE_STEPS = 64, 1 << 20  # how many steps through tries a text may cost
 DEEP = "k" * 130 + "7"  # a token that is deeper than 127 levels, and its own stem

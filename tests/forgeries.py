@@ -195,12 +195,12 @@ def forged_searches():
 
 def forged_orders():
     """Programs that search long texts wrongly or too long."""
-    keys, levels = ("keys that fall",), ("levels and children",)
+    keys, unknown = ("keys that fall",), ("docInfo hasn't",)
     bound, deep = ("the bound of steps",), ("deep jobs",)
     for name, arguments, said in [
         ("finds nothing", keys, "keys that fall: .*: status 0, or another answer: ''"),
         ("crashes", keys, "keys that fall: .*: status -9, or another answer: ''"),
-        ("takes time by the square", levels, r"levels and children: .*: 2\.6 times are the most"),
+        ("takes time by the square", unknown, r"references that docInfo hasn't: .*: 2\.6 times are the most"),
         ("finds one reference less", bound, r"the bound of steps: \d+ documents share 10000 letters: another answer"),
         ("may take more steps", bound, r"the bound of steps: \d+ documents share 30000 letters: another answer"),
         ("finds one reference less", deep, r"deep job \d+, .* instead of "),

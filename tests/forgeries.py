@@ -93,7 +93,7 @@ CHANGES = {  # whose program is run, what is changed of its run, and how
     "takes time by the square": (
         FIND,
         CHANGES_ANSWER,
-        "until = os.times().user + (os.fstat(0).st_size / 4e6) ** 2\nwhile os.times().user < until: pass",
+        "until = os.times().user + (os.fstat(0).st_size / 6e6) ** 2\nwhile os.times().user < until: pass",
     ),
     "may take more steps": (FIND, CHANGES_INPUT, 'given = given.replace(b\'"fields"\', b" " * 200_000 + b\'"fields"\', 1)'),
     "reads no index at any depth": (FIND, CHANGES_INPUT, 'given = given.replace(b"{", b\'{"x":0,\', 1)'),

@@ -240,6 +240,8 @@ def check_deep_jobs(results):
         for field, references in having.items():
             found = answer(Search(DEEP, index, ()), field)
             results.note(found == lines(references), f"order, deep job {number}, {field!r}: {found} instead of {references}")
+            if results.failed:
+                return
 
 
 def check_all(results):

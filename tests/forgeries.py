@@ -112,7 +112,7 @@ CHANGES = {  # whose program is run, what is changed of its run, and how
     "takes time by the square": (
         FIND,
         CHANGES_ANSWER,
-        "until = os.times().user + (os.fstat(0).st_size / 4e6) ** 2\nwhile os.times().user < until: pass",
+        "until = os.times().user + (os.fstat(0).st_size / 6e6) ** 2\nwhile os.times().user < until: pass",
     ),
     "may take more steps": (FIND, CHANGES_INPUT, 'given = given.replace(b\'"fields"\', b" " * 200_000 + b\'"fields"\', 1)'),
     "reads no index at any depth": (FIND, CHANGES_INPUT, 'given = given.replace(b"{", b\'{"x":0,\', 1)'),
@@ -220,12 +220,12 @@ def forged_searches():
 
 def forged_orders():
     """Programs that search long texts wrongly or too long."""
-    keys, levels = ("keys that fall",), ("levels and children",)
+    keys, unknown = ("keys that fall",), ("docInfo hasn't",)
     bound, deep = ("the bound of steps",), ("deep jobs",)
     for name, arguments, said in [
         ("finds nothing", keys, "keys that fall: .*: status 0, or another answer: ''"),
         ("crashes", keys, "keys that fall: .*: status -9, or another answer: ''"),
-        ("takes time by the square", levels, r"levels and children: .*: 2\.6 times are the most"),
+        ("takes time by the square", unknown, r"references that docInfo hasn't: .*: 2\.6 times are the most"),
         ("finds one reference less", bound, r"the bound of steps: \d+ documents share 10000 letters: another answer"),
         ("may take more steps", bound, r"the bound of steps: \d+ documents share 30000 letters: another answer"),
         ("finds one reference less", deep, r"deep job \d+, .* instead of "),

@@ -144,16 +144,16 @@ def own_numbers(count):
 
 
 ORDERS = [  # a name, a size, and what makes the text of a size
-    ("keys that fall", 480_000, falling_keys),
+    ("keys that fall", 300_000, falling_keys),
     ("children that fall", 60_000, falling_children),
-    ("a key that comes again", 100_000, a_key_again),
-    ("references that fall", 50_000, falling_references),
-    ("references that docInfo has", 30_000, known_references),
-    ("references that docInfo hasn't", 30_000, unknown_references),
-    ("levels and children", 40_000, levels_and_children),
-    ("tries that come again", 60_000, tries_again),
-    ("tries of other names", 60_000, other_tries),
-    ("numbers of their own", 5_000, own_numbers),
+    ("a key that comes again", 50_000, a_key_again),
+    ("references that fall", 30_000, falling_references),
+    ("references that docInfo has", 40_000, known_references),
+    ("references that docInfo hasn't", 40_000, unknown_references),
+    ("levels and children", 8_000, levels_and_children),
+    ("tries that come again", 50_000, tries_again),
+    ("tries of other names", 50_000, other_tries),
+    ("numbers of their own", 10_000, own_numbers),
 ]
 
 
@@ -164,14 +164,14 @@ class Text:
         self.search = search
         self.given = write(os.path.join(folder, name), json.dumps(["body", search.query, "any"]) + "\n" + search.index)
         self.printed = os.path.join(folder, "found")
-        self.seconds = self.megabytes = None
+        self.seconds, self.megabytes = LONGEST, 0
 
     def run(self):
         """Runs the program once, and says what is wrong with its answer."""
         ended = measured([PROGRAM], self.given, self.printed)
         with open(self.printed, encoding="utf-8", errors="replace") as file:
             out = file.read()
-        self.seconds = min(self.seconds or ended.processor, ended.processor)
+        self.seconds = min(self.seconds, ended.processor)
         self.megabytes = ended.megabytes
         return "" if (ended.status, out) == self.search.answer else f"status {ended.status}, or another answer: {out[:60]!r}"
 
@@ -183,7 +183,7 @@ def check_order(case, folder, results):
     for number in range(MOST_RUNS):
         wrong = short.run() or long.run()
         times = long.seconds / max(short.seconds, 0.001)
-        if wrong or long.seconds > LONGEST or number >= RUNS - 1 and times <= TIMES:
+        if wrong or long.seconds >= LONGEST or number >= RUNS - 1 and times <= TIMES:
             break
     sizes = f"{len(short.search.index) / 1e6:.1f} and {len(long.search.index) / 1e6:.1f} million characters"
     figures = f"{short.seconds:.2f} and {long.seconds:.2f} s, {times:.1f} times, {long.megabytes} MB at most"
@@ -240,6 +240,8 @@ def check_deep_jobs(results):
         for field, references in having.items():
             found = answer(Search(DEEP, index, ()), field)
             results.note(found == lines(references), f"order, deep job {number}, {field!r}: {found} instead of {references}")
+            if results.failed:
+                return
 
 
 def check_all(results):

@@ -7,9 +7,11 @@ pub struct Digest {
 }
 
 impl Digest {
-    /// Of no text.
+    /// Of no text. It is not 0, so that an empty text changes it, too.
     pub fn new() -> Digest {
-        Digest { value: 0 }
+        Digest {
+            value: 0x9E37_79B9_7F4A_7C15,
+        }
     }
 
     /// Takes a number.

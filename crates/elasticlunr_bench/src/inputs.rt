@@ -11,6 +11,7 @@ use elasticlunr_input::index::index_from;
 use elasticlunr_input::notes::Notes;
 use elasticlunr_input::settings::Settings;
 use elasticlunr_job::answer::answer;
+use elasticlunr_job::outcome::Outcome;
 use std::alloc::{AllocError, Global};
 
 /// So many pages in each input.
@@ -19,7 +20,8 @@ pub fn run(alloc: Global, size: u32, seed: u32) -> Result<u64, Failure> {
     let mut random = Random::new(seed, 3);
     let vocabulary = Vocabulary::new(alloc, &mut random, letters_of(AnyLanguage::English))?;
     let job = job(alloc, &mut random, &vocabulary, size)?;
-    let (_, text) = answer(alloc, job.into_bytes())?;
+    let (outcome, text) = answer(alloc, job.into_bytes())?;
+    digest.number(u64::from(outcome == Outcome::Printed));
     digest.text(text.as_str());
     drop(text);
     let lines = lines(alloc, &mut random, &vocabulary, size)?;
@@ -98,7 +100,9 @@ fn take_lines(alloc: Global, lines: &str, digest: &mut Digest) -> Result<(), Fai
         return Err(Failure {});
     };
     digest.text(text.as_str());
+    digest.number(notes.documents as u64);
     digest.number(notes.token_count() as u64);
+    digest.number(notes.warnings.len() as u64);
     for warning in &notes.warnings {
         digest.text(warning.as_str());
     }

@@ -1,5 +1,6 @@
 //! An index that is printed, read again and searched: by words that are frequent and by rare ones,
-//! in one field and in all, by any word and by each.
+//! in one field and in all, by any word and by each. No query comes twice, each has a token, and the
+//! texts of a document are read once.
 
 use crate::digest::Digest;
 use crate::failure::Failure;
@@ -8,9 +9,11 @@ use crate::pages::{PLAIN, Page, push_words};
 use crate::random::Random;
 use crate::vocabulary::Vocabulary;
 use elasticlunr::Index;
-use elasticlunr::lang::{AnyLanguage, English};
+use elasticlunr::lang::{AnyLanguage, English, Language};
+use elasticlunr::pipeline::Pipeline;
 use elasticlunr_search::{Join, Searcher};
-use std::alloc::Global;
+use std::alloc::{AllocError, Global};
+use std::collections::BTreeSet;
 
 /// So many pages, and twice as many queries.
 pub fn run(alloc: Global, size: u32, seed: u32) -> Result<u64, Failure> {
@@ -19,19 +22,48 @@ pub fn run(alloc: Global, size: u32, seed: u32) -> Result<u64, Failure> {
     let vocabulary = Vocabulary::new(alloc, &mut random, letters_of(AnyLanguage::English))?;
     let text = printed(alloc, &mut random, &vocabulary, size)?;
     let searcher = Searcher::read(alloc, English::new(), text.as_str())?;
-    for _ in 0..size.saturating_mul(2) {
-        let mut query = String::new(alloc);
-        let count = random.from(1, 3);
-        push_words(&mut query, &mut random, &vocabulary, count)?;
+    let mut shown = BTreeSet::new(alloc);
+    for query in &queries(alloc, &mut random, &vocabulary, size.saturating_mul(2))? {
         let any = searcher.find_in(Join::Any, &["title", "body"], query.as_str())?;
         take(&mut digest, &any);
         let all = searcher.find(Join::All, "body", query.as_str())?;
         take(&mut digest, &all);
-        if let Some(first) = all.first() {
+        if let Some(first) = all.first()
+            && shown.insert(first.clone()?)?
+        {
             take_texts(&searcher, first.as_str(), &mut digest)?;
         }
     }
     Ok(digest.value)
+}
+
+/// So many queries of one word to three, each another one, and each with a token.
+fn queries(
+    alloc: Global,
+    random: &mut Random,
+    vocabulary: &Vocabulary,
+    count: u32,
+) -> Result<Vec<String>, AllocError> {
+    let english = English::new();
+    let empty = Pipeline {
+        queue: Vec::new(alloc),
+    };
+    let pipeline = english.make_pipeline(alloc, empty)?;
+    let mut drawn = BTreeSet::new(alloc);
+    let mut queries = Vec::new(alloc);
+    for _ in 0..count.saturating_mul(16) {
+        let mut query = String::new(alloc);
+        let words = random.from(1, 3);
+        push_words(&mut query, random, vocabulary, words)?;
+        let tokens = pipeline.run(alloc, english.tokenize(alloc, query.as_str())?)?;
+        if !tokens.is_empty() && drawn.insert(query.clone()?)? {
+            queries.push(query)?;
+        }
+        if queries.len() >= count as usize {
+            break;
+        }
+    }
+    Ok(queries)
 }
 
 /// The text of an index of so many pages.
@@ -53,8 +85,9 @@ fn printed(
     Ok(index.to_json()?)
 }
 
-/// Takes references.
+/// Takes references, and how many there are.
 fn take(digest: &mut Digest, found: &[String]) {
+    digest.number(found.len() as u64);
     for reference in found {
         digest.text(reference.as_str());
     }
@@ -67,6 +100,7 @@ fn take_texts(
     digest: &mut Digest,
 ) -> Result<(), Failure> {
     if let Some(texts) = searcher.texts(reference)? {
+        digest.number(texts.len() as u64);
         for (field, text) in texts.iter() {
             digest.text(field.as_str());
             digest.text(text.as_str());

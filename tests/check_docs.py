@@ -17,7 +17,8 @@ its name.
 - A block of JSON is a job, which the built program must answer as the definitions say (model.py), or documents, which
   `elasticlunr check` must accept. In README.md it is a job.
 - A page has each kind of block that it needs (NEEDED).
-- A link leads to a file, and to a heading of it. In README.md and docs/PROVED.md each name of code is in a crate.
+- A link leads to a file, and to a heading of it. In README.md and docs/PROVED.md each name of code is in a crate. There and in
+  each CALLING.md, a clause that the page names is one of that call, and a law is there (clauses.py).
 - Where a page names the logic of the kit, it is that of the kit here (`rt version`).
 """
 import functools
@@ -29,7 +30,7 @@ import sys
 
 sys.path.insert(0, os.path.join(os.path.dirname(__file__), ".."))
 
-from tests import model
+from tests import clauses, model
 from tests.report import Results
 from tools import crates
 from tools.repository import TOP, lines_of, program, read, run
@@ -262,6 +263,8 @@ def tried(path):
     yield from link_failures(text, os.path.dirname(page))
     if name in CLAIMS:
         yield from name_failures(text)
+    if name in (*CLAIMS, "CALLING.md"):
+        yield from clauses.failures(text)
     for kind, line, block in found:
         if kind == "console":
             for command, lines in commands(block):

@@ -366,6 +366,11 @@ def forged_code():
     yield "one more line of crates.txt", "README.md", readme + "```text\nelasticlunr_find: elasticlunr_search\n```\n", "elasticlunr_find: the page shows "
     yield "another line of crates.txt", "README.md", readme.replace("site: elasticlunr\n", "site: std\n"), "crates.txt has no line"
     yield "a line of another name", "README.md", readme.replace("elasticlunr_site: elasticlunr\n", "my_site: elasticlunr\n"), "crates.txt has no line"
+    proved, calling = read("docs/PROVED.md"), read("crates/elasticlunr/CALLING.md")
+    yield "a clause that no call has", "README.md", readme.replace("clause `text`", "clause `texts`", 1), "clause texts: no call has this clause"
+    yield "a clause of another call", "PROVED.md", proved.replace("`added` of `add_doc`", "`added` of `remove_doc`"), "clause added of remove_doc: it has no such clause"
+    yield "a quoted clause that is gone", "CALLING.md", calling.replace("  ensures too_many:", "  ensures many:", 1), "clause many of Index::add_doc: it has no such clause"
+    yield "a law that is gone", "PROVED.md", proved.replace("law `readers_agree`", "law `readers_differ`", 1), "law readers_differ: no crate has this law"
     yield "another module", "LIBRARY.md", library.replace('from_str(alloc, "xx")', 'from_str(alloc, "yy")', 1), "Rust: no crate has this file"
     yield "another proof", "LIBRARY.md", library.replace("if-is_empty.true", "if-is_empty.false", 1), r"a proof: crates/\S+ is another text"
     yield "another proof of its crate", "LIBRARY.md", library.replace("= ¬ IsFailed", "= IsFailed", 1), r"a proof: crates/\S+ is another text"

@@ -1,0 +1,98 @@
+"""The clauses of each function of the crates, and those that a page names.
+
+A page names clauses in four ways: CALLING.md quotes them below a line `fn CALL(..)`; a sentence or a table has `NAME` or
+several, then `of` and calls, or the functions of a crate so; `clause NAME` alone is one of any call; and a law is named by its
+function.
+"""
+import functools
+import glob
+import os
+import re
+
+from tools.repository import TOP, read
+
+OWNER = re.compile(r"(?:pub )?(?:trait (\w+)|impl(?:<.*?>)? (?:.* for )?(\w+))")
+FUNCTION = re.compile(r"(    )?(?:pub(?:\(\w+\))? )?(?:const |unsafe |final )*fn (\w+)")
+CLAUSE = re.compile(r"\s+(?:ensures|requires)\*? ?(\w*) ?\{")
+BODY = re.compile(r"(?:    )?(?:\{|\{\})$|.*;$")
+QUOTED = re.compile(r"^fn ([\w:]+)\(.*\n((?:  .*\n)*)", re.MULTILINE)
+QUOTE = re.compile(r"  ensures (\w+):")
+NAMES = r"`\w+`(?:(?:, | and )`\w+`)*"
+CALLS = r"`[\w:]+`(?:,? and `[\w:]+`(?! of\b)|, `[\w:]+`(?!(?:(?:, | and )`\w+`)* of\b))*"
+OF = re.compile(rf"({NAMES}) of ({CALLS})")
+ALONE = re.compile(rf"\bclauses? ({NAMES})(?! of\b)")
+LAW = re.compile(rf"\blaws? ({CALLS})")
+WORD = re.compile(r"`([\w:]+)`")
+
+
+class Call:
+    """A function: its crate, the type or trait that it belongs to, its name, its file, and the names of its clauses."""
+
+    def __init__(self, crate, owner, name, path):
+        self.crate, self.owner, self.name, self.path = crate, owner, name, path
+        self.clauses = set()
+
+    def is_law(self):
+        return re.search(r"/laws(/|\.rt$)", self.path)
+
+
+def calls_of(crate, path):
+    owner = call = None
+    for line in read(path).splitlines():
+        found = FUNCTION.match(line)
+        if found:
+            call = Call(crate, owner if found[1] else None, found[2], path)
+            yield call
+        elif OWNER.match(line):
+            named = OWNER.match(line)
+            owner = named[1] or named[2]
+        elif call and CLAUSE.match(line):
+            call.clauses.add(CLAUSE.match(line)[1])
+        if call and not found and BODY.match(line):
+            call = None
+
+
+@functools.cache
+def calls():
+    paths = sorted(glob.glob(os.path.join(TOP, "crates", "*", "src", "**", "*.rt"), recursive=True))
+    return [call for path in paths for call in calls_of(os.path.relpath(path, os.path.join(TOP, "crates")).split(os.sep)[0], path)]
+
+
+def named(path):
+    """The functions that a page may mean by a path, or those of a crate."""
+    *owners, name = path.split("::")
+    of_crate = [call for call in calls() if call.crate == path]
+    return of_crate or [call for call in calls() if call.name == name and (not owners or call.owner in (owners[-1], None))]
+
+
+def missing(clauses, path):
+    """Why no such function has all these clauses, or None."""
+    found = named(path)
+    if not found:
+        return "no crate has this function"
+    if found[0].crate == path:
+        found = [Call(path, None, "", ""), *found]
+        found[0].clauses = {call.name for call in found} | {it for call in found for it in call.clauses}
+    return None if any(clauses <= call.clauses for call in found) else "it has no such clause"
+
+
+def failures(text):
+    """Each clause and each law that a page names: its line, its name, and why it is not there."""
+    for call in QUOTED.finditer(text):
+        line = text.count("\n", 0, call.start()) + 1
+        for clause in QUOTE.findall(call[2]):
+            yield line, f"clause {clause} of {call[1]}", missing({clause}, call[1])
+    for claim in OF.finditer(text):
+        line = text.count("\n", 0, claim.start()) + 1
+        clauses = {it for it in WORD.findall(claim[1]) if it[0].islower()} - {"ensures", "requires"}
+        for call in WORD.findall(claim[2]) if clauses else []:
+            yield line, f"clause {', '.join(sorted(clauses))} of {call}", missing(clauses, call)
+    for claim in ALONE.finditer(text):
+        for clause in WORD.findall(claim[1]):
+            is_there = any(clause in call.clauses for call in calls())
+            yield text.count("\n", 0, claim.start()) + 1, f"clause {clause}", None if is_there else "no call has this clause"
+    for law in LAW.finditer(text):
+        line = text.count("\n", 0, law.start()) + 1
+        for name in WORD.findall(law[1]):
+            is_there = any(call.is_law() for call in named(name))
+            yield line, f"law {name}", None if is_there else "no crate has this law"

@@ -367,7 +367,7 @@ def forged_code():
     yield "another line of crates.txt", "README.md", readme.replace("site: elasticlunr\n", "site: std\n"), "crates.txt has no line"
     yield "a line of another name", "README.md", readme.replace("elasticlunr_site: elasticlunr\n", "my_site: elasticlunr\n"), "crates.txt has no line"
     proved, calling = read("docs/PROVED.md"), read("crates/elasticlunr/CALLING.md")
-    yield "a clause that no call has", "README.md", readme.replace("clause `text`", "clause `texts`", 1), "clause texts: no call has this clause"
+    yield "a clause that no call has", "README.md", readme.replace("clause `text`", "clause `wording`", 1), "clause wording: no call has this clause"
     yield "a clause of another call", "PROVED.md", proved.replace("`added` of `add_doc`", "`added` of `remove_doc`"), "clause added of remove_doc: it has no such clause"
     yield "a quoted clause that is gone", "CALLING.md", calling.replace("  ensures too_many:", "  ensures many:", 1), "clause many of Index::add_doc: it has no such clause"
     yield "a law that is gone", "PROVED.md", proved.replace("law `readers_agree`", "law `readers_differ`", 1), "law readers_differ: no crate has this law"

@@ -9,6 +9,7 @@ pub mod lists;
 pub mod names;
 pub mod nodes;
 pub mod number;
+pub mod number_list;
 pub mod numbered;
 pub mod posting;
 pub mod postings;

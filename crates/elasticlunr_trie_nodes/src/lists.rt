@@ -6,7 +6,7 @@ ghost use Rattle.elasticlunr_trie_nodes.specs.Nodes.{list_at, has, KeepsLists, K
 ghost use Rattle.elasticlunr_trie_nodes.specs.Nodes.{LosesOne, LosesNode};
 
 use crate::nodes::Reference;
-use crate::number::Number;
+use crate::number_list::NumberList;
 use crate::postings::Postings;
 use std::alloc::{AllocError, Global};
 
@@ -21,7 +21,7 @@ fn make_lists(
 {
     'lists: while references.len() <= number {
         references.push(Reference {
-            nodes: Vec::new(alloc),
+            nodes: NumberList::new(alloc),
         })?;
     }
     Ok(())
@@ -51,8 +51,7 @@ fn push_node(references: &mut Vec<Reference>, number: usize, k: usize) -> Result
     ensures others { (n : ℕ) → n ≢ number → list_at references.new.items n
         ≡ list_at references.old.items n }
 {
-    let node = Number::new(k as u64)?;
-    references[number].nodes.push(node)?;
+    references[number].nodes.push(k)?;
     Ok(())
 }
 
@@ -90,14 +89,15 @@ pub fn list_node(
 }
 
 // Where a list has a node.
-fn place_in(list: &[Number], k: usize) -> Option<usize>
-    ensures some { IfSome result (λ i. (i < length list.now) × (slice_index list.now i ≡ k)) }
-    ensures none { IfNone result (IsFalse (has list.now k)) }
+fn place_in(list: &NumberList, k: usize) -> Option<usize>
+    ensures some { IfSome result (λ i. (i < length list.now.items)
+        × (slice_index list.now.items i ≡ k)) }
+    ensures none { IfNone result (IsFalse (has list.now.items k)) }
 {
     let mut i = list.len();
     while i > 0 {
         i -= 1;
-        if list[i].get() == k as u64 {
+        if list.get(i) == k {
             return Some(i);
         }
     }
@@ -105,7 +105,7 @@ fn place_in(list: &[Number], k: usize) -> Option<usize>
 }
 
 // Takes a node out of a list, if it is there.
-fn forget(list: &mut Vec<Number>, k: usize)
+fn forget(list: &mut NumberList, k: usize)
     ensures loses { LosesOne list.old.items list.new.items k }
     ensures keeps { (q : ℕ) → q ≢ k → IsTrue (has list.old.items q)
         → IsTrue (has list.new.items q) }

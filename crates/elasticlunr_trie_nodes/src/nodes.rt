@@ -12,7 +12,7 @@ ghost use Rattle.elasticlunr_trie_nodes.specs.NodeTables.{found_frequencies, Are
 use crate::child::Child;
 use crate::inline_list::InlineList;
 use crate::names::Names;
-use crate::number::Number;
+use crate::number_list::NumberList;
 use crate::postings::Postings;
 use std::mem::size_of;
 
@@ -37,7 +37,7 @@ pub enum Place {
 /// others.
 #[derive(Debug, Drop)]
 pub struct Reference {
-    pub nodes: Vec<Number>,
+    pub nodes: NumberList,
 }
 
 /// The children of a node.

@@ -91,7 +91,7 @@ impl TokenCache {
         ensures { IfSome result (λ k. (step : Step) → AreEnds step self.now
             → walk step Root (chars token.now) ≡ Some (At k)) }
     {
-        if token.is_empty() || token.len() > ROOM {
+        if self.slots.is_empty() || token.is_empty() || token.len() > ROOM {
             return None;
         }
         let hash = hash_of(token.as_bytes());
@@ -131,13 +131,25 @@ impl TokenCache {
     }
 }
 
-// The hash of a token: FNV-1a, folded.
+// The hash of a token. Eight bytes at a time are mixed by a product with an odd number, whose upper
+// half depends on all of them.
 fn hash_of(token: &[u8]) -> u64 {
-    let mut hash: u64 = 0xcbf2_9ce4_8422_2325;
-    for byte in token {
-        hash = (hash ^ u64::from(*byte)).wrapping_mul(0x0000_0100_0000_01b3);
+    let (words, rest) = token.as_chunks::<8>();
+    let mut hash = token.len() as u64;
+    for word in words {
+        hash = mixed(hash, u64::from_le_bytes(*word));
     }
-    hash ^ (hash >> 32)
+    let mut last = 0;
+    for byte in rest {
+        last = (last << 8) | u64::from(*byte);
+    }
+    mixed(hash, last)
+}
+
+// A hash that has taken eight bytes more.
+fn mixed(hash: u64, word: u64) -> u64 {
+    let product = (hash ^ word).wrapping_mul(0x9e37_79b9_7f4a_7c15);
+    product ^ (product >> 32)
 }
 
 // The number of a slot: so many further than that of the hash. The number of slots is a power of 2.

@@ -10,7 +10,7 @@ use elasticlunr_trie_nodes::child::Child;
 use elasticlunr_trie_nodes::lists::unlist;
 use elasticlunr_trie_nodes::names::Names;
 use elasticlunr_trie_nodes::nodes::{Node, Place, Reference, find};
-use elasticlunr_trie_nodes::number::Number;
+use elasticlunr_trie_nodes::number_list::NumberList;
 use std::alloc::Global;
 use std::mem;
 
@@ -23,13 +23,13 @@ fn clear_number(nodes: &mut Vec<Node>, k: usize, number: usize)
 }
 
 // Takes the postings of a reference away, at the nodes that it lists.
-fn remove_number(nodes: &mut Vec<Node>, list: &[Number], number: usize)
+fn remove_number(nodes: &mut Vec<Node>, list: &NumberList, number: usize)
     requires { (k f : ℕ) → get (postings_at nodes.old.items k) number ≡ Some f
-        → IsTrue (has list.now k) }
+        → IsTrue (has list.now.items k) }
     ensures { LosesNumber nodes.old.items nodes.new.items number }
 {
-    for node in list {
-        let at = node.get() as usize;
+    for i in 0..list.len() {
+        let at = list.get(i);
         if at < nodes.len() {
             clear_number(nodes, at, number);
         }
@@ -54,7 +54,7 @@ pub(super) fn remove_postings(
     if number >= references.len() {
         return;
     }
-    let list = mem::replace(&mut references[number].nodes, Vec::new(alloc));
+    let list = mem::replace(&mut references[number].nodes, NumberList::new(alloc));
     remove_number(nodes, &list, number);
 }
 

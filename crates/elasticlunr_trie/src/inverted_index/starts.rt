@@ -108,7 +108,7 @@ pub(super) fn walked_tokens<'a>(
     ensures starts { IfOk result (λ v. All (IsStart (step_of root.now nodes.now)) v.items) }
     ensures told { IfOk result (λ v. map told v.items ≡ told_tokens tokens.now) }
 {
-    let mut missed = Vec::new(alloc);
+    let mut missed = Vec::with_capacity(alloc, tokens.len()).unwrap_or_else(|_| Vec::new(alloc));
     let mut starts = begun(alloc, root, nodes, ends, tokens, &mut missed)?;
     for _ in 0..STEPS {
         step_all(root, nodes, &mut starts);

@@ -4,9 +4,10 @@ ghost use Rattle.json.specs.Token.{key, number, begin_object, end_object};
 ghost use Rattle.json.specs.Tree.{json_tokens};
 ghost use Rattle.serde_json.specs.Data.{Data};
 ghost use Rattle.serde_json.specs.Written.{outline};
-ghost use Rattle.std.specs.FinMap.{empty};
+ghost use Rattle.std.specs.FinMap.{empty, len};
 ghost use Rattle.elasticlunr_trie_nodes.specs.Table.{IsTable};
-ghost use Rattle.elasticlunr_trie_nodes.specs.Names.{Names, AreNumbered, AreThere, under_names};
+ghost use Rattle.elasticlunr_trie_nodes.specs.Names.{Names, AreNames, AreNumbered, AreThere};
+ghost use Rattle.elasticlunr_trie_nodes.specs.Names.{under_names};
 ghost use Rattle.elasticlunr_trie_nodes.specs.Nodes.{AreAllNumbered, postings_at};
 ghost use Rattle.elasticlunr_trie_nodes.specs.Trie.{IsTrie, named, table_of, entries_at};
 ghost use Rattle.elasticlunr_trie.specs.Tree.{IsTrieValue, frequencies};
@@ -228,6 +229,41 @@ fn write_no_postings<W: Tokens>(out: &mut W) -> Result<(), AllocError>
 }
 
 fn write_docs<W: Tokens>(order: Order, postings: &Postings, out: &mut W) -> Result<(), AllocError>
+    requires order { IsOrder order }
+    requires numbered { AreNumbered order.names.now postings.now }
+    ensures { OnOk result (W.Tokens.written out.new ≡ W.Tokens.written out.old
+        ++ postings_tokens (named order.entry.names.now postings.now)) }
+{
+    if postings.len() == 1 {
+        return write_lone(order.names, postings, out);
+    }
+    write_sorted(order, postings, out)
+}
+
+// The same of a node with one posting, which needs no memory to be put in order.
+fn write_lone<W: Tokens>(
+    names: &NameTexts,
+    postings: &Postings,
+    out: &mut W,
+) -> Result<(), AllocError>
+    requires names { AreNames names.now }
+    requires numbered { AreNumbered names.now postings.now }
+    requires lone { len postings.now ≡ 1 }
+    ensures { OnOk result (W.Tokens.written out.new ≡ W.Tokens.written out.old
+        ++ postings_tokens (named names.now postings.now)) }
+{
+    let posting = postings.pairs()[0];
+    out.token(Token::Key("df"))?;
+    out.number(1)?;
+    out.token(Token::Key("docs"))?;
+    out.token(Token::BeginObject)?;
+    write_posting(names.name(posting.number()), posting.frequency(), out)?;
+    out.token(Token::EndObject)?;
+    Ok(())
+}
+
+// The same of a node with any number of postings.
+fn write_sorted<W: Tokens>(order: Order, postings: &Postings, out: &mut W) -> Result<(), AllocError>
     requires order { IsOrder order }
     requires numbered { AreNumbered order.names.now postings.now }
     ensures { OnOk result (W.Tokens.written out.new ≡ W.Tokens.written out.old

@@ -3,8 +3,9 @@ ghost use Rattle.std.specs.Prelude.{◌≡◌, ◌≤◌, ◌↔◌, IsTrue, cha
 ghost use Rattle.elasticlunr_text.specs.Letters.{is_vowel, is_vowel_or_y, is_vowel_or_wxy};
 ghost use Rattle.elasticlunr_text.specs.Blocks.{MAbove0, MAbove1, MIs1, HasVowel, IsShort};
 ghost use Rattle.elasticlunr_text.specs.Reading.{place_after, rank, reading_after, places};
-ghost use Rattle.elasticlunr_text.specs.Reading.{short_after};
+ghost use Rattle.elasticlunr_text.specs.Reading.{is_of_vowels, next_place, short_after};
 ghost use Rattle.elasticlunr_text.specs.declared.lang.en.blocks.Place.{Place};
+ghost use Rattle.elasticlunr_text.specs.declared.lang.en.blocks.Reading.TheVariants.{Start};
 
 /// Whether the letter is one of `aeiou`.
 pub fn is_vowel(c: char) -> bool
@@ -38,16 +39,37 @@ enum Place {
 }
 
 impl Place {
+    /// Whether the block is one of vowels.
+    fn is_of_vowels(self) -> bool
+        ensures { result ≡ is_of_vowels self }
+    {
+        matches!(self, Place::FirstVowels | Place::SecondVowels)
+    }
+
+    /// The block that follows. What follows the last one belongs to it.
+    fn next(self) -> Place
+        ensures { result ≡ next_place self }
+    {
+        match self {
+            Place::Onset => Place::FirstVowels,
+            Place::FirstVowels => Place::FirstConsonants,
+            Place::FirstConsonants => Place::SecondVowels,
+            Place::SecondVowels => Place::SecondConsonants,
+            Place::SecondConsonants => Place::SecondConsonants,
+        }
+    }
+
+    /// The block after one more letter. No branch depends on the letter: a processor guesses where a
+    /// branch goes, and the letters of a word have no pattern to guess by.
     fn after(self, c: char) -> Place
         ensures { result ≡ place_after self c }
     {
-        match self {
-            Place::Onset if is_vowel_or_y(c) => Place::FirstVowels,
-            Place::FirstVowels if !is_vowel(c) => Place::FirstConsonants,
-            Place::FirstConsonants if is_vowel_or_y(c) => Place::SecondVowels,
-            Place::SecondVowels if !is_vowel(c) => Place::SecondConsonants,
-            place => place,
-        }
+        let ends = if self.is_of_vowels() {
+            !is_vowel(c)
+        } else {
+            is_vowel_or_y(c)
+        };
+        if ends { self.next() } else { self }
     }
 
     fn has_vowel(self) -> bool
@@ -83,15 +105,23 @@ enum Reading {
 }
 
 impl Reading {
+    /// The reading of a text with this first letter alone.
+    fn first(c: char) -> Reading
+        ensures { result ≡ reading_after Start c }
+    {
+        if c == 'y' {
+            return Reading::Inside(Place::FirstVowels, Place::Onset);
+        }
+        let place = Place::Onset.after(c);
+        Reading::Inside(place, place)
+    }
+
+    /// One letter further.
     fn after(self, c: char) -> Reading
         ensures { result ≡ reading_after self c }
     {
         match self {
-            Reading::Start if c == 'y' => Reading::Inside(Place::FirstVowels, Place::Onset),
-            Reading::Start => {
-                let place = Place::Onset.after(c);
-                Reading::Inside(place, place)
-            }
+            Reading::Start => Reading::first(c),
             Reading::Inside(vowel, consonant) => {
                 Reading::Inside(vowel.after(c), consonant.after(c))
             }

@@ -8,7 +8,7 @@ use Rattle.elasticlunr_json.specs.Tokens.{tokens_of}
 use Rattle.elasticlunr_trie_nodes.proofs.Named.{pairs_are, pairs_named}
 use Rattle.elasticlunr_trie_nodes.proofs.Ranked.{behind, count_shown}
 use Rattle.elasticlunr_json.proofs.Rows.{four}
-use Rattle.elasticlunr_trie.proofs.inverted_index.write.write_docs.Goals as goal
+use Rattle.elasticlunr_trie.proofs.inverted_index.write.write_sorted.Goals as goal
 
 pub in_order-requires-clause-postings : goal.in_order-requires-clause-postings
 in_order-requires-clause-postings g c = subst (ArePostings c.args.order.names.now) (sym c.pairs.ensures)

@@ -263,7 +263,7 @@ fn not_searched(alloc: Global, refusal: Refusal) -> Result<InputError, AllocErro
         Refusal::UnknownLanguage => refused(alloc, "not an index: it names no language"),
         Refusal::OtherPipeline => refused(
             alloc,
-            "built with another pipeline than its language has here",
+            "it doesn't name the pipeline that its language has here",
         ),
         Refusal::NoFields => refused(alloc, "not an index: it has no list of fields"),
         Refusal::NoTries => refused(alloc, "not an index: a field has no trie"),

@@ -23,6 +23,10 @@ const TAKEN: [&str; 12] = [
     "valueOf",
 ];
 
+/// What is wrong with such a name.
+const OF_EVERY_OBJECT: &str =
+    "every JavaScript object has a property of this name, so elasticlunr.js fails on it";
+
 /// What was seen of documents, and what is suspicious in them.
 #[derive(Drop)]
 pub struct Notes {
@@ -146,8 +150,7 @@ impl Notes {
             self.warnings.push(said)?;
         }
         if TAKEN.contains(&reference) {
-            let why =
-                "every JavaScript object has a property of this name, so elasticlunr.js fails on it";
+            let why = OF_EVERY_OBJECT;
             let said = format!(in self.alloc; "document {number} (\"{reference}\"): {why}")?;
             self.warnings.push(said)?;
         }
@@ -199,12 +202,21 @@ impl Notes {
             return Ok(());
         }
         for (number, field) in fields.iter().enumerate() {
-            if !matches!(self.has_text.get(number), Some(true)) {
-                let said = format!(in self.alloc;
-                    "no document has a text in the field \"{field}\""
-                )?;
-                self.warnings.push(said)?;
-            }
+            self.field(number, field)?;
+        }
+        Ok(())
+    }
+
+    /// Takes a field and its number, after the last document.
+    fn field(&mut self, number: usize, field: &str) -> Result<(), AllocError> {
+        if !matches!(self.has_text.get(number), Some(true)) {
+            let said = format!(in self.alloc; "no document has a text in the field \"{field}\"")?;
+            self.warnings.push(said)?;
+        }
+        if TAKEN.contains(&field) {
+            let why = OF_EVERY_OBJECT;
+            let said = format!(in self.alloc; "the field \"{field}\": {why}")?;
+            self.warnings.push(said)?;
         }
         Ok(())
     }

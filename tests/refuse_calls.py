@@ -42,7 +42,7 @@ PASSED = b"\n\ntest result: ok\n"  # what a test prints at its end
 ON_FAILED = [["add_doc", "1", "fox"], ["add_doc", "1", *["fox"] * 9], ["remove_doc", "1"], ["compact"], ["to_value"],
              ["to_json"], ["to_json_pretty"], ["document_store"], ["inverted_index", "body"]]
 
-KNOWN = 60  # known tokens, more than the first table of slots takes
+KNOWN = 200  # known tokens, more than the first two tables of slots take
 FIRST_TABLE = 64 * 32  # bytes
 
 

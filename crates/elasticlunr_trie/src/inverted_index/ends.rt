@@ -131,8 +131,8 @@ impl TokenCache {
     }
 }
 
-// The hash of a token. Eight bytes at a time are mixed by a product with an odd number, whose upper
-// half depends on all of them.
+// The hash of a token. Eight bytes at a time are mixed by a product with an odd number. Its upper
+// bytes depend on all of them, so in the end they come first: the low bytes name the slot.
 fn hash_of(token: &[u8]) -> u64 {
     let (words, rest) = token.as_chunks::<8>();
     let mut hash = token.len() as u64;
@@ -143,7 +143,7 @@ fn hash_of(token: &[u8]) -> u64 {
     for byte in rest {
         last = (last << 8) | u64::from(*byte);
     }
-    mixed(hash, last)
+    mixed(hash, last).swap_bytes()
 }
 
 // A hash that has taken eight bytes more.

@@ -23,7 +23,7 @@ const TAKEN: [&str; 12] = [
     "valueOf",
 ];
 
-/// What is wrong with such a name.
+/// Why a document or a field should not have such a name.
 const OF_EVERY_OBJECT: &str =
     "every JavaScript object has a property of this name, so elasticlunr.js fails on it";
 

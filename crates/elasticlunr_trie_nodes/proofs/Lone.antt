@@ -1,4 +1,4 @@
--- One posting alone under the name of its number.
+-- A single posting under the name of its number.
 use Rattle.std.proofs.Common.{◌≡◌, ◌<◌, ℕ, refl, [], ◌∷◌, length, get_or, sym, ap, subst, ◌∙◌, arith}
 use Rattle.std.specs.FinMap.{len, entries, len-entries, get-from_entries, get-from_sorted, entries-from_sorted}
 use Rattle.std.proofs.lemmas.Cmp.{nat_list_cmp_total}
@@ -10,7 +10,7 @@ use Rattle.elasticlunr_trie_nodes.specs.Trie.{named}
 use Rattle.elasticlunr_trie_nodes.proofs.Named.{pairs_are, pairs_named}
 use Rattle.elasticlunr_trie_nodes.proofs.Settled.{same_named}
 
--- one pair is in order
+-- the entry of a single pair
 lone_entries : (names : Names) (l : Pairs) → length l ≡ 1 → entries (named_pairs names l)
     ≡ (get_or names (get_or l 0 (0, 0)).0 [], (get_or l 0 (0, 0)).1) ∷ []
 lone_entries names [] count = absurd (omega (arith, count))
@@ -21,13 +21,13 @@ lone_entries names (e ∷ []) count =
     ∙ sym (get-from_sorted text_cmp (under_names names (e ∷ [])) q tt)))
     ∙ entries-from_sorted text_cmp (under_names names (e ∷ [])) tt
 
--- where postings are one alone
+-- postings that have one entry
 module _ (names : Names) (P : Frequencies) (numbered : AreNumbered names P) (lone : len P ≡ 1) (l : Pairs)
     (pairs : l ≡ entries P) where
   count : length l ≡ 1
   count = ap length pairs ∙ sym (len-entries P) ∙ lone
 
-  -- the one that is there
+  -- the first pair, whatever the default is
   pub lone_item : (d : ℕ × ℕ) → get_or l 0 d ≡ get_or l 0 (0, 0)
   lone_item d = by l count
     where
@@ -40,7 +40,7 @@ module _ (names : Names) (P : Frequencies) (numbered : AreNumbered names P) (lon
   lone_there = subst (λ (es : Pairs). (get_or es 0 (0, 0)).0 < length names) (sym pairs)
       ((pairs_are names P numbered).there 0 (omega (arith, lone, len-entries P)))
 
-  -- what is seen of it
+  -- the entries under names
   pub lone_named : AreNames names → entries (named names P)
       ≡ (get_or names (get_or l 0 (0, 0)).0 [], (get_or l 0 (0, 0)).1) ∷ []
   lone_named are = ap entries (pairs_named names P numbered are ∙ ap (named_pairs names) (sym pairs))

@@ -96,7 +96,7 @@ impl NumberList {
         Ok(())
     }
 
-    /// Takes a number away, and puts those after it one nearer.
+    /// Removes the number at a place. Those after it move down by one place.
     pub fn remove(&mut self, at: usize)
         requires { at < length self.old.items }
         ensures { self.new.items ≡ remove self.old.items at }

@@ -131,8 +131,8 @@ impl TokenCache {
     }
 }
 
-// The hash of a token. Eight bytes at a time are mixed by a product with an odd number. Its upper
-// bytes depend on all of them, so in the end they come first: the low bytes name the slot.
+// The hash of a token. It multiplies by an odd number for each eight bytes. The upper bytes of a
+// product depend on all of its bits, so they are swapped with the low ones, which name the slot.
 fn hash_of(token: &[u8]) -> u64 {
     let (words, rest) = token.as_chunks::<8>();
     let mut hash = token.len() as u64;

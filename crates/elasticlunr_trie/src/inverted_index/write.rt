@@ -240,7 +240,7 @@ fn write_docs<W: Tokens>(order: Order, postings: &Postings, out: &mut W) -> Resu
     write_sorted(order, postings, out)
 }
 
-// The same of a node with one posting, which needs no memory to be put in order.
+// Writes `df` and `docs` of a node with one posting. There is nothing to sort, so no list is made.
 fn write_lone<W: Tokens>(
     names: &NameTexts,
     postings: &Postings,
@@ -262,7 +262,7 @@ fn write_lone<W: Tokens>(
     Ok(())
 }
 
-// The same of a node with any number of postings.
+// Writes `df` and `docs` of a node with any number of postings.
 fn write_sorted<W: Tokens>(order: Order, postings: &Postings, out: &mut W) -> Result<(), AllocError>
     requires order { IsOrder order }
     requires numbered { AreNumbered order.names.now postings.now }

@@ -59,8 +59,8 @@ impl Place {
         }
     }
 
-    /// The block after one more letter. No branch depends on the letter: a processor guesses where a
-    /// branch goes, and the letters of a word have no pattern to guess by.
+    /// The block after one more letter. No branch depends on the letter: a processor predicts
+    /// branches, and the letters of a word have no pattern that it could learn.
     fn after(self, c: char) -> Place
         ensures { result ≡ place_after self c }
     {

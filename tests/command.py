@@ -6,8 +6,8 @@ usage: command.py [TABLE [CHECK ..]]
 A line of the table is an object: `name`, `args`, `files` (names and texts of the files in the folder that the command runs
 in), `stdin`, and what must come of it: `out`, `err` and `status`. Instead of `out` a row may have `job`: then the command must
 print the text that elasticlunr_index prints for this job, with `before` before it and `after` after it, or write it to the
-file `in`. Then `err` is `notes` and a last line with the number of `documents`, that of the tokens of the index (or `tokens`,
-if some are in no index), the bytes of the text and the seconds. The number of the table's lines is in TABLE.rows.
+file `in`. Then `err` is `notes` and a last line with the numbers of the documents and of the tokens that this text has, its
+bytes and the seconds. The number of the table's lines is in TABLE.rows.
 
 After the table each function of CHECKS is run, or those that are named.
 """
@@ -97,8 +97,8 @@ def expected(row):
         return row.get("out", "").encode(), row.get("err", "")
     line = printed(row["job"]).encode()
     text = row.get("before", "").encode() + line.removesuffix(b"\n") + row.get("after", "").encode() + b"\n"
-    tokens = row.get("tokens", len(tokens_of(line)))
-    numbers = f"{counted(row['documents'], 'document')}, {counted(tokens, 'token')}, {len(line)} bytes"
+    documents = counted(len(json.loads(line)["documentStore"]["docs"]), "document")
+    numbers = f"{documents}, {counted(len(tokens_of(line)), 'token')}, {len(line)} bytes"
     return text, f"{row['notes']}elasticlunr: {numbers}, N.N s\n"
 
 

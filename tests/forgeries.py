@@ -112,7 +112,12 @@ CHANGES = {  # whose program is run, what is changed of its run, and how
     "takes time by the square": (
         FIND,
         CHANGES_ANSWER,
-        "until = os.times().user + (os.fstat(0).st_size / 6e6) ** 2\nwhile os.times().user < until: pass",
+        "for step in range(int((os.fstat(0).st_size / 1000) ** 2)): pass",
+    ),
+    "compares each word with all": (
+        COMMAND,
+        CHANGES_ANSWER,
+        "for step in range(int((os.fstat(0).st_size / 300) ** 2)): pass",
     ),
     "may take more steps": (FIND, CHANGES_INPUT, 'given = given.replace(b\'"fields"\', b" " * 200_000 + b\'"fields"\', 1)'),
     "reads no index at any depth": (FIND, CHANGES_INPUT, 'given = given.replace(b"{", b\'{"x":0,\', 1)'),
@@ -232,6 +237,11 @@ def forged_orders():
         ("reads no index at any depth", deep, r"deep job \d+, .*nested deeper than 127 levels.* instead of "),
     ]:
         yield Forgery(name, "orders", f"^order, {said}", name, arguments, FIND)
+    for name, case, said in [
+        ("crashes", "an index", "status -9, 0 documents of 16384"),
+        ("compares each word with all", "one document", r"million instructions, .*: 2\.6 times are the most"),
+    ]:
+        yield Forgery(name, "one_hash", f"^one hash, {case}: .*{said}", name, (case,), COMMAND)
 
 
 def forged_commands(folder):

@@ -4,10 +4,9 @@ a text twice as long may take TIMES as long.
 
 usage: orders.py [WORD ..]
 
-The seconds are those of the processor, and the least of RUNS runs. Where these are too many, up to MOST_RUNS are made, since
-other programs run at the same time. The last cases search texts that the library printed, with a token that is deeper than
-`serde_json` reads: such a text is found to be an index, or it is refused. With words, only the cases are tried that have one
-of them in their names.
+Each search has RUNS runs, and one more where they take too long (tests/growth.py). The last cases search texts that the
+library printed, with a token that is deeper than `serde_json` reads: such a text is found to be an index, or it is refused.
+With words, only the cases are tried that have one of them in their names.
 """
 import json
 import os
@@ -18,16 +17,13 @@ from typing import NamedTuple
 
 sys.path.insert(0, os.path.join(os.path.dirname(__file__), ".."))
 
-from bench.measure import measured
 from tests import random_jobs
+from tests.growth import Runs, check_growth, growth
 from tests.report import Results, is_asked
 from tools.repository import printed, program, run, write
 
 PROGRAM = program("elasticlunr_find")
-TIMES = 2.6
-RUNS, MOST_RUNS = 3, 9
-LEAST = 0.05  # seconds of the longer text, below which a time says nothing
-LONGEST = 15  # seconds, after which no other run is made
+RUNS = 3
 STEPS_PER_BYTE, MORE_STEPS = 64, 1 << 20  # how many steps through tries a text may cost
 DEEP = "k" * 130 + "7"  # a token that is deeper than 127 levels, and its own stem
 JOBS = 150  # random jobs with a deep token
@@ -157,40 +153,27 @@ ORDERS = [  # a name, a size, and what makes the text of a size
 ]
 
 
-class Text:
-    """A search, the file of its input, and the least seconds of its runs."""
+class Text(Runs):
+    """Runs of a search."""
 
     def __init__(self, search, folder, name):
+        given = write(os.path.join(folder, name), json.dumps(["body", search.query, "any"]) + "\n" + search.index)
+        super().__init__([PROGRAM], given, os.path.join(folder, "found"))
         self.search = search
-        self.given = write(os.path.join(folder, name), json.dumps(["body", search.query, "any"]) + "\n" + search.index)
-        self.printed = os.path.join(folder, "found")
-        self.seconds, self.megabytes = LONGEST, 0
 
-    def run(self):
-        """Runs the program once, and says what is wrong with its answer."""
-        ended = measured([PROGRAM], self.given, self.printed)
+    def wrong(self, status):
         with open(self.printed, encoding="utf-8", errors="replace") as file:
             out = file.read()
-        self.seconds = min(self.seconds, ended.processor)
-        self.megabytes = ended.megabytes
-        return "" if (ended.status, out) == self.search.answer else f"status {ended.status}, or another answer: {out[:60]!r}"
+        return "" if (status, out) == self.search.answer else f"status {status}, or another answer: {out[:60]!r}"
 
 
 def check_order(case, folder, results):
     """Whether the answers to both sizes of a text are right, and the longer one doesn't take too long."""
     name, size, make = case
     short, long = (Text(make(count), folder, f"{count}") for count in (size, 2 * size))
-    for number in range(MOST_RUNS):
-        wrong = short.run() or long.run()
-        times = long.seconds / max(short.seconds, 0.001)
-        if wrong or long.seconds >= LONGEST or number >= RUNS - 1 and times <= TIMES:
-            break
     sizes = f"{len(short.search.index) / 1e6:.1f} and {len(long.search.index) / 1e6:.1f} million characters"
-    figures = f"{short.seconds:.2f} and {long.seconds:.2f} s, {times:.1f} times, {long.megabytes} MB at most"
-    said = f"order, {name}: {sizes}, {figures}"
-    results.note(not wrong and times <= TIMES and long.seconds >= LEAST, f"{said}: {wrong or f'{TIMES} times are the most'}")
-    if not wrong and times <= TIMES:
-        print(said, flush=True)
+    grown = growth(short, long, RUNS)
+    check_growth(f"order, {name}: {sizes}", grown, f", {long.megabytes} MB at most", results)
     os.remove(short.given)
     os.remove(long.given)
 

@@ -1,35 +1,11 @@
 //! What the words of `search` ask for.
 
 use clap::ArgMatches;
+use elasticlunr_hits::asked::{Asked, Needed};
 use std::alloc::{AllocError, AllocFailed, Global};
 
 /// How many hits are printed where `--limit` isn't given.
 const LIMIT: u64 = 10;
-
-/// Which words of the query a document must have.
-#[derive(Clone, Copy)]
-pub(crate) enum Needed {
-    /// One of them, in some field.
-    One,
-    /// Each of them in one field.
-    EachInOneField,
-    /// Each of them, one in this field and another one in that.
-    Each,
-}
-
-/// What is searched for, and how many hits are printed.
-#[derive(Drop)]
-pub(crate) struct Asked<'a> {
-    pub query: &'a str,
-    pub needed: Needed,
-    pub expand: bool,
-    /// The fields that are searched; none is all.
-    pub fields: Vec<&'a str>,
-    /// The boosts of fields; one that isn't here has 1.
-    pub boosts: Vec<(&'a str, u8)>,
-    /// How many hits are printed at most; none is all.
-    pub limit: Option<usize>,
-}
 
 /// Why the words ask for nothing.
 #[derive(Drop)]

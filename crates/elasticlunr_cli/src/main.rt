@@ -7,8 +7,6 @@ mod asked;
 mod build;
 mod files;
 mod given;
-mod hits;
-mod json_lines;
 mod languages;
 mod pieces;
 mod search;

@@ -1,9 +1,7 @@
 //! `search`: what a query finds in a printed index.
 
-use crate::asked::{Asked, Misuse, asked_of};
+use crate::asked::{Misuse, asked_of};
 use crate::files::{input_name, read_input};
-use crate::hits::hits_of;
-use crate::json_lines::json_lines;
 use crate::show::{Found, shown_hits};
 use crate::tell::{failed, say, troubled};
 use clap::ArgMatches;
@@ -13,11 +11,14 @@ use elasticlunr_diagnostics::nearest::nearest;
 use elasticlunr_diagnostics::outcome::Outcome;
 use elasticlunr_diagnostics::script::index_in;
 use elasticlunr_diagnostics::shown::shown_lines;
+use elasticlunr_hits::asked::Asked;
+use elasticlunr_hits::hits::hits_of;
+use elasticlunr_hits::lines::{LineForm, found_lines};
 use elasticlunr_input::mark::without_mark;
 use elasticlunr_lang::AnyLanguage;
 use elasticlunr_search::answer::Refusal;
 use elasticlunr_search::named::read_named;
-use elasticlunr_search::{Hit, SearchError, Searcher};
+use elasticlunr_search::{SearchError, Searcher};
 use std::alloc::{AllocError, Global};
 use std::io::{self, IsTerminal};
 use std::str;
@@ -25,10 +26,8 @@ use std::str;
 /// What is printed of hits.
 #[derive(Clone, Copy)]
 enum Form {
-    /// Their references, a line each.
-    References,
-    /// Their references, scores and texts, a line of JSON each.
-    Json,
+    /// A line for each.
+    Lines(LineForm),
     /// For readers: ranks, titles, references and lines of their texts.
     Shown,
 }
@@ -75,11 +74,11 @@ fn say_of(rt: &HostRuntime, file: &str, said: &str) -> io::Result<()> {
 /// What is printed, to a terminal or elsewhere.
 fn form_of(given: &ArgMatches<'_>, is_terminal: bool) -> Form {
     if given.get_flag("json") {
-        Form::Json
+        Form::Lines(LineForm::Json)
     } else if is_terminal {
         Form::Shown
     } else {
-        Form::References
+        Form::Lines(LineForm::References)
     }
 }
 
@@ -157,20 +156,20 @@ fn hits_text(
     asked: &Asked<'_>,
     form: Form,
 ) -> Result<Answer, SearchError> {
-    let hits = hits_of(alloc, searcher, asked)?;
-    if hits.is_empty() {
-        let note = why_nothing(alloc, searcher, asked.query)?;
-        return Ok(Answer {
-            text: String::new(alloc),
-            note: Some(note),
-        });
-    }
     let text = match form {
-        Form::References => references_text(alloc, &hits)?,
-        Form::Json => json_lines(alloc, searcher, hits)?,
-        Form::Shown => shown_hits(&found_by(alloc, searcher, asked)?, &hits)?,
+        Form::Lines(form) => found_lines(alloc, searcher, asked, form)?,
+        Form::Shown => {
+            let hits = hits_of(alloc, searcher, asked)?;
+            shown_hits(&found_by(alloc, searcher, asked)?, &hits)?
+        }
     };
-    Ok(Answer { text, note: None })
+    // There is a line for each hit.
+    let note = if text.is_empty() {
+        Some(why_nothing(alloc, searcher, asked.query)?)
+    } else {
+        None
+    };
+    Ok(Answer { text, note })
 }
 
 /// By what the words of texts are found.
@@ -199,16 +198,6 @@ fn why_nothing(
         "nothing was found"
     };
     Ok(String::from_str(alloc, said)?)
-}
-
-/// The references of hits, each with a line feed after it.
-fn references_text(alloc: Global, hits: &[Hit]) -> Result<String, AllocError> {
-    let mut text = String::new(alloc);
-    for hit in hits {
-        text.push_str(hit.reference.as_str())?;
-        text.push('\n')?;
-    }
-    Ok(text)
 }
 
 /// A field that is asked for and that the index doesn't have.

@@ -7,3 +7,5 @@ pub mod FirstFaults
 pub mod HeadLemmas
 pub mod InputLemmas
 pub mod MarkLemmas
+pub mod Counting
+pub mod MadeMore

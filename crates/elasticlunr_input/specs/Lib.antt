@@ -1,4 +1,5 @@
 pub mod Settled
+pub mod Counts
 pub mod Fields
 pub mod Asked
 pub mod Lines

@@ -13,7 +13,6 @@ ghost use Rattle.serde_json.specs.View.{view};
 
 use crate::jobs::duplicate_field;
 use crate::notes::Notes;
-use crate::tokens::Tokens;
 use elasticlunr_diagnostics::language::unknown_language;
 use elasticlunr_diagnostics::message::{InputError, Message, kind_words, unplaced};
 use elasticlunr_documents::objects::{
@@ -194,9 +193,8 @@ pub(crate) fn note_objects(
     items: &[Value],
     notes: &mut Notes,
 ) -> Result<(), AllocError> {
-    let tokens = Tokens::of_language(alloc, options.language)?;
     for item in items {
-        note_object(alloc, options, &tokens, item, notes)?;
+        note_object(alloc, options, item, notes)?;
     }
     notes.end(&options.fields)
 }
@@ -205,12 +203,11 @@ pub(crate) fn note_objects(
 pub(crate) fn note_object(
     alloc: Global,
     options: &Options<'_>,
-    tokens: &Tokens,
     item: &Value,
     notes: &mut Notes,
 ) -> Result<(), AllocError> {
     match object_of(alloc, options, item) {
-        Ok(object) => notes.object(tokens, &object),
+        Ok(object) => notes.object(&object),
         Err(AddError::Memory) => Err(AllocError),
         Err(AddError::ObjectFault(_)) => Ok(()),
     }

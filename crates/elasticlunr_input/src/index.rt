@@ -1,8 +1,9 @@
 //! The index of an input, of each form.
 ghost use Rattle.std.specs.Prelude.{◌≡◌, ◌++◌, true, map, string_bytes, unwrap_or, IfOk, IfErr};
-ghost use Rattle.std.specs.Prelude.{IfSome};
+ghost use Rattle.std.specs.Prelude.{IfSome, OnOk};
 ghost use Rattle.elasticlunr_job_format.specs.ObjectsTold.{options_told, texts_told};
 ghost use Rattle.elasticlunr_input.specs.Asked.{AreMadeWith, options_of};
+ghost use Rattle.elasticlunr_input.specs.Counts.{HasCounts, token_count};
 ghost use Rattle.elasticlunr_input.specs.FaultPlaces.{IsPlaceInObjects};
 ghost use Rattle.elasticlunr_input.specs.Fields.{fields_of_first};
 ghost use Rattle.elasticlunr_diagnostics.specs.Forms.{asked_or_told};
@@ -21,6 +22,7 @@ ghost use Rattle.elasticlunr_text.specs.Text.{Bytes};
 ghost use Rattle.elasticlunr_diagnostics.specs.declared.form.Form.TheVariants as form;
 ghost use Rattle.serde_json.specs.View.{view};
 
+use crate::counts::Counted;
 use crate::documents::{first_fields, note_objects, objects_made_of};
 use crate::jobs::{job_made_of, job_refused, note_job};
 use crate::lines::{check_first, first_value, lines_made_of, read_head};
@@ -52,12 +54,19 @@ pub fn made_from<R: MarkedRead, M: Make>(
 ) -> Result<M::Made, InputError>
     ensures ok { IfOk result (λ made. IfSome (R.remaining reader.old) (λ text.
         IsMadeFrom asked (settings_told settings.now) (without_mark text) (M.makes maker.now made))) }
+    ensures counts { OnOk result (IfSome (R.remaining reader.old) (λ text.
+        IsMadeFrom asked (settings_told settings.now) (without_mark text)
+        (λ _ plan commands. HasCounts plan commands notes.new.documents (token_count notes.new)))) }
     ensures err { IfErr result (λ e. IfSome (R.remaining reader.old) (λ text.
         IsRefusedFrom (asked_or_told asked (without_mark text)) (settings_told settings.now) (without_mark text) e)) }
     ensures device { IfErr result (IfDevice (R.has_failed reader.new ≡ true)) }
 {
-    match made_of_input(alloc, reader, asked, settings, notes, maker) {
-        Ok(made) => Ok(made),
+    let counted = Counted { alloc, maker };
+    match made_of_input(alloc, reader, asked, settings, notes, &counted) {
+        Ok((made, counts)) => {
+            notes.count(&counts)?;
+            Ok(made)
+        }
         Err(trouble) => Err(blamed(reader, trouble)),
     }
 }
@@ -72,6 +81,9 @@ pub fn index_from<R: MarkedRead>(
 ) -> Result<String, InputError>
     ensures ok { IfOk result (λ line. IfSome (R.remaining reader.old) (λ text.
         IsIndexOf asked (settings_told settings.now) (without_mark text) (string_bytes line))) }
+    ensures counts { OnOk result (IfSome (R.remaining reader.old) (λ text.
+        IsMadeFrom asked (settings_told settings.now) (without_mark text)
+        (λ _ plan commands. HasCounts plan commands notes.new.documents (token_count notes.new)))) }
     ensures err { IfErr result (λ e. IfSome (R.remaining reader.old) (λ text.
         IsRefusedFrom (asked_or_told asked (without_mark text)) (settings_told settings.now) (without_mark text) e)) }
     ensures device { IfErr result (IfDevice (R.has_failed reader.new ≡ true)) }

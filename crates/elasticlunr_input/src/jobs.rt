@@ -13,7 +13,6 @@ ghost use Rattle.serde_json.specs.View.{view};
 
 use crate::notes::Notes;
 use crate::settings::{Settings, settle};
-use crate::tokens::Tokens;
 use elasticlunr_diagnostics::job_fault::fault_message;
 use elasticlunr_diagnostics::language::unknown_language;
 use elasticlunr_diagnostics::message::{InputError, Message, counted, message_at, unplaced};
@@ -192,9 +191,8 @@ pub(crate) fn note_job(
         Err(JobError::Refused(_)) => return Ok(()),
     };
     let job = settle(alloc, job, settings)?;
-    let tokens = Tokens::of_language(alloc, job.language)?;
     for doc in &job.docs {
-        notes.document(&tokens, doc.reference, &doc.values)?;
+        notes.document(doc.reference, &doc.values)?;
     }
     notes.end(&job.fields)
 }

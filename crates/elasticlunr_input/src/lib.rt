@@ -6,6 +6,7 @@
 //! way.
 #![tactic(auto)]
 
+mod counts;
 mod documents;
 pub mod index;
 mod jobs;
@@ -13,4 +14,3 @@ mod lines;
 pub mod mark;
 pub mod notes;
 pub mod settings;
-mod tokens;

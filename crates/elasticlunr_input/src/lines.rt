@@ -22,7 +22,6 @@ ghost use Rattle.serde_json.specs.View.{view};
 
 use crate::documents::{object_fault_key, object_fault_text, path_of, settings_fault};
 use crate::notes::Notes;
-use crate::tokens::Tokens;
 use elasticlunr_diagnostics::message::{InputError, Message, lowered, not_json, unplaced};
 use elasticlunr_documents::lines::{LastLine, LinesError, Watch, is_blank, lines_made, read_line};
 use elasticlunr_documents::marked::MarkedRead;
@@ -64,13 +63,12 @@ pub(crate) fn read_head<R: BufRead>(
 /// What notes what is suspicious in documents.
 #[derive(Drop)]
 pub(crate) struct Watcher<'n> {
-    pub tokens: Tokens,
     pub notes: &'n mut Notes,
 }
 
 impl Watch for Watcher<'_> {
     fn document(&mut self, object: &Object<'_>) -> Result<(), AllocError> {
-        self.notes.object(&self.tokens, object)
+        self.notes.object(object)
     }
 }
 
@@ -271,8 +269,7 @@ fn watched<R: MarkedRead, M: Make>(
     ensures err { IfErr result (FailsLines (options_told options.now)
         (option_append (Some head.now) (R.remaining reader.old)) last.new) }
 {
-    let tokens = Tokens::of_language(alloc, options.language)?;
-    let mut watcher = Watcher { tokens, notes };
+    let mut watcher = Watcher { notes };
     let mut all = head.chain(reader);
     lines_made(alloc, options, &mut all, last, &mut watcher, maker)
 }

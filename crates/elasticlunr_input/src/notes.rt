@@ -1,10 +1,12 @@
 //! What is suspicious in documents that are fine.
+ghost use Rattle.std.specs.Prelude.{◌≡◌, OnOk};
+ghost use Rattle.elasticlunr_input.specs.Counts.{token_count};
 
+use crate::counts::Counts;
 use crate::settings::Settings;
-use crate::tokens::Tokens;
 use elasticlunr_documents::objects::{Object, Options};
 use std::alloc::{AllocError, Global};
-use std::collections::{BTreeMap, HashSet};
+use std::collections::{BTreeMap, BTreeSet};
 
 /// The names that each object of JavaScript has: a script that keeps documents in an object takes
 /// them for what is there already.
@@ -36,12 +38,15 @@ pub struct Notes {
     /// Whether a field has a text, by its number.
     has_text: Vec<bool>,
     /// The keys under which a text is no news, where the fields are those of the first object.
-    known: Option<HashSet<String>>,
+    known: Option<BTreeSet<String>>,
     /// How many documents were taken.
+    taken: usize,
+    /// How many documents the index has.
     pub documents: usize,
-    /// The tokens of all documents, each once.
-    tokens: HashSet<String>,
-    /// What is suspicious, in the order in which it was seen.
+    /// How many tokens have a posting in the index.
+    tokens: usize,
+    /// What is suspicious: of each document, in the order in which they came, of the fields, and
+    /// then the documents without a token.
     pub warnings: Vec<String>,
 }
 
@@ -53,16 +58,18 @@ impl Notes {
             references: BTreeMap::new(alloc),
             has_text: Vec::new(alloc),
             known: None,
+            taken: 0,
             documents: 0,
-            tokens: HashSet::new(alloc),
+            tokens: 0,
             warnings: Vec::new(alloc),
         }
     }
 
-    /// How many tokens the documents have that differ; those of a document whose place another
-    /// takes, or that is removed, count as well.
-    pub fn token_count(&self) -> usize {
-        self.tokens.len()
+    /// How many tokens have a posting in the index; one that several fields have counts once.
+    pub fn token_count(&self) -> usize
+        ensures { result ≡ token_count self.now }
+    {
+        self.tokens
     }
 
     /// Takes how objects are read, before the first one.
@@ -74,7 +81,7 @@ impl Notes {
         if settings.fields.is_some() {
             return Ok(());
         }
-        let mut known = HashSet::new(self.alloc);
+        let mut known = BTreeSet::new(self.alloc);
         known.insert(String::from_str(self.alloc, options.reference_key)?)?;
         for field in &options.fields {
             known.insert(String::from_str(self.alloc, field)?)?;
@@ -84,13 +91,9 @@ impl Notes {
     }
 
     /// Takes the next document, as read of an object.
-    pub(crate) fn object(
-        &mut self,
-        tokens: &Tokens,
-        object: &Object<'_>,
-    ) -> Result<(), AllocError> {
+    pub(crate) fn object(&mut self, object: &Object<'_>) -> Result<(), AllocError> {
         let reference = object.reference.as_str();
-        self.document(tokens, reference, &object.values)?;
+        self.document(reference, &object.values)?;
         let Some(members) = object.value.as_object() else {
             return Ok(());
         };
@@ -104,7 +107,7 @@ impl Notes {
 
     /// Takes the key of a text of the document that was taken last.
     fn text_under(&mut self, reference: &str, key: &str) -> Result<(), AllocError> {
-        let number = self.documents;
+        let number = self.taken;
         let Some(known) = &mut self.known else {
             return Ok(());
         };
@@ -122,20 +125,15 @@ impl Notes {
     }
 
     /// Takes the next document.
-    pub(crate) fn document(
-        &mut self,
-        tokens: &Tokens,
-        reference: &str,
-        values: &[&str],
-    ) -> Result<(), AllocError> {
-        self.documents = self.documents.saturating_add(1);
+    pub(crate) fn document(&mut self, reference: &str, values: &[&str]) -> Result<(), AllocError> {
+        self.taken = self.taken.saturating_add(1);
         self.reference(reference)?;
-        self.values(tokens, reference, values)
+        self.values(values)
     }
 
     /// Takes the reference of a document.
     fn reference(&mut self, reference: &str) -> Result<(), AllocError> {
-        let number = self.documents;
+        let number = self.taken;
         let key = String::from_str(self.alloc, reference)?;
         if let Some(before) = self.references.insert(key, number)? {
             let said = format!(in self.alloc;
@@ -158,43 +156,20 @@ impl Notes {
     }
 
     /// Takes the values of a document.
-    fn values(
-        &mut self,
-        tokens: &Tokens,
-        reference: &str,
-        values: &[&str],
-    ) -> Result<(), AllocError> {
-        let number = self.documents;
-        let mut has_token = false;
+    fn values(&mut self, values: &[&str]) -> Result<(), AllocError> {
         for (field, value) in values.iter().enumerate() {
             let is_filled = !value.is_empty();
             match self.has_text.get_mut(field) {
                 Some(seen) => *seen = *seen || is_filled,
                 None => self.has_text.push(is_filled)?,
             }
-            has_token = self.take_tokens(tokens.of_text(self.alloc, value)?)? || has_token;
-        }
-        if !has_token {
-            let said = format!(in self.alloc;
-                "document {number} (\"{reference}\") has no word that can be found"
-            )?;
-            self.warnings.push(said)?;
         }
         Ok(())
     }
 
-    /// Takes the tokens of a text, and says whether there is one.
-    fn take_tokens(&mut self, tokens: Vec<String>) -> Result<bool, AllocError> {
-        let is_any = !tokens.is_empty();
-        for token in tokens {
-            self.tokens.insert(token)?;
-        }
-        Ok(is_any)
-    }
-
     /// Takes the end of the documents, and the fields.
     pub(crate) fn end(&mut self, fields: &[&str]) -> Result<(), AllocError> {
-        if self.documents == 0 {
+        if self.taken == 0 {
             self.warnings.push(String::from_str(
                 self.alloc,
                 "the index is empty: there is no document",
@@ -216,6 +191,34 @@ impl Notes {
         if TAKEN.contains(&field) {
             let why = OF_EVERY_OBJECT;
             let said = format!(in self.alloc; "the field \"{field}\": {why}")?;
+            self.warnings.push(said)?;
+        }
+        Ok(())
+    }
+
+    /// Takes what the index holds, after the fields.
+    pub(crate) fn count(&mut self, counts: &Counts) -> Result<(), AllocError>
+        ensures documents { OnOk result (self.new.documents ≡ counts.now.documents) }
+        ensures tokens { OnOk result (token_count self.new ≡ counts.now.tokens) }
+    {
+        self.without_token(&counts.without_token)?;
+        self.documents = counts.documents;
+        self.tokens = counts.tokens;
+        Ok(())
+    }
+
+    /// Takes the references of the documents that have no token.
+    fn without_token(&mut self, references: &[String]) -> Result<(), AllocError> {
+        let mut found = Vec::with_capacity(self.alloc, references.len())?;
+        for reference in references {
+            let number = self.references.get(reference.as_str()).copied();
+            found.push((number.unwrap_or(0), reference.as_str()))?;
+        }
+        found.sort_unstable();
+        for (number, reference) in found {
+            let said = format!(in self.alloc;
+                "document {number} (\"{reference}\") has no word that can be found"
+            )?;
             self.warnings.push(said)?;
         }
         Ok(())

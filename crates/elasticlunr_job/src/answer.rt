@@ -1,7 +1,7 @@
 //! What is written for an input.
 
 ghost use Rattle.std.specs.Prelude.{◌≡◌, ◌↔◌, ◌⊎◌, Any, Err, Some, string_bytes, IfOk, IfErr};
-ghost use Rattle.std.specs.Prelude.{IsErr, OnOk};
+ghost use Rattle.std.specs.Prelude.{OnOk};
 ghost use Rattle.elasticlunr.specs.History.{Commands};
 ghost use Rattle.elasticlunr.specs.Index.{fields_of, plan_of, IsDocument, IsFailed, StandsFor};
 ghost use Rattle.elasticlunr.specs.Printed.{IsPrintOf, IsTextAfter};
@@ -46,7 +46,8 @@ fn text_of(index: &Index<AnyLanguage>, pretty: bool) -> Result<String, IndexErro
     }
 }
 
-/// The text of an index, and a line feed.
+/// The text of an index, and a line feed. It is `Failed` of an index that has failed; of one that
+/// works the only error is out of memory.
 pub fn line_of(index: &Index<AnyLanguage>, pretty: bool) -> Result<String, IndexError>
     ensures ok { IfOk result (λ text. (commands : Commands)
         → StandsFor language_name name_text index.now commands
@@ -55,7 +56,7 @@ pub fn line_of(index: &Index<AnyLanguage>, pretty: bool) -> Result<String, Index
     ensures print { IfOk result (λ text. (commands : Commands)
         → StandsFor language_name name_text index.now commands
         → IsPrintOf (plan_of language_name name_text index.now) commands (string_bytes text)) }
-    ensures failed { IsFailed index.now → IsErr result }
+    ensures failed { (result ≡ Err IndexError.Failed) ↔ IsFailed index.now }
     ensures errors { IfErr result (λ e. (e ≡ IndexError.Failed) ⊎ (e ≡ IndexError.Memory)) }
 {
     let mut text = text_of(index, pretty)?;

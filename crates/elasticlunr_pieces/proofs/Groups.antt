@@ -1,9 +1,9 @@
 -- Groups of entries, and the texts of pieces.
-use Rattle.std.proofs.Common.{◌≡◌, ◌<◌, ◌≤◌, ◌+◌, ◌-◌, ℕ, zero, suc, true, false, List, [], ◌∷◌, ◌++◌, length, take}
+use Rattle.std.proofs.Common.{◌≡◌, ◌<◌, ◌≤◌, ◌+◌, ◌-◌, ℕ, suc, true, List, [], ◌∷◌, ◌++◌, length, take}
 use Rattle.std.proofs.Common.{drop}
 use Rattle.std.proofs.Common.{map, get_or, refl, sym, ap, ◌∙◌, subst, append_assoc, arith, string_bytes, length-drop}
 use Rattle.std.proofs.lemmas.List.{length-map, map-append, drop-map, drop-drop, get_or-drop, take-append-drop}
-use Rattle.serde_json.specs.Data.{object, array, string}
+use Rattle.serde_json.specs.Data.{array, string}
 use Rattle.serde_json.specs.Written.{compact_text, members_text, items_text}
 use Rattle.json.specs.Print.{quoted}
 use Rattle.elasticlunr_error.specs.Text.{Bytes}
@@ -12,7 +12,7 @@ use Rattle.elasticlunr_store.specs.Contents.{TextMap}
 use Rattle.elasticlunr_trie.specs.Table.{Table}
 use Rattle.elasticlunr_pieces.specs.Cut.{IsGroup, IsCutTo}
 use Rattle.elasticlunr_pieces.specs.Entries.{field_values, token_members, tries_text, documents_items, documents_text}
-use Rattle.elasticlunr_pieces.specs.EntryTexts.{token_text_of, token_texts, document_texts}
+use Rattle.elasticlunr_pieces.specs.EntryTexts.{token_texts, document_texts}
 use Rattle.elasticlunr_pieces.specs.Steps.{after_commas, joined, in_brackets, IsCutAt}
 use Rattle.elasticlunr_pieces.specs.declared.cut.Form.{Form}
 use Rattle.elasticlunr_pieces.specs.declared.cut.Cut.{Cut}

@@ -1,11 +1,11 @@
 -- The text of a piece, as it grows.
-use Rattle.std.proofs.Common.{◌≡◌, ◌<◌, ◌≤◌, ◌+◌, ℕ, zero, suc, List, [], ◌∷◌, ◌++◌, length, drop, get_or, refl, sym}
+use Rattle.std.proofs.Common.{◌≡◌, ◌<◌, ◌≤◌, ◌+◌, ℕ, List, [], ◌∷◌, ◌++◌, length, drop, get_or, refl, sym}
 use Rattle.std.proofs.Common.{ap, ◌∙◌, append_assoc, append-nil, add-one, arith, length-append, drop-cons}
 use Rattle.elasticlunr_error.specs.Text.{Bytes}
 use Rattle.elasticlunr_pieces.specs.declared.cut.Form.{Form}
 use Rattle.std.proofs.Common.{string_bytes}
 use Rattle.elasticlunr_pieces.specs.declared.cut.Cut.{Cut}
-use Rattle.elasticlunr_pieces.specs.Steps.{after_commas, joined, in_brackets, Extends, Stops, IsCutAt}
+use Rattle.elasticlunr_pieces.specs.Steps.{after_commas, in_brackets, Extends, Stops, IsCutAt}
 
 -- one text more
 pub comma_behind : (xs : List Bytes) (x : Bytes) → after_commas (xs ++ x ∷ []) ≡ after_commas xs ++ 44 ∷ x

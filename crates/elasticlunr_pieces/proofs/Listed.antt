@@ -1,8 +1,7 @@
 -- Tokens that are listed, by their characters and by their bytes.
-use Rattle.std.proofs.Common.{◌≡◌, ◌↔◌, ◌⊎◌, inl, inr, Bool, true, false, true≢false, ◌||◌, cond, List, [], ◌∷◌, ◌++◌}
-use Rattle.std.proofs.Common.{map}
+use Rattle.std.proofs.Common.{◌≡◌, ◌↔◌, ◌⊎◌, inl, inr, Bool, true, false, true≢false, ◌||◌, cond, List, [], ◌∷◌}
 use Rattle.std.proofs.Common.{String, Global, string_bytes, string_cmp, refl, sym, ap, subst, ◌∙◌, bytes_eq}
-use Rattle.std.proofs.Common.{encode_utf8_all, drop}
+use Rattle.std.proofs.Common.{encode_utf8_all}
 use Rattle.std.specs.Prelude.{IsTrue}
 use Rattle.std.proofs.lemmas.Slice.Eq.{bytes_eq-Decides}
 use Rattle.std.proofs.lemmas.Str.{IsUtf8-string_bytes, encodes-chars}
@@ -18,7 +17,7 @@ use Rattle.std.proofs.Common.{Less}
 use Rattle.elasticlunr_error.specs.Text.{Text, Bytes, bytes_of, is_listed, text_cmp, texts_of}
 use Rattle.elasticlunr_trie.specs.Table.{Table}
 use Rattle.elasticlunr_trie.specs.Tokens.{IsToken, IsTokenFrom}
-use Rattle.elasticlunr_pieces.specs.Entries.{IsTokenIn, IsTokenOf}
+use Rattle.elasticlunr_pieces.specs.Entries.{IsTokenOf}
 
 pub either : (a b : Bool) → (a || b) ≡ true → (a ≡ true) ⊎ (b ≡ true)
 either true b h = inl refl

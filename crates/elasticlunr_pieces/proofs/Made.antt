@@ -34,7 +34,7 @@ use Rattle.elasticlunr_pieces.specs.declared.making.Head.{Head}
 use Rattle.elasticlunr_pieces.specs.declared.making.Piece.{Piece}
 use Rattle.elasticlunr_pieces.specs.declared.making.Pieces.{Pieces}
 use Rattle.elasticlunr_pieces.specs.declared.progress.Progress.{Progress}
-use Rattle.elasticlunr_pieces.proofs.Groups.{cut_more, found, Found, tries_in_brackets, documents_in_brackets}
+use Rattle.elasticlunr_pieces.proofs.Groups.{cut_more, found, tries_in_brackets, documents_in_brackets}
 
 module _ {A : Type 0} where
   sum_more : (groups : List (List A)) (g : List A) → entries_in (groups ++ g ∷ []) ≡ entries_in groups + length g

@@ -4,9 +4,9 @@ use Rattle.std.specs.BTreeMap.{BTreeMap}
 use Rattle.std.specs.FinMap.{entries}
 use Rattle.std.specs.List.Sorted.{IsStrictlySortedBy}
 use Rattle.std.specs.Map.{keys_of}
-use Rattle.elasticlunr_error.specs.Text.{Bytes}
+use Rattle.elasticlunr_error.specs.Text.{bytes_of}
 use Rattle.elasticlunr_json.proofs.Sorted.{entries_seen, shown}
-use Rattle.elasticlunr_store.specs.Contents.{Contents, TextMap, text_map, document_texts}
+use Rattle.elasticlunr_store.specs.Contents.{Contents, text_map, document_texts}
 use Rattle.elasticlunr_pieces.specs.Entries.{references}
 
 abbrev pub Docs : Type 0
@@ -25,6 +25,11 @@ pub all_references : (c : Contents) (es : Docs) → document_texts es ≡ c.text
     → map (λ e. string_bytes e.0) es ≡ references c
 all_references c es are order = sym (names_shown es)
     ∙ ap (map (λ e. e.0)) (sym (entries_seen (λ m. text_map m.entries) es order) ∙ ap entries are)
+
+-- the bytes of the keys
+pub names_by_keys : (es : Docs) → bytes_of (keys_of es) ≡ map (λ e. string_bytes e.0) es
+names_by_keys [] = refl
+names_by_keys (e ∷ es) = ap (λ r. string_bytes e.0 ∷ r) (names_by_keys es)
 
 pub all_kept : (c : Contents) (es : Docs) → document_texts es ≡ c.texts → IsStrictlySortedBy string_cmp (keys_of es)
     → map (λ e. text_map e.1.entries) es ≡ map (λ e. e.1) (entries c.texts)

@@ -1,5 +1,5 @@
 -- The entries of the pieces of an index.
-use Rattle.std.specs.Prelude.{◌≡◌, ◌↔◌, ◌⊎◌, ℕ, suc, List, [], ◌∷◌, map, Option, None, Some, IsTrue}
+use Rattle.std.specs.Prelude.{◌↔◌, ◌⊎◌, ℕ, suc, List, [], ◌∷◌, map, Option, None, Some, IsTrue}
 use Rattle.std.specs.Prelude.{if◌then◌else◌}
 use Rattle.std.specs.List.Sorted.{IsStrictlySortedBy}
 use Rattle.std.specs.FinMap.{entries}

@@ -1,5 +1,5 @@
 -- The name of the folder of pieces.
-use Rattle.std.specs.Prelude.{ℕ, List, ◌++◌, codes, take}
+use Rattle.std.specs.Prelude.{◌++◌, codes, take}
 use Rattle.hex.specs.Hex.{encode_lower}
 use Rattle.sha2.specs.Sha256.{sha256}
 use Rattle.elasticlunr_error.specs.Text.{Bytes}

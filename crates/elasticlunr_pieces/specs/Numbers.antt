@@ -1,24 +1,16 @@
--- The map from references to their numbers; for private clauses.
-use Rattle.std.specs.Prelude.{◌≡◌, ◌++◌, ℕ, List, [], ◌∷◌, map, slice_get}
+-- What is borrowed of a store, as texts; for private clauses.
+use Rattle.std.specs.Prelude.{◌++◌, ℕ, List, [], ◌∷◌, map, slice_get}
 use Rattle.std.specs.Option.{option_to_list}
 use Rattle.std.specs.Borrow.{Bor}
-use Rattle.std.specs.HashMap.{HashMap, get_by}
-use Rattle.std.specs.Str.{bytes_eq}
 use Rattle.std.specs.BTreeMap.{BTreeMap}
 use Rattle.std.specs.Prelude.{String}
 use Rattle.std.specs.declared.alloc.Global.{Global}
 use Rattle.elasticlunr_error.specs.Text.{Bytes}
 use Rattle.elasticlunr_store.specs.Contents.{TextMap, text_map}
-use Rattle.elasticlunr_pieces.specs.Entries.{number_of}
 
 -- the texts that are borrowed
 abbrev pub told_texts : List (Bor Bytes) → List Bytes
 told_texts texts = map (λ text. text.now) texts
-
--- the map has the number of each reference
-abbrev pub AreNumbers : {S : Type 0} → List (Bor Bytes) → HashMap (Bor Bytes) ℕ S → Type 0
-AreNumbers names numbers = (q : Bytes) → get_by (λ k. bytes_eq q k.now) numbers
-    ≡ number_of (told_texts names) q
 
 -- the documents that are borrowed
 abbrev pub told_documents : List (Bor (BTreeMap (String Global) (String Global))) → List TextMap

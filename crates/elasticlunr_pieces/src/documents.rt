@@ -1,6 +1,8 @@
 //! The references of a store's documents, and the documents.
 ghost use Rattle.std.specs.Prelude.{◌≡◌, map, IfOk};
 ghost use Rattle.std.specs.FinMap.{entries};
+ghost use Rattle.std.specs.List.Sorted.{IsStrictlySortedBy};
+ghost use Rattle.elasticlunr_error.specs.Text.{text_cmp};
 ghost use Rattle.elasticlunr_pieces.specs.Entries.{kept_documents, references};
 ghost use Rattle.elasticlunr_pieces.specs.Numbers.{told_documents, told_texts};
 
@@ -9,11 +11,12 @@ use std::alloc::{AllocError, Global};
 use std::collections::BTreeMap;
 
 /// The references of the documents, in the order of their bytes.
-pub(crate) fn references_of<'a>(
+pub fn references_of<'a>(
     alloc: Global,
     store: &'a DocumentStore,
 ) -> Result<Vec<&'a str>, AllocError>
-    ensures { IfOk result (λ names. told_texts names.items ≡ references store.now) }
+    ensures texts { IfOk result (λ names. told_texts names.items ≡ references store.now) }
+    ensures order { IfOk result (λ _. IsStrictlySortedBy text_cmp (references store.now)) }
 {
     let docs = store.docs();
     let mut names = Vec::with_capacity(alloc, docs.len())?;

@@ -2,7 +2,7 @@
 #![tactic(auto)]
 
 mod cut;
-mod documents;
+pub mod documents;
 mod folder;
 mod head_text;
 mod head_value;
@@ -11,7 +11,7 @@ mod making;
 mod numbers;
 mod progress;
 mod texts;
-mod tokens;
+pub mod tokens;
 mod tries;
 
 pub use making::{Head, Piece, Pieces};

@@ -40,9 +40,9 @@ pub struct Head {
 /// Makes the pieces of an index, one after the other: first those of the tries, and then those of
 /// the texts.
 ///
-/// It borrows the index. It has a copy of each token, and for each reference its number, 8 bytes
-/// for its document, and what a hash map takes. Of the pieces it has where each begins, and the
-/// text of one entry at most.
+/// It borrows the index. It has a copy of each token, and for each reference 16 bytes, and 8 for its
+/// document. Of the pieces it has where each begins, and the text of one entry at most. A posting
+/// takes a binary search over the references.
 #[derive(Drop)]
 pub struct Pieces<'a> {
     alloc: Global,
@@ -66,7 +66,7 @@ impl<'a> Pieces<'a> {
         ensures memory { IsOkUnless result Memory }
     {
         let references = references_of(alloc, parts.store)?;
-        let numbers = Numbers::new(alloc, references)?;
+        let numbers = Numbers::new(references);
         let tokens = tokens_of(alloc, parts.tries)?;
         let documents = documents_of(alloc, parts.store)?;
         Ok(Pieces {

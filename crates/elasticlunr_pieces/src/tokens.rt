@@ -9,7 +9,7 @@ use std::alloc::{AllocError, Global};
 use std::collections::BTreeSet;
 
 /// The tokens that have a posting in one of the tries, each once, in the order of their bytes.
-pub(crate) fn tokens_of(alloc: Global, tries: &[InvertedIndex]) -> Result<Vec<String>, AllocError>
+pub fn tokens_of(alloc: Global, tries: &[InvertedIndex]) -> Result<Vec<String>, AllocError>
     ensures { IfOk result (λ tokens. AreTokens tries.now (bytes_of tokens.items)) }
 {
     let mut all = BTreeSet::new(alloc);

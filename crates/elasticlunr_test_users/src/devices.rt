@@ -59,7 +59,7 @@ impl Write for Room<'_> {
 }
 
 /// How a run over a whole input ends, and what it writes.
-fn ran(alloc: Global, input: &[u8], taken: &mut Vec<u8>) -> Result<Outcome, RunError> {
+pub(crate) fn ran(alloc: Global, input: &[u8], taken: &mut Vec<u8>) -> Result<Outcome, RunError> {
     let mut reader = FromRead::new(input);
     let mut writer = ToWrite::new(Room {
         taken,

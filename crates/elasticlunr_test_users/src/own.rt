@@ -10,7 +10,8 @@ use elasticlunr::lang::English;
 use elasticlunr::pipeline::{FnWrapper, Pipeline, PipelineFn, Stage};
 use elasticlunr::{ELASTICLUNR_VERSION, IndexBuilder, IndexError};
 use elasticlunr_site::{Page, search_index};
-use elasticlunr_uses::custom::{Tokenize, index_of_words, index_with_tokenizer, whole};
+use elasticlunr_uses::custom::{Tokenize, index_with_tokenizer, whole};
+use elasticlunr_uses::own::text_of_words;
 use std::alloc::{AllocError, Global};
 use std::process::Abort;
 use std::test::Fail;
@@ -183,7 +184,7 @@ fn a_tokenizer_gives_an_empty_token_and_a_long_one(rt: HostRuntime) -> Result<()
 
 #[test]
 fn a_stage_and_a_language_work_together(rt: HostRuntime) -> Result<(), Fail> {
-    let text = index_of_words(rt.alloc())?;
+    let text = text_of_words(rt.alloc())?;
     for part in [
         r#""docInfo":{"1":{"about":3}}"#,
         r#""b":{"df":0,"docs":{},"i":{"df":0,"docs":{},"g":{"df":1,"docs":{"1":{"tf":1000000}}}}}"#,

@@ -6,15 +6,14 @@ use elasticlunr::lang::English;
 use elasticlunr::pipeline::{Pipeline, PipelineFn, Stage};
 use elasticlunr::{Index, IndexBuilder};
 use elasticlunr_search::{Join, SearchError, Searcher};
-use elasticlunr_uses::custom::{
-    DropEmpty, Plain, Tokenize, index_of_words, index_with_tokenizer, whole,
-};
+use elasticlunr_uses::custom::{DropEmpty, Plain, Tokenize, index_with_tokenizer, whole};
+use elasticlunr_uses::own::text_of_words;
 use std::test::Fail;
 
 #[test]
 fn an_index_is_searched_by_the_stages_that_it_was_built_with(rt: HostRuntime) -> Result<(), Fail> {
     let alloc = rt.alloc();
-    let text = index_of_words(alloc)?;
+    let text = text_of_words(alloc)?;
     let own: Box<dyn PipelineFn> = Box::new(alloc, DropEmpty {})?;
     let queue = vec![in alloc; Stage::EnglishTrimmer, Stage::Own(own)]?;
     let searcher = Searcher::with_pipeline(alloc, Plain {}, Pipeline { queue }, text.as_str())?;

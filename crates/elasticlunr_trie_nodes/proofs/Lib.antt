@@ -19,5 +19,5 @@ pub mod Named
 pub mod Gathered
 pub mod Naming
 pub mod Ranked
-pub mod Lone
+pub mod Single
 pub mod Entries

@@ -1,7 +1,4 @@
-pub mod Answering
-pub mod Documents
+pub mod Jobs
 pub mod OneToken
 pub mod Orders
-pub mod Plans
-pub mod Sharing
-pub mod Stages
+pub mod Passing

@@ -1,3 +1,4 @@
 pub mod Sharing
 pub mod Pages
 pub mod Found
+pub mod Stops

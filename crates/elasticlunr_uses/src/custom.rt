@@ -74,26 +74,6 @@ impl Language for Plain {
     }
 }
 
-/// The text of an index of trimmed words.
-pub fn index_of_words(alloc: Global) -> Result<String, IndexError>
-    ensures { IfErr result (λ e. e ≡ Memory) }
-{
-    let own: Box<dyn PipelineFn> = Box::new(alloc, DropEmpty {})?;
-    let queue = vec![in alloc; Stage::EnglishTrimmer, Stage::Own(own)]?;
-    index_with_pipeline(alloc, Pipeline { queue })
-}
-
-fn index_with_pipeline(alloc: Global, pipeline: Pipeline) -> Result<String, IndexError>
-    ensures { IfErr result (λ e. e ≡ Memory) }
-{
-    let mut index = IndexBuilder::with_language(alloc, Plain {})?
-        .with_pipeline(pipeline)
-        .add_field("about")?
-        .build()?;
-    index.add_doc("1", &["The \"Big Apple\" ..."])?;
-    index.to_json()
-}
-
 /// What makes tokens of a field's text.
 pub type Tokenize = Box<dyn Fn(Global, &str) -> Result<Vec<String>, AllocError>>;
 

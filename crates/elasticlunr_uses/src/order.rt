@@ -10,8 +10,8 @@ ghost use Rattle.elasticlunr.specs.Kept.{IsReadableText};
 ghost use Rattle.elasticlunr_uses.specs.Pages.{adding_page, IsTextOf};
 
 use crate::page::Page;
-use elasticlunr::laws::current::current_documents_decide_the_text;
 use elasticlunr::{Index, IndexError};
+use elasticlunr_laws::documents::two_documents_may_come_in_either_order;
 use std::alloc::Global;
 
 /// The texts of the indexes of two pages, in the one order and in the other.
@@ -28,7 +28,7 @@ pub fn in_either_order(
         → string_bytes texts.0 ≡ string_bytes texts.1) }
     ensures errors { IfErr result (λ e. e ≡ Memory) }
 {
-    current_documents_decide_the_text();
+    two_documents_may_come_in_either_order();
     let forwards = in_order(alloc, one, other)?;
     let backwards = in_order(alloc, other, one)?;
     Ok((forwards, backwards))

@@ -10,8 +10,8 @@ ghost use Rattle.elasticlunr_uses.specs.Pages.{adding_page, adding_text, removin
 
 use crate::order::in_order;
 use crate::page::Page;
-use elasticlunr::laws::current::current_documents_decide_the_text;
 use elasticlunr::{Index, IndexError};
+use elasticlunr_laws::documents::a_compacted_index_prints_as_a_new_one;
 use std::alloc::Global;
 
 /// The text of an index that was brought up to date, and that of a new index of what remains.
@@ -34,7 +34,7 @@ pub fn updated_and_new(
         ≡ string_bytes texts.1) }
     ensures errors { IfErr result (λ e. e ≡ Memory) }
 {
-    current_documents_decide_the_text();
+    a_compacted_index_prints_as_a_new_one();
     let changed = Page {
         reference: changes.reference,
         text: new_text,

@@ -235,20 +235,20 @@ fn write_docs<W: Tokens>(order: Order, postings: &Postings, out: &mut W) -> Resu
         ++ postings_tokens (named order.entry.names.now postings.now)) }
 {
     if postings.len() == 1 {
-        return write_lone(order.names, postings, out);
+        return write_single(order.names, postings, out);
     }
     write_sorted(order, postings, out)
 }
 
 // Writes `df` and `docs` of a node with one posting. There is nothing to sort, so no list is made.
-fn write_lone<W: Tokens>(
+fn write_single<W: Tokens>(
     names: &NameTexts,
     postings: &Postings,
     out: &mut W,
 ) -> Result<(), AllocError>
     requires names { AreNames names.now }
     requires numbered { AreNumbered names.now postings.now }
-    requires lone { len postings.now ≡ 1 }
+    requires single { len postings.now ≡ 1 }
     ensures { OnOk result (W.Tokens.written out.new ≡ W.Tokens.written out.old
         ++ postings_tokens (named names.now postings.now)) }
 {

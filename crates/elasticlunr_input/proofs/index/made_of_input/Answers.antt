@@ -1,6 +1,5 @@
-use Rattle.std.proofs.Common.{◌≡◌, ap, subst, ◌∙◌, Some, IfSome}
+use Rattle.std.proofs.Common.{ap, subst, ◌∙◌, Some, IfSome}
 use Rattle.std.specs.Fmt.{option_append}
-use Rattle.elasticlunr_text.specs.Text.{Bytes}
 use Rattle.elasticlunr_job.proofs.Stops.{err_more, ok_more}
 use Rattle.elasticlunr_diagnostics.specs.Forms.{asked_or_told}
 use Rattle.elasticlunr_input.specs.Indexes.{IsMadeFrom}

@@ -1,4 +1,4 @@
-use Rattle.std.proofs.Common.{rules, ◌≡◌, ◌<◌, ℕ, List, [], length, string_bytes, get_or, ◌+◌, ◌-◌, ◌≤◌, arith}
+use Rattle.std.proofs.Common.{rules, string_bytes}
 use Rattle.elasticlunr_pieces.proofs.Growing.{whole_group}
 use Rattle.elasticlunr_pieces.proofs.cut.cut_from.Goals as goal
 

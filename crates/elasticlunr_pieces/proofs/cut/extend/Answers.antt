@@ -1,4 +1,4 @@
-use Rattle.std.proofs.Common.{rules, ◌≡◌, ◌<◌, ℕ, List, [], length, string_bytes, get_or, ◌+◌, ◌-◌, ◌≤◌, arith}
+use Rattle.std.proofs.Common.{rules, string_bytes, arith}
 use Rattle.elasticlunr_pieces.proofs.Growing.{nothing_yet, one_more}
 use Rattle.elasticlunr_pieces.proofs.cut.extend.Goals as goal
 

@@ -1,4 +1,4 @@
-use Rattle.std.proofs.Common.{◌≡◌, ◌++◌, map, sym, ap, ◌∙◌, append-nil}
+use Rattle.std.proofs.Common.{◌++◌, map, sym, ap, ◌∙◌, append-nil}
 use Rattle.elasticlunr_store.specs.Contents.{text_map}
 use Rattle.elasticlunr_pieces.specs.Numbers.{told_documents}
 use Rattle.elasticlunr_pieces.proofs.Stored.{all_kept}

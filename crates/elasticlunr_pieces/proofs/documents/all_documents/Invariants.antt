@@ -1,6 +1,6 @@
-use Rattle.std.proofs.Common.{◌≡◌, ◌++◌, map, string_bytes}
+use Rattle.std.proofs.Common.{◌≡◌, ◌++◌, map}
 use Rattle.elasticlunr_store.specs.Contents.{text_map}
-use Rattle.elasticlunr_pieces.specs.Numbers.{told_documents, told_texts}
+use Rattle.elasticlunr_pieces.specs.Numbers.{told_documents}
 use Rattle.elasticlunr_pieces.proofs.documents.all_documents.Given as goal
 
 -- what was found so far, and what is left

@@ -1,6 +1,5 @@
 use Rattle.std.proofs.Common.{◌≡◌, ◌++◌, map, string_bytes}
-use Rattle.elasticlunr_store.specs.Contents.{text_map}
-use Rattle.elasticlunr_pieces.specs.Numbers.{told_documents, told_texts}
+use Rattle.elasticlunr_pieces.specs.Numbers.{told_texts}
 use Rattle.elasticlunr_pieces.proofs.documents.references_of.Given as goal
 
 -- what was found so far, and what is left

@@ -1,11 +1,11 @@
-use Rattle.std.proofs.Common.{◌≡◌, ◌∷◌, ◌++◌, [], codes, map, string_bytes, refl, sym, ap, ◌∙◌}
+use Rattle.std.proofs.Common.{◌≡◌, ◌∷◌, ◌++◌, [], codes, refl, ap, ◌∙◌}
 use Rattle.json.specs.Print.{print}
 use Rattle.json.specs.Token.{Token, key}
 use Rattle.json.specs.Tree.{json_tokens, members_tokens}
-use Rattle.serde_json.specs.Data.{Members, no_members, member, array, string, boolean}
+use Rattle.serde_json.specs.Data.{no_members, member, array, string, boolean}
 use Rattle.serde_json.specs.Written.{outline, members_outline}
 use Rattle.serde_json.proofs.Texts.{print-outline}
-use Rattle.elasticlunr_pieces.specs.Head.{all_lengths, counts, head_members, head_value}
+use Rattle.elasticlunr_pieces.specs.Head.{all_lengths, counts, head_value}
 use Rattle.elasticlunr_pieces.specs.HeadTokens.{beginnings_of, WritesMember}
 use Rattle.elasticlunr_pieces.specs.Numbers.{told_texts}
 use Rattle.elasticlunr_print.specs.Parts.{plan_of_parts}

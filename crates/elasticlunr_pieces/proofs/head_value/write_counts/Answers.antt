@@ -1,12 +1,10 @@
-use Rattle.std.proofs.Common.{◌≡◌, ◌++◌, ◌∷◌, [], codes, drop, map, string_bytes, sym, ap, ◌∙◌}
+use Rattle.std.proofs.Common.{◌≡◌, ◌++◌, ◌∷◌, [], sym, ap, ◌∙◌}
 use Rattle.std.proofs.lemmas.List.{drop_all}
 use Rattle.json.specs.Token.{Token}
 use Rattle.json.specs.Tree.{items_tokens, json_tokens}
 use Rattle.serde_json.specs.Data.{array}
 use Rattle.serde_json.specs.Written.{items_outline, outline}
-use Rattle.elasticlunr_pieces.specs.Head.{all_lengths, counts, field_lengths}
-use Rattle.elasticlunr_pieces.specs.Numbers.{told_texts}
-use Rattle.elasticlunr_print.specs.Printed.{texts}
+use Rattle.elasticlunr_pieces.specs.Head.{counts}
 use Rattle.elasticlunr_print.proofs.Writing.{joined, ok_then}
 use Rattle.elasticlunr_pieces.proofs.head_value.write_counts.Goals as goal
 

@@ -1,9 +1,7 @@
-use Rattle.std.proofs.Common.{◌≡◌, ◌++◌, drop, map, string_bytes}
+use Rattle.std.proofs.Common.{◌≡◌, ◌++◌, drop}
 use Rattle.json.specs.Tree.{items_tokens}
 use Rattle.serde_json.specs.Written.{items_outline}
-use Rattle.elasticlunr_pieces.specs.Head.{all_lengths, counts, field_lengths}
-use Rattle.elasticlunr_pieces.specs.Numbers.{told_texts}
-use Rattle.elasticlunr_print.specs.Printed.{texts}
+use Rattle.elasticlunr_pieces.specs.Head.{counts}
 use Rattle.elasticlunr_pieces.proofs.head_value.write_counts.Given as goal
 
 -- what was written, and the items that are left

@@ -1,4 +1,4 @@
-use Rattle.std.proofs.Common.{◌≡◌, ◌||◌, string_bytes, ap, sym, ◌∙◌}
+use Rattle.std.proofs.Common.{◌||◌, string_bytes, ap, sym, ◌∙◌}
 use Rattle.std.specs.Vec.Iter.{into_iter_items}
 use Rattle.elasticlunr_error.specs.Text.{bytes_of, is_listed}
 use Rattle.elasticlunr_pieces.proofs.Listed.{token_put}

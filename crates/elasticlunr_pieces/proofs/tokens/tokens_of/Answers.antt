@@ -1,8 +1,8 @@
-use Rattle.std.proofs.Common.{◌≡◌, ◌↔◌, ◌+◌, ◌∷◌, [], drop, sym, ap, subst, ◌∙◌}
+use Rattle.std.proofs.Common.{◌≡◌, ◌↔◌, ◌+◌, ◌∷◌, [], drop, sym, subst}
 use Rattle.std.specs.Prelude.{IsTrue}
 use Rattle.std.proofs.lemmas.List.{drop_all}
 use Rattle.std.proofs.lemmas.Str.{chars-nil}
-use Rattle.elasticlunr_error.specs.Text.{Text, bytes_of, is_listed, texts_of}
+use Rattle.elasticlunr_error.specs.Text.{Text, is_listed, texts_of}
 use Rattle.elasticlunr_trie.specs.Tokens.{IsTokenFrom}
 use Rattle.elasticlunr_pieces.proofs.Listed.{all_so_far, one_table_more, HasSoFar}
 use Rattle.elasticlunr_pieces.proofs.Writing.{drop_step, if_both}

@@ -1,4 +1,4 @@
-use Rattle.std.proofs.Common.{◌≡◌, ◌++◌, ◌+◌, ◌∷◌, [], List, ℕ, drop, map, sym, ap, ◌∙◌, get_or, drop-cons, add-one}
+use Rattle.std.proofs.Common.{◌≡◌, ◌++◌, ◌+◌, ◌∷◌, [], List, ℕ, drop, sym, ap, ◌∙◌, get_or, drop-cons, add-one}
 use Rattle.std.proofs.lemmas.List.{drop_all}
 use Rattle.std.specs.Borrow.{Bor}
 use Rattle.json.specs.Token.{begin_array}
@@ -6,7 +6,6 @@ use Rattle.json.specs.Tree.{items_tokens, json_tokens}
 use Rattle.serde_json.specs.Data.{array}
 use Rattle.serde_json.specs.Written.{items_outline, outline}
 use Rattle.elasticlunr_error.specs.Text.{Bytes}
-use Rattle.elasticlunr_json.specs.Tokens.{WritesValue}
 use Rattle.elasticlunr_print.proofs.Writing.{joined, ok_then}
 use Rattle.elasticlunr_trie.specs.Tokens.{told_postings}
 use Rattle.elasticlunr_pieces.specs.Entries.{numbered}

@@ -2,12 +2,12 @@ use Rattle.std.proofs.Common.{◌∷◌, [], codes, string_bytes, refl, subst}
 use Rattle.std.specs.Str.{chars}
 use Rattle.elasticlunr.specs.Trimmed.{unless_empty}
 use Rattle.elasticlunr.specs.Words.{words}
+use Rattle.elasticlunr.proofs.Calling.{document_more}
 use Rattle.elasticlunr.proofs.Holding.{if_ok}
 use Rattle.elasticlunr.specs.Choices.{fields_plan}
 use Rattle.elasticlunr.specs.History.{none, ◌▸◌, add}
 use Rattle.elasticlunr.specs.Printed.{IsPrintOf}
-use Rattle.elasticlunr_uses.proofs.Documents.{read_as}
-use Rattle.elasticlunr_uses.proofs.Stages.{names_are, trims_and_leaves}
+use Rattle.elasticlunr_laws.proofs.Stages.{names_are, trims_and_leaves}
 use Rattle.elasticlunr_uses.proofs.own.text_of_words.Goals as goal
 
 pub returns-clause-text : goal.returns-clause-text
@@ -20,6 +20,6 @@ returns-clause-text c =
       subst (λ names. IsPrintOf (fields_plan (codes "Plain") names (codes "about" ∷ [])) (none ▸ add is.0)
           (string_bytes text)) (names_are own _ there _ c.in_ok-queue.queue.items stages (codes "dropEmpty")
           (λ value. refl)) is.1,
-      read_as (codes "about" ∷ []) (codes "id") _ _ (λ i value tokens read. trims_and_leaves own _ there _ unless_empty
+      document_more _ _ _ _ (λ i value tokens read. trims_and_leaves own _ there _ unless_empty
           (λ token v. refl) c.in_ok-queue.queue.items stages (words (chars value)) tokens read) _ _ is.0 is.2,
     )) c.text_with_pipeline.ensures.text

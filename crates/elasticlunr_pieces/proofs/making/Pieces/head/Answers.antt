@@ -1,4 +1,4 @@
-use Rattle.std.proofs.Common.{◌≡◌, refl, string_bytes, ◌∙◌}
+use Rattle.std.proofs.Common.{refl, string_bytes, ◌∙◌}
 use Rattle.serde_json.specs.Written.{compact_text}
 use Rattle.elasticlunr_error.specs.Text.{bytes_of}
 use Rattle.elasticlunr_print.specs.Parts.{plan_of_parts}

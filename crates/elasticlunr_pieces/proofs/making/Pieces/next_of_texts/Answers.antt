@@ -1,4 +1,4 @@
-use Rattle.std.proofs.Common.{◌≡◌, ◌++◌, length, string_bytes, refl, subst, arith}
+use Rattle.std.proofs.Common.{◌++◌, string_bytes, refl, subst, arith}
 use Rattle.std.proofs.lemmas.List.{length-map}
 use Rattle.sha2.specs.Hashers.{Holds256}
 use Rattle.elasticlunr_json.proofs.Seen.{on_err}

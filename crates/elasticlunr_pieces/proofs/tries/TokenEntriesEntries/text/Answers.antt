@@ -1,7 +1,7 @@
-use Rattle.std.proofs.Common.{◌≡◌, ◌<◌, [], length, map, get_or, string_bytes, sym, ap, ◌∙◌, arith}
+use Rattle.std.proofs.Common.{◌≡◌, ◌<◌, [], length, get_or, string_bytes, sym, ap, ◌∙◌, arith}
 use Rattle.std.proofs.lemmas.List.{length-map}
 use Rattle.elasticlunr_error.specs.Text.{bytes_of}
-use Rattle.elasticlunr_pieces.specs.EntryTexts.{token_text_of, token_texts}
+use Rattle.elasticlunr_pieces.specs.EntryTexts.{token_text_of}
 use Rattle.elasticlunr_pieces.specs.Numbers.{told_texts}
 use Rattle.elasticlunr_pieces.proofs.Numbering.{mapped_at}
 use Rattle.elasticlunr_pieces.proofs.Writing.{if_ok}

@@ -1,0 +1,5 @@
+pub mod Names
+pub mod Boosts
+pub mod InOrder
+pub mod Kept
+pub mod Texts

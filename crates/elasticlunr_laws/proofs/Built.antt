@@ -1,0 +1,78 @@
+-- The settings of an index that was built, and what it then reads.
+use Rattle.std.proofs.Common.{◌≡◌, ◌↔◌, ℕ, zero, suc, List, [], ◌∷◌, Bool, Option, None, Some, IsTrue, filter_map, subst}
+use Rattle.std.specs.List.{AllByRecursion, AllZip, slice_get}
+use Rattle.std.specs.Str.{all_scalars, chars}
+use Rattle.elasticlunr.specs.Choices.{Choices, IsBuiltBy, IsMadeAt, Reads}
+use Rattle.elasticlunr.specs.Documents.{IsDocument}
+use Rattle.elasticlunr.specs.History.{Document}
+use Rattle.elasticlunr.specs.Reading.{LanguageReads, ReadsOnly}
+use Rattle.elasticlunr.specs.Text.{Text, Bytes}
+use Rattle.elasticlunr.proofs.Calling.{document_more}
+use Rattle.elasticlunr.proofs.Reading.{leaves_as}
+
+-- the same with this pipeline
+abbrev pub piped : {L P T : Type 0} → P → Choices L (Option P) T → Choices L (Option P) T
+piped pipeline given = record given { pipeline = Some pipeline }
+
+-- it has what the builder was given, and this pipeline
+pub built_with : {L P T : Type 0} (given : Choices L (Option P) T) (built : Choices L P T) → IsBuiltBy given built
+    → (pipeline : P) → built.pipeline ≡ pipeline → built ≡ record {
+      language = given.language;
+      pipeline = pipeline;
+      fields = given.fields;
+      tokenizers = given.tokenizers;
+      reference_field = given.reference_field;
+      save = given.save;
+    }
+built_with given built is pipeline own = λ i. record {
+  language = is.language i;
+  pipeline = own i;
+  fields = is.fields i;
+  tokenizers = is.tokenizers i;
+  reference_field = is.reference_field i;
+  save = is.save i;
+}
+
+-- the document of an index of one field without a tokenizer: what its pipeline leaves of the language's tokens
+pub document_of_run : {L P T : Type 0} (tokens_of : L → Text → List Text) (answers : T → Bytes → List Text → Type 0)
+    (runs : P → List Text → List Text → Type 0) (index : Choices L P T) (r : Bytes) (values : List Bytes) (d : Document)
+    → IsDocument index.fields index.reference_field (Reads tokens_of answers runs index) r values d → (language : L)
+    (pipeline : P) (field reference_field : Bytes) (save : Bool) → index ≡ record {
+      language = language;
+      pipeline = pipeline;
+      fields = field ∷ [];
+      tokenizers = None ∷ [];
+      reference_field = reference_field;
+      save = save;
+    } → IsDocument (field ∷ []) reference_field
+    (λ _ value tokens. runs pipeline (tokens_of language (chars value)) tokens) r values d
+document_of_run {L} {P} {T} tokens_of answers runs index r values d is language pipeline field reference_field save built =
+    document_more _ _ _ _ read r values d
+    (subst (λ ch. IsDocument ch.fields ch.reference_field (Reads tokens_of answers runs ch) r values d) built is) where
+      by_place : (i : ℕ) (value : Bytes) (made : List Text) → IsMadeAt tokens_of answers language
+          (slice_get {X = Option T} (None ∷ []) i) value made → made ≡ tokens_of language (chars value)
+      by_place zero value made is = is
+      by_place (suc i) value made is = absurd is
+
+      read : ReadsOnly (Reads tokens_of answers runs (record {
+        language = language;
+        pipeline = pipeline;
+        fields = field ∷ [];
+        tokenizers = None ∷ [];
+        reference_field = reference_field;
+        save = save;
+      })) (λ _ value tokens. runs pipeline (tokens_of language (chars value)) tokens)
+      read i value tokens was = subst (λ made. runs pipeline made tokens) (by_place i value was.made was.tokenized)
+          was.left
+
+-- what stages leave of tokens is what a language reads that leaves the same of them
+pub left_as : (M R : Text → Option Text → Type 0) → ((token : Text) (left : Option Text) → IsTrue (all_scalars token)
+    → M token left ↔ R token left)
+    → (made tokens : List Text) → AllByRecursion (λ token. IsTrue (all_scalars token)) made
+    → (lefts : List (Option Text)) × AllZip M made lefts × (tokens ≡ filter_map (λ left. left) lefts)
+    → (makes : Text → List Text) (i : ℕ) (value : Bytes) → made ≡ makes (chars value) → LanguageReads makes R i value tokens
+left_as M R same made tokens are ran makes i value is = record {
+  lefts = ran.0;
+  each = subst (λ ts. AllZip R ts ran.0) is (leaves_as M R (λ token left t. (same token left t).0) made ran.0 are ran.1);
+  are = ran.2;
+}

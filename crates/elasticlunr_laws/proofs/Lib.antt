@@ -1,0 +1,6 @@
+pub mod Built
+pub mod ByTexts
+pub mod Differing
+pub mod OneMore
+pub mod OneToken
+pub mod Stages

@@ -1,0 +1,72 @@
+"""How much longer a program takes for an input twice as long.
+
+The seconds of the processor tell it quickly. Where they say too many times, other programs that run at the same time may be
+why: then valgrind counts the instructions of a run of each, and these decide.
+"""
+import glob
+import os
+import shutil
+
+from bench.measure import measured
+from tools.repository import read
+
+TIMES = 2.6  # times as long, at most
+LEAST = 0.05  # seconds of the longer run, below which a time says nothing
+LONGEST = 15  # seconds, after which no other run is made
+COUNTING = ["valgrind", "--quiet", "--tool=cachegrind", "--cache-sim=no", "--trace-children=yes"]
+
+
+class Runs:
+    """Runs of a command on a file, and the least seconds of the processor of one."""
+
+    def __init__(self, command, given, printed):
+        self.command, self.given, self.printed = command, given, printed
+        self.seconds, self.megabytes = LONGEST, 0
+
+    def begin(self):
+        """What is done before each run."""
+
+    def wrong(self, status):
+        """What is wrong with the last run, which ended with this status."""
+        raise NotImplementedError
+
+    def run(self):
+        """Runs the command once, and says what is wrong with its answer."""
+        self.begin()
+        ended = measured(self.command, self.given, self.printed)
+        self.seconds, self.megabytes = min(self.seconds, ended.processor), ended.megabytes
+        return self.wrong(ended.status)
+
+    def instructions(self):
+        """The instructions of one run, those of the programs that it starts among them."""
+        self.begin()
+        counts = self.printed + ".instructions."
+        measured([*COUNTING, f"--cachegrind-out-file={counts}%p", *self.command], self.given, self.printed)
+        return sum(int(read(path).rsplit("summary:", 1)[1].split()[0]) for path in glob.glob(glob.escape(counts) + "*"))
+
+
+def growth(short, long, count):
+    """Runs both so often. Gives what is wrong with an answer, how many times as long the longer one took, and what that was
+    read off."""
+    for _ in range(count):
+        wrong = short.run() or long.run()
+        if wrong or long.seconds >= LONGEST:
+            break
+    times = long.seconds / max(short.seconds, 0.001)
+    of_what = f"{short.seconds:.2f} and {long.seconds:.2f} s"
+    if not wrong and times > TIMES and long.seconds < LONGEST and shutil.which(COUNTING[0]):
+        fewer, more = short.instructions(), long.instructions()
+        times, of_what = more / max(fewer, 1), f"{of_what}, {fewer / 1e6:.0f} and {more / 1e6:.0f} million instructions"
+    if not wrong and long.seconds < LEAST:
+        wrong = "no time"
+    return wrong, times, of_what
+
+
+def check_growth(said, grown, more, results):
+    """Notes whether the answers are right, and the longer run didn't take too long. What passes is printed."""
+    wrong, times, of_what = grown
+    line = f"{said}: {of_what}, {times:.1f} times{more}"
+    is_good = not wrong and times <= TIMES
+    results.note(is_good, f"{line}: {wrong or f'{TIMES} times are the most'}")
+    if is_good:
+        print(line, flush=True)

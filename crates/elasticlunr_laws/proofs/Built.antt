@@ -65,6 +65,38 @@ document_of_run {L} {P} {T} tokens_of answers runs index r values d is language 
       read i value tokens was = subst (λ made. runs pipeline made tokens) (by_place i value was.made was.tokenized)
           was.left
 
+-- the document of an index of two fields, of which the first has a tokenizer: each is read so
+pub document_of_two : {L P T : Type 0} (tokens_of : L → Text → List Text) (answers : T → Bytes → List Text → Type 0)
+    (runs : P → List Text → List Text → Type 0) (index : Choices L P T) (r : Bytes) (values : List Bytes) (d : Document)
+    → IsDocument index.fields index.reference_field (Reads tokens_of answers runs index) r values d → (language : L)
+    (pipeline : P) (own : T) (field other reference_field : Bytes) (save : Bool) → index ≡ record {
+      language = language;
+      pipeline = pipeline;
+      fields = field ∷ other ∷ [];
+      tokenizers = Some own ∷ None ∷ [];
+      reference_field = reference_field;
+      save = save;
+    } → (reads : ℕ → Bytes → List Text → Type 0)
+    → ((value : Bytes) (made tokens : List Text) → AllByRecursion (λ token. IsTrue (all_scalars token)) made
+    → answers own value made → runs pipeline made tokens → reads zero value tokens)
+    → ((value : Bytes) (made tokens : List Text) → AllByRecursion (λ token. IsTrue (all_scalars token)) made
+    → made ≡ tokens_of language (chars value) → runs pipeline made tokens → reads 1 value tokens)
+    → IsDocument (field ∷ other ∷ []) reference_field reads r values d
+document_of_two {L} {P} {T} tokens_of answers runs index r values d is language pipeline own field other reference_field save
+    built reads first second = document_more _ _ _ _ read r values d
+    (subst (λ ch. IsDocument ch.fields ch.reference_field (Reads tokens_of answers runs ch) r values d) built is) where
+      read : ReadsOnly (Reads tokens_of answers runs (record {
+        language = language;
+        pipeline = pipeline;
+        fields = field ∷ other ∷ [];
+        tokenizers = Some own ∷ None ∷ [];
+        reference_field = reference_field;
+        save = save;
+      })) reads
+      read zero value tokens was = first value was.made tokens was.are_texts was.tokenized was.left
+      read (suc zero) value tokens was = second value was.made tokens was.are_texts was.tokenized was.left
+      read (suc (suc i)) value tokens was = absurd was.tokenized
+
 -- what stages leave of tokens is what a language reads that leaves the same of them
 pub left_as : (M R : Text → Option Text → Type 0) → ((token : Text) (left : Option Text) → IsTrue (all_scalars token)
     → M token left ↔ R token left)

@@ -5,6 +5,7 @@ use crate::answer::Answer;
 use crate::call::Call;
 use crate::handed_in::{CopyAllButB, Tokenizer, copy_all_but_b, whole_without_b};
 use crate::indexes::Site;
+use crate::listed::{Line, Listed};
 use crate::stages::Stages;
 use crate::subject::{self, Subject};
 use elasticlunr::lang::English;
@@ -43,18 +44,18 @@ impl Subject for EnglishSite {
     }
 }
 
-pub fn index(rt: &HostRuntime) -> io::Result<()> {
+pub fn index(rt: &HostRuntime, listed: &mut Listed<'_>) -> io::Result<()> {
     let queue = Vec::with_capacity(rt.alloc(), MOST_STAGES)?;
-    subject::run(rt, &mut EnglishSite::new(Pipeline { queue }))
+    subject::run(rt, listed, &mut EnglishSite::new(Pipeline { queue }))
 }
 
-pub fn pipeline(rt: &HostRuntime) -> io::Result<()> {
+pub fn pipeline(rt: &HostRuntime, listed: &mut Listed<'_>) -> io::Result<()> {
     let queue = Vec::with_capacity(rt.alloc(), MOST_STAGES)?;
-    subject::run(rt, &mut Stages::new(rt.alloc(), Pipeline { queue }))
+    subject::run(rt, listed, &mut Stages::new(rt.alloc(), Pipeline { queue }))
 }
 
 /// An index whose pipeline may be a function.
-pub fn index_with_function(rt: &HostRuntime) -> io::Result<()> {
+pub fn index_with_function(rt: &HostRuntime, listed: &mut Listed<'_>) -> io::Result<()> {
     let name = String::from_str(rt.alloc(), "copy")?;
     let wrapper = FnWrapper {
         name,
@@ -62,10 +63,10 @@ pub fn index_with_function(rt: &HostRuntime) -> io::Result<()> {
     };
     let mut queue = Vec::with_capacity(rt.alloc(), MOST_STAGES)?;
     queue.push(Stage::Function(wrapper))?;
-    subject::run(rt, &mut EnglishSite::new(Pipeline { queue }))
+    subject::run(rt, listed, &mut EnglishSite::new(Pipeline { queue }))
 }
 
-pub fn pipeline_with_function(rt: &HostRuntime) -> io::Result<()> {
+pub fn pipeline_with_function(rt: &HostRuntime, listed: &mut Listed<'_>) -> io::Result<()> {
     let name = String::from_str(rt.alloc(), "copy")?;
     let wrapper = FnWrapper {
         name,
@@ -73,53 +74,53 @@ pub fn pipeline_with_function(rt: &HostRuntime) -> io::Result<()> {
     };
     let mut queue = Vec::with_capacity(rt.alloc(), MOST_STAGES)?;
     queue.push(Stage::Function(wrapper))?;
-    subject::run(rt, &mut Stages::new(rt.alloc(), Pipeline { queue }))
+    subject::run(rt, listed, &mut Stages::new(rt.alloc(), Pipeline { queue }))
 }
 
 /// An index whose pipeline may be an object.
-pub fn index_with_object(rt: &HostRuntime) -> io::Result<()> {
+pub fn index_with_object(rt: &HostRuntime, listed: &mut Listed<'_>) -> io::Result<()> {
     let own: Box<dyn PipelineFn> = Box::new(rt.alloc(), CopyAllButB {})?;
     let mut queue = Vec::with_capacity(rt.alloc(), MOST_STAGES)?;
     queue.push(Stage::Own(own))?;
-    subject::run(rt, &mut EnglishSite::new(Pipeline { queue }))
+    subject::run(rt, listed, &mut EnglishSite::new(Pipeline { queue }))
 }
 
-pub fn pipeline_with_object(rt: &HostRuntime) -> io::Result<()> {
+pub fn pipeline_with_object(rt: &HostRuntime, listed: &mut Listed<'_>) -> io::Result<()> {
     let own: Box<dyn PipelineFn> = Box::new(rt.alloc(), CopyAllButB {})?;
     let mut queue = Vec::with_capacity(rt.alloc(), MOST_STAGES)?;
     queue.push(Stage::Own(own))?;
-    subject::run(rt, &mut Stages::new(rt.alloc(), Pipeline { queue }))
+    subject::run(rt, listed, &mut Stages::new(rt.alloc(), Pipeline { queue }))
 }
 
 /// An index whose first field, `title`, has a tokenizer.
-pub fn index_with_tokenizer(rt: &HostRuntime) -> io::Result<()> {
+pub fn index_with_tokenizer(rt: &HostRuntime, listed: &mut Listed<'_>) -> io::Result<()> {
     let queue = Vec::with_capacity(rt.alloc(), MOST_STAGES)?;
     let mut site = EnglishSite::new(Pipeline { queue });
     let mut line = String::new(rt.alloc());
-    rt.read_line(&mut line)?;
-    let made = IndexBuilder::<English>::new(rt.alloc());
+    listed.next_line(rt, &mut line)?;
+    let line = Line::new(line.as_str());
     let tokenizer: Tokenizer = Box::new(rt.alloc(), whole_without_b)?;
-    add_tokenizer(rt, &mut site, line.as_str().trim(), made, tokenizer)?;
-    subject::run(rt, &mut site)
+    add_tokenizer(rt, listed, line, &mut site, tokenizer)?;
+    subject::run(rt, listed, &mut site)
 }
 
 /// The call that comes first, `add_field_with_tokenizer`.
 fn add_tokenizer(
     rt: &HostRuntime,
+    listed: &mut Listed<'_>,
+    line: Line<'_>,
     site: &mut EnglishSite,
-    call: &str,
-    made: Result<IndexBuilder<English>, IndexError>,
     tokenizer: Tokenizer,
 ) -> io::Result<()>
     requires callable { Tokenizer.IsAlwaysCallable tokenizer }
     requires one_answer { HasOneAnswer (Tokenizer.post tokenizer) }
 {
-    let Ok(builder) = made else {
-        return subject::not_made(rt, call);
+    let Ok(builder) = IndexBuilder::<English>::new(rt.alloc()) else {
+        return subject::not_made(rt, listed, line);
     };
-    let begun = rt.print(call);
+    let begun = rt.print(line.call);
     let added = builder.add_field_with_tokenizer("title", tokenizer);
     let ended = rt.print(" -> ");
-    let told = subject::tell(rt, site.site.put_builder(added));
+    let told = subject::tell(rt, listed, line, site.site.put_builder(added));
     begun.and(ended).and(told)
 }

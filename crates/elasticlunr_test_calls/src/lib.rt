@@ -1,4 +1,4 @@
-//! Makes the calls of the library that standard input lists, and prints what each returns.
+//! Makes the calls of the library that standard input lists, or those of the table, and prints what each returns.
 #![tactic(auto)]
 
 #[cfg(test)]
@@ -14,6 +14,8 @@ mod indexes;
 #[cfg(test)]
 mod languages;
 #[cfg(test)]
+mod listed;
+#[cfg(test)]
 mod options;
 #[cfg(test)]
 mod rows;
@@ -25,6 +27,8 @@ mod stores;
 mod subject;
 #[cfg(test)]
 mod table;
+#[cfg(test)]
+mod text;
 #[cfg(test)]
 mod texts;
 #[cfg(test)]

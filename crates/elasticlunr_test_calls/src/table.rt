@@ -1,17 +1,35 @@
-//! The rows of the table, one after the other.
+//! The rows, one after the other.
+use crate::listed::Listed;
 use crate::rows;
+use crate::text::ROWS;
 use std::io;
 
-/// Makes the calls that standard input lists; none where that is empty.
+/// How many calls the table has, at least.
+const CALLS: u64 = 1_417;
+
+/// Makes the calls that standard input lists. Where that is empty, makes those of the table: each
+/// has to answer what its line says.
 #[test]
 fn calls(rt: HostRuntime) -> io::Result<()> {
-    let mut line = String::new(rt.alloc());
-    for _ in 0..u64::MAX {
-        line.clear();
-        if rt.read_line(&mut line)? == 0 {
-            break;
-        }
-        rows::row(&rt, line.as_str().trim())?;
+    let mut listed = Listed::on_input();
+    if make_all(&rt, &mut listed)? > 0 {
+        return Ok(());
     }
+    let mut table = Listed::in_table(ROWS);
+    make_all(&rt, &mut table)?;
+    assert!(rt; table.wrong == 0);
+    assert!(rt; table.right >= CALLS);
     Ok(())
+}
+
+/// Makes the calls of all rows. How many rows there are.
+fn make_all(rt: &HostRuntime, listed: &mut Listed<'_>) -> io::Result<u64> {
+    let mut line = String::new(rt.alloc());
+    for count in 0..u64::MAX {
+        if !listed.next_line(rt, &mut line)? {
+            return Ok(count);
+        }
+        rows::row(rt, listed, line.as_str().trim())?;
+    }
+    Ok(u64::MAX)
 }

@@ -1,11 +1,20 @@
 //! A custom stage, language and tokenizer.
 
 ghost use Rattle.std.specs.Prelude.{◌≡◌, ◌⊎◌, ◌∷◌, [], Err, IfErr, IfOk, IsTrue, codes};
+ghost use Rattle.std.specs.Prelude.{string_bytes};
+ghost use Rattle.elasticlunr.specs.AnyLanguage.TheVariants.{English as english};
 ghost use Rattle.elasticlunr.specs.Builder.{chosen};
+ghost use Rattle.elasticlunr.specs.Choices.{beginning, fields_plan};
+ghost use Rattle.elasticlunr.specs.Documents.{IsDocument};
 ghost use Rattle.elasticlunr.specs.Fields.{has_name};
+ghost use Rattle.elasticlunr.specs.History.{Document, none, ◌▸◌, add};
 ghost use Rattle.elasticlunr.specs.IndexError.TheVariants.{DuplicateField, Memory};
+ghost use Rattle.elasticlunr.specs.Known.{language_name, language_stages};
 ghost use Rattle.elasticlunr.specs.OneAnswer.{HasOneAnswer};
+ghost use Rattle.elasticlunr.specs.Printed.{IsPrintOf};
 ghost use Rattle.elasticlunr.specs.Text.{bytes_of};
+ghost use Rattle.elasticlunr.specs.Tokenizers.{Answers};
+ghost use Rattle.elasticlunr_uses.specs.Titles.{ReadsTitles};
 
 use elasticlunr::lang::{English, tokenize_whitespace};
 use elasticlunr::pipeline::{Pipeline, PipelineFn, Stage};
@@ -86,7 +95,9 @@ pub fn whole(alloc: Global, text: &str) -> Result<Vec<String>, AllocError>
     Ok(tokens)
 }
 
-/// The text of an index of titles as they stand, and of the words of bodies.
+/// The text of an index of titles, of which a tokenizer makes the tokens, and of bodies. Proved of a
+/// builder to which nothing was given yet: the text is that of one document, whose title has what
+/// English leaves of the tokenizer's tokens, and whose body has what it leaves of words.
 pub fn index_with_tokenizer(
     builder: IndexBuilder<English>,
     tokenizer: Tokenize,
@@ -97,6 +108,14 @@ pub fn index_with_tokenizer(
         → IsTrue (has_name (codes "title") (chosen builder).fields)
         ⊎ IsTrue (has_name (codes "body") (chosen builder).fields) }
     ensures errors { IfErr result (λ e. (e ≡ DuplicateField) ⊎ (e ≡ Memory)) }
+    ensures text { (language : English) → chosen builder ≡ beginning language
+        → IfOk result (λ text. (document : Document)
+        × IsPrintOf (fields_plan (language_name english) (language_stages english)
+        (codes "title" ∷ codes "body" ∷ []))
+        (none ▸ add document) (string_bytes text)
+        × IsDocument (codes "title" ∷ codes "body" ∷ []) (codes "id")
+        (ReadsTitles (Answers (Tokenize.post tokenizer)))
+        (codes "1") (codes "New York" ∷ codes "New York" ∷ []) document) }
 {
     let mut index = builder
         .add_field_with_tokenizer("title", tokenizer)?

@@ -1,4 +1,7 @@
-InvertedIndex: knows what was added
+//! The table of calls, and what each returns. docs/TABLES.md says how a row is written.
+
+/// The rows.
+pub const ROWS: &str = r##"InvertedIndex: knows what was added
 ["has_token",""] -> true
 ["get_docs",""] -> {}
 ["get_docs","foo"] -> null
@@ -621,7 +624,7 @@ functions: the words of texts
 ["tokenize_whitespace"," 한글 사랑 "] -> ["한글","사랑"]
 ["tokenize_whitespace",""] -> []
 ["tokenize_whitespace","İZMİR-ÇAĞ"] -> ["i̇zmi̇r","çağ"]
-["tokenize_whitespace","a b c　d-‐e"] -> ["a","b","c","d","‐e"]
+["tokenize_whitespace","a b\u2028c　d-‐e"] -> ["a","b","c","d","‐e"]
 ["tokenize_whitespace","ŸÁ×ÞŽẞΑ"] -> ["ÿá×þžẞΑ"]
 ["tokenize_whitespace","İZMİR-ÇAĞ  take the New York-San Francisco flight - "] -> ["i̇zmi̇r","çağ","take","the","new","york","san","francisco","flight"]
 
@@ -1713,3 +1716,4 @@ Index of Korean
 Index of Korean: a name that stands twice is refused
 ["Index::with_language","a","a"] -> refused: duplicate field
 
+"##;

@@ -35,6 +35,7 @@ GROUPS = [
     ["orders"],
     ["one_hash"],
     ["command"],
+    ["site"],
     ["check_jobs"],
     ["check_gate"],
 ]
@@ -47,12 +48,13 @@ LEAST = {
     "compare_random": 13_000,
     "refuse_memory": 2_000,
     "refuse_calls": 146,
-    "forgeries": 87,
+    "forgeries": 95,
     "long_inputs": 9,
     "orders": 200,
     "one_hash": 3,
     "check_docs": 830,
     "command": 210,
+    "site": 460,
     "check_jobs": 150,
     "check_gate": 38,
 }

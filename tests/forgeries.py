@@ -336,6 +336,29 @@ def forged_readers(folder):
     yield Forgery("a program that crashes", "pieces", "^pieces: elasticlunr_index prints no index: ", "crashes", ("--indexes", "20"))
 
 
+# Readers of HTML: a file of python/elasticlunr, a text of it, what it is replaced by, the case, and what the check must say
+HTML_READERS = {
+    "a reader that keeps what stands around a text": ("pages.py", 'HIDDEN = set("nav header', 'HIDDEN = set("aside', "around the text", "page, what stands"),
+    "a reader that gives up at a fault": ("pages.py", "return self.parse_bogus_comment(i, report)", "raise KeyError(i)", "damage", r"page, damage \d+: KeyError"),
+    "a reader that takes each page for UTF-8": ("pages.py", 'codecs.lookup(label or "utf-8")', 'codecs.lookup("utf-8")', "windows-1252", "page, windows-1252"),
+    "a reader that finds no sections": ("pages.py", "if part.is_heading and part.anchor:", "if part.anchor == part:", "sections", "page, sections: "),
+    "a site whose addresses are names": ("site.py", "safe=IN_ADDRESSES)}", "safe='#% ')}", "a folder", "site, --sections: "),
+    "a site of one language": ("site.py", "LANGUAGES.get(code, self.default)", "self.default", "a folder", "site, pages: "),
+}
+
+
+def forged_sites(folder):
+    for name, (file, old, new, case, says) in HTML_READERS.items():
+        top = os.path.join(folder, name.replace(" ", "-"))
+        for part in ("tests", "tools", "python"):
+            shutil.copytree(os.path.join(TOP, part), os.path.join(top, part), ignore=shutil.ignore_patterns("__pycache__"))
+        os.symlink(os.path.join(TOP, "crates"), os.path.join(top, "crates"))
+        text = read(f"python/elasticlunr/{file}")
+        assert text.count(old) == 1, f"python/elasticlunr/{file} hasn't {old} once"
+        write(os.path.join(top, "python", "elasticlunr", file), text.replace(old, new))
+        yield Forgery(name, "site", f"^{says}", arguments=(case,), top=top)
+
+
 def forged_tables(folder):
     rows = lines_of(tables.JOBS)[-ROWS:]
     forged = [
@@ -452,6 +475,7 @@ def forgeries(folder):
     yield from forged_orders()
     yield from forged_commands(folder)
     yield from forged_tables(folder)
+    yield from forged_sites(folder)
     yield from forged_docs(folder)
     yield from forged_searches()
     yield from forged_readers(folder)

@@ -12,6 +12,8 @@ or of a test that failed is shown, too; then the checks are stopped and count fo
 (tests/checks.py) is shown as it comes, and follows in the log. If `rt ci` doesn't say of each program that it is built, the
 checks begin after its end.
 
+At the end of `rt ci` a line says how long it took, and how long the processors worked for it.
+
 A mutant that can't be applied, or that is refused only because a proof names what it took away, shows nothing of a
 contract. `rt ci` passes it; the gate names it, counts it and fails.
 
@@ -19,6 +21,7 @@ The last lines say what failed.
 """
 import os
 import re
+import resource
 import shutil
 import signal
 import subprocess
@@ -190,6 +193,9 @@ def prove(log, checks):
     status = gate.wait()
     if status:
         show(said[-SHOWN:])
+    used = resource.getrusage(resource.RUSAGE_CHILDREN)
+    minutes, of_processors = (time.monotonic() - begun) / 60, (used.ru_utime + used.ru_stime) / 60
+    show([f"  rt ci took {minutes:.0f} minutes, and {of_processors:.0f} minutes of the processors"])
     return Proved(status, line, failures)
 
 

@@ -1,0 +1,1 @@
+"""Search indexes of folders of HTML: `python3 -m elasticlunr.site`."""

@@ -5,7 +5,7 @@ PROGRAM = crates/elasticlunr_index/out/elasticlunr_index
 COMMAND = crates/elasticlunr_cli/out/elasticlunr_cli
 PORT ?= 8095
 
-.PHONY: run try build command script calls demo test compare install
+.PHONY: run try build command lib script calls demo test compare install
 
 # Reads a job from standard input, and takes an example where that is a terminal or empty.
 run: build
@@ -21,6 +21,10 @@ build:
 # The command `elasticlunr`.
 command:
 	@python3 tools/build.py elasticlunr_cli
+
+# The library for C, in out/lib, and its header in out/include.
+lib:
+	@python3 tools/library.py out
 
 # The program that prints the script for browsers.
 script:

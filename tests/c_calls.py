@@ -29,6 +29,20 @@ LEAST_REFUSED = 1_000
 EXAMPLE = {"fields": ["body"], "docs": [["1", "go"]]}  # a job of the table
 
 
+# Calls of the module of Python: what each is about, the row of the table or the line that it prints, and the call
+PYTHON = [
+    ("a document", EXAMPLE, "build_index([{'id': '1', 'body': 'go'}])"),
+    ("a number as reference", EXAMPLE, "build_index([{'id': 1, 'body': 'go', 'tags': ['a']}])"),
+    ("another reference", "TypeError document 1: its 'id' is no text and no whole number from 0", "build_index([{'id': None}])"),
+    ("a value that is no text", "TypeError document 2: its 'body' is no text", "build_index([{'id': 1, 'body': 'go'}, {'id': 2, 'body': 7}])"),
+    ("an unknown language", "RefusedError refused: unknown language", "build_index([], lang='german')"),
+    ("a field that stands twice", "RefusedError refused: duplicate field", "build_index([], fields=['a', 'a'])"),
+    ("half a character", "RefusedError refused: not JSON", "build_index([{'id': 1, 'body': chr(0xd800)}])"),
+    ("no documents", {"fields": [], "docs": []}, "build_index([])"),
+    ("the version", library.version(), "version()"),
+]
+
+
 def listed(rows):
     return b"".join(struct.pack("<Q", len(row.given)) + row.given for row in rows)
 
@@ -83,6 +97,16 @@ def check_example(made, folder, results):
         results.note((ended.err, ended.status) == (b"refused: not JSON\n", 2), f"c, {name}, a refusal: status {ended.status}, {ended.err[:60]!r}")
 
 
+def check_python(made, results):
+    """Calls of the module of Python over the shared library, in a process of its own."""
+    environment = {**os.environ, "PYTHONPATH": os.path.join(TOP, "python"), "ELASTICLUNR_LIBRARY": os.path.join(made, "lib", "libelasticlunr.so")}
+    for name, row, words in PYTHON:
+        wanted = row_of(row).out.decode() if isinstance(row, dict) else row + "\n"
+        script = f"import elasticlunr\ntry: print(elasticlunr.{words})\nexcept Exception as error: print(type(error).__name__, error)"
+        ended = run([sys.executable, "-c", script], env=environment)
+        results.note(ended.out.decode(errors="replace") == wanted, f"c, Python, {name}: {ended.out[:100]!r}, {ended.err[-300:]!r}")
+
+
 def check_symbols(made, results):
     """Whether the shared library shows the functions of the header, and no other."""
     shared = os.path.join(made, "lib", "libelasticlunr.so")
@@ -103,6 +127,7 @@ def check_library(compiler, made, folder, rows, results):
     if shutil.which(VALGRIND[0]):
         check_answers(f"valgrind, {compiler}", [*VALGRIND, program], short, results)
     check_symbols(made, results)
+    check_python(made, results)
     check_example(made, folder, results)
 
 

@@ -100,8 +100,9 @@ def squeezed(text):
 class Reader(HTMLParser):
     """Collects the parts of a page."""
 
-    def __init__(self):
+    def __init__(self, is_xml):
         super().__init__(convert_charrefs=True)
+        self.is_xml = is_xml  # whether `<a/>` is a whole element
         self.opened, self.parts, self.count = [], [], 0
         self.hidden = 0  # how many open elements hide their text
         self.language, self.title, self.first_hidden_heading = "", None, ""
@@ -128,7 +129,7 @@ class Reader(HTMLParser):
             self.open(tag, values)
 
     def open(self, tag, values):
-        role = values.get("role", "")
+        role = values.get("role", "").strip().lower()
         is_hidden = (tag in HIDDEN or tag == "head" or "hidden" in values or values.get("data-search") == "ignore"
                      or role in HIDDEN_ROLES)
         region = max(self.region(), REGIONS.get(role if role == "main" else tag, BODY))
@@ -144,7 +145,7 @@ class Reader(HTMLParser):
 
     def handle_startendtag(self, tag, attrs):
         self.handle_starttag(tag, attrs)
-        if tag not in EMPTY and any(it.tag in ("svg", "math") for it in self.opened):
+        if tag not in EMPTY and (self.is_xml or any(it.tag in ("svg", "math") for it in self.opened)):
             self.handle_endtag(tag)
 
     def handle_endtag(self, tag):
@@ -232,7 +233,7 @@ class Reader(HTMLParser):
                 last = Part(self.region(), [])
                 self.parts.append(last)
             last.texts.append(text)
-        self.count += not text.isspace()
+        self.count += not self.hidden and not text.isspace()
 
 
 def decoded(data):
@@ -260,9 +261,9 @@ def decoded(data):
         return data.decode("cp1252", "replace"), "it names no encoding, and is not UTF-8: it is read as windows-1252"
 
 
-def parts_of(text):
+def parts_of(text, address):
     """The reader after the whole text, and what it could not read, or an empty text."""
-    reader, wrong = Reader(), ""
+    reader, wrong = Reader(address.lower().endswith(".xhtml") or text.startswith("<?xml")), ""
     try:
         reader.feed(BROKEN_OFF.sub("", text))
         reader.close()
@@ -292,7 +293,7 @@ def sections_of(parts, title):
 def page_of(data, address, in_sections=False):
     """The page of these bytes. One that is left out has no documents. `address` is its title if it has no other."""
     text, wrong_encoding = decoded(data)
-    reader, wrong = parts_of(text)
+    reader, wrong = parts_of(text, address)
     warnings = [it for it in (wrong_encoding, wrong) if it]
     if reader.is_left_out:
         return Page(reader.language, [], warnings)

@@ -1,6 +1,7 @@
 """The cases in the browser. Each has a name; it returns figures to be shown, or nothing, and raises why it fails."""
 import json
 import os
+import shutil
 import socket
 import subprocess
 import sys
@@ -8,6 +9,7 @@ import sys
 from tests import browser_book, browser_page, browser_pieces, browser_policy, browser_results, browser_speed
 from tests.browser_sentences import PAGES
 from tests.browser_tools import SECONDS, must
+from tools import search_page
 from tools.repository import TOP, lines_of, program, read, run
 
 BROWSER = ["chromium", "chromedriver", "selenium", "elasticlunr.min.js"]
@@ -340,6 +342,24 @@ def demo(world):
         server.wait(SECONDS)
 
 
+def folder_of_html(world):
+    """A section of a page is found in the index of a folder of HTML, whole and in pieces, and its result leads to it."""
+    for name, words in [("html", ["-o", "search_index.json"]), ("html-in-pieces", ["--pieces", "search"])]:
+        folder = os.path.join(world.folder, name)
+        shutil.copytree(os.path.join(TOP, "examples", "site"), folder)
+        command = [sys.executable, "-m", "elasticlunr.site", "--sections", ".", "--command", program("elasticlunr_cli"), *words]
+        ended = run(command, cwd=folder, env={**os.environ, "PYTHONPATH": os.path.join(TOP, "python")})
+        must(ended.status == 0, [ended.status, ended.err])
+        search_page.copy(folder)
+        if "--pieces" in words:
+            search_page.take_pieces(os.path.join(folder, "search.html"))
+        page = browser_page.Page(world, f"{name}/search.html")
+        page.type("archive")
+        must(page.titles() == ["Installing › Windows"], page.titles())
+        page.press(page.keys.ENTER)
+        page.until(lambda: page.driver.current_url.endswith(f"/{name}/guide/install.html#windows"))
+
+
 def readme():
     return [table_row(language) for language in PAGES] + [
         ("docs: İ and I in Turkish", turkish),
@@ -357,5 +377,5 @@ def pages():
 
 def groups():
     return [([], scripts()), (["node", "elasticlunr.min.js"], nodes()), (BROWSER, languages() + readme()),
-            (BROWSER, books()), (BROWSER, pages() + [("demo: four sites", demo)]), (BROWSER, browser_pieces.cases()),
+            (BROWSER, books()), (BROWSER, pages() + [("demo: four sites", demo), ("site: a folder of HTML", folder_of_html)]), (BROWSER, browser_pieces.cases()),
             (BROWSER, every_character())]

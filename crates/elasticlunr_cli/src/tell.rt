@@ -30,6 +30,11 @@ pub(crate) fn troubled(rt: &HostRuntime, file: &str, trouble: InputError) -> io:
             Ok(Outcome::Refused)
         }
         InputError::Device(e) => failed(rt, file, &e),
+        InputError::TooManyLines => {
+            let line = format!(in rt.alloc(); "{file}: it has more lines than can be numbered")?;
+            say(rt, line.as_str())?;
+            Ok(Outcome::Failed)
+        }
         InputError::Memory => {
             eprintln!(rt; "elasticlunr: out of memory")?;
             Ok(Outcome::Failed)

@@ -28,6 +28,8 @@ pub enum InputError {
     Refused(Message),
     /// The input could not be read.
     Device(io::Error),
+    /// It has more lines than a `usize` can number.
+    TooManyLines,
     /// Out of memory.
     Memory,
 }

@@ -9,7 +9,7 @@ pub enum Outcome {
     Done,
     /// The input or the index was refused.
     Refused,
-    /// A file or a device failed, or memory ran out.
+    /// A file or a device failed, memory ran out, or lines were too many.
     Failed,
     /// The command line is wrong.
     Misused,

@@ -17,6 +17,7 @@ use Rattle.elasticlunr_job_format.specs.Reading.{reading}
 use Rattle.elasticlunr_documents.specs.declared.lines.LastLine.{LastLine}
 use Rattle.elasticlunr_documents.specs.declared.lines.LinesError.{LinesError}
 use Rattle.elasticlunr_documents.specs.declared.lines.LinesError.TheVariants.{Memory, Refused, Document, Device}
+use Rattle.elasticlunr_documents.specs.declared.lines.LinesError.TheVariants.{TooManyLines}
 use Rattle.elasticlunr_job_format.specs.declared.objects.ObjectFault.{ObjectFault}
 use Rattle.elasticlunr_job_format.specs.declared.objects.ObjectFault.TheVariants.{NotJson}
 
@@ -33,6 +34,7 @@ pub unread_after : (number : ℕ) (left now : Option Bytes) (line : Bytes) (more
 unread_after number left now line more taken filled Memory on = tt
 unread_after number left now line more taken filled (Device failed) on = tt
 unread_after number left now line more taken filled (Refused refusal) on = absurd on
+unread_after number left now line more taken filled TooManyLines on = absurd on
 unread_after number left now line more taken filled (Document place problem) on =
     (on.0, (more, taken, filled, on.1.0, on.1.1))
 
@@ -42,6 +44,7 @@ pub on_line : (number : ℕ) (Has : ObjectFault → Type 0) (e : LinesError) →
 on_line number Has Memory on = tt
 on_line number Has (Device failed) on = tt
 on_line number Has (Refused refusal) on = absurd on
+on_line number Has TooManyLines on = absurd on
 on_line number Has (Document place problem) on = on
 
 -- a line with a problem
@@ -55,6 +58,7 @@ stops_filling r options left last number Has e is first stops = exit_for r (Stop
       at Memory on = tt
       at (Device failed) on = tt
       at (Refused refusal) on = absurd on
+      at TooManyLines on = absurd on
       at (Document place problem) on = subst (λ n. StopsAtLine options left last n problem) (sym on.0) (first problem on.1)
 
 -- which is this: it is not JSON, or its value is no document
@@ -84,6 +88,7 @@ fails_lines options left last Memory fit on = tt
 fails_lines options left last (Device failed) fit on = tt
 fails_lines options left last (Refused refusal) fit on = absurd on
 fails_lines options left last (Document place problem) fit on = (fit, on)
+fails_lines options left last TooManyLines fit on = (fit, on)
 
 -- what stops on a line is no failure of the reader
 pub on_no_device : (P : Type 0) (number : ℕ) (Has : ObjectFault → Type 0) (e : LinesError) → StopsOn number Has e
@@ -91,6 +96,7 @@ pub on_no_device : (P : Type 0) (number : ℕ) (Has : ObjectFault → Type 0) (e
 on_no_device P number Has Memory stops = tt
 on_no_device P number Has (Document place problem) stops = tt
 on_no_device P number Has (Refused _) stops = absurd stops
+on_no_device P number Has TooManyLines stops = absurd stops
 on_no_device P number Has (Device _) stops = absurd stops
 
 -- nor is a refusal of the builder
@@ -103,4 +109,5 @@ pub at_any_line : (number : ℕ) (Has : ObjectFault → Type 0) (e : LinesError)
 at_any_line number Has Memory is = tt
 at_any_line number Has (Device _) is = tt
 at_any_line number Has (Refused _) is = absurd is
+at_any_line number Has TooManyLines is = absurd is
 at_any_line number Has (Document place problem) is = absurd is

@@ -1,7 +1,7 @@
 -- Lines of a reader, one after the other, and the documents that they are.
 use Rattle.std.proofs.Common.{◌≡◌, ◌≢◌, ◌==◌, ◌≤◌, ◌+◌, ◌*◌, ◌∷◌, ◌++◌, ℕ, List, [], length, map, All, Bool, true}
 use Rattle.std.proofs.Common.{false, cond, count_by, if◌then◌else◌, Option, None, Some, option_map, inl, inr, sym, ap}
-use Rattle.std.proofs.Common.{subst, refl, ◌∙◌, append_assoc, append-nil, arith}
+use Rattle.std.proofs.Common.{subst, refl, ◌∙◌, ◌^◌, append_assoc, append-nil, arith, IfSome}
 use borrow.Author.Tests.{ne_eqb}
 use Rattle.std.specs.Io.KnownBytes.{Consumes}
 use Rattle.std.specs.List.{filter, sum_by}
@@ -18,7 +18,7 @@ use Rattle.elasticlunr.specs.Standing.{Plan}
 use Rattle.elasticlunr_job.specs.Answer.{OfIndex}
 use Rattle.elasticlunr_job.specs.Commands.{in_order}
 use Rattle.elasticlunr_job.specs.Filled.{IsBuiltFor}
-use Rattle.elasticlunr_documents.specs.Lines.{HasLineProblem, IsFirstNoDocument}
+use Rattle.elasticlunr_documents.specs.Lines.{HasLineProblem, HasTooManyLines, IsFirstNoDocument}
 use Rattle.elasticlunr_documents.specs.LinesTold.{IsFilledBy, IsTaken, IsValueOf}
 use Rattle.elasticlunr_job_format.specs.declared.objects.ObjectFault.{ObjectFault}
 use Rattle.serde_json.specs.View.{view}
@@ -194,3 +194,13 @@ all_filled options language left text number made old new before after Is all ad
             holds;
       },
     )
+
+-- text that was read has no more line feeds than what was left before it
+pub taken_feeds : (left now : Option Bytes) (text : Bytes) → Consumes left now text
+    → 2 ^ 64 ≤ count_by (λ b. b == 10) text + 1 → IfSome left HasTooManyLines
+taken_feeds None now text taken many = tt
+taken_feeds (Some bytes) None text taken many = absurd taken
+taken_feeds (Some bytes) (Some rest) text taken many =
+    let f = λ (b : ℕ). cond (b == 10) 1 0 in
+    let both : sum_by f (text ++ rest) ≡ sum_by f text + sum_by f rest = sum_by-append f text rest in
+    subst HasTooManyLines (sym taken) (omega (arith, many, both))

@@ -1,5 +1,6 @@
 -- Documents as lines of JSON, an object each: the text of their index, and why there is none.
-use Rattle.std.specs.Prelude.{◌≡◌, ◌+◌, ⊤, ℕ, true, List, [], length, Option, Some, None}
+use Rattle.std.specs.Prelude.{◌≡◌, ◌≤◌, ◌==◌, ◌+◌, ◌^◌, ⊤, ℕ, true, List, [], length, Option, Some, None}
+use Rattle.std.specs.Prelude.{IfSome, count_by}
 use Rattle.serde_json.specs.Data.{Data}
 use Rattle.elasticlunr_text.specs.Text.{Bytes}
 use Rattle.elasticlunr.specs.Fields.{all_differ}
@@ -51,14 +52,21 @@ StopsAtLine options left last number problem = (before : Bytes)
     × IsLineAfter left before last.text.items last.before
     × IsFirstNoDocument options before last.text.items number problem
 
+-- with one line for each line feed, and a last one, the text has more lines than a `usize` can
+-- number
+abbrev pub HasTooManyLines : Bytes → Type 0
+HasTooManyLines text = 2 ^ 64 ≤ count_by (λ b. b == 10) text + 1
+
 -- why no index of the lines that were left is printed: the check that the options fail first, or
--- else the first line that is no document, which was read last
+-- else the first line that is no document, which was read last, or else that there are too many
 abbrev pub FailsLines : Options → Option Bytes → LastLine → LinesError → Type 0
 FailsLines options left last error.Memory = ⊤
 FailsLines options left last (error.Device _) = ⊤
 FailsLines options left last (error.Refused refusal) = FailsAt (job_of options []) refusal
 FailsLines options left last (error.Document number problem) = HasFitOptions options
     × StopsAtLine options left last number problem
+FailsLines options left last error.TooManyLines = HasFitOptions options
+    × IfSome left HasTooManyLines
 
 -- where it is said that a read failed, this holds
 abbrev pub IfDevice : Type 0 → LinesError → Type 0

@@ -1,5 +1,6 @@
 -- How lines are added to an index; for private clauses.
 use Rattle.std.specs.Prelude.{◌≡◌, ⊤, ℕ, Bool, true, false, List, Option, Some, None, if◌then◌else◌}
+use Rattle.std.specs.Prelude.{IfSome}
 use Rattle.std.specs.Io.KnownBytes.{Consumes}
 use Rattle.serde_json.specs.Data.{Data}
 use Rattle.elasticlunr_text.specs.Text.{Bytes}
@@ -11,7 +12,7 @@ use Rattle.elasticlunr_job_format.specs.Job.{Document}
 use Rattle.elasticlunr_job_format.specs.LineRead.{AreAll, HasNoFeed, fed}
 use Rattle.elasticlunr_job_format.specs.Lines.{AreLineValues, is_blank}
 use Rattle.elasticlunr_job_format.specs.Reading.{reading}
-use Rattle.elasticlunr_documents.specs.Lines.{StopsAtLine}
+use Rattle.elasticlunr_documents.specs.Lines.{HasTooManyLines, StopsAtLine}
 use Rattle.elasticlunr_job_format.specs.Objects.{Options, AreDocumentsOf}
 use Rattle.elasticlunr_documents.specs.Objects.{job_of}
 use Rattle.elasticlunr_documents.specs.declared.lines.LastLine.{LastLine}
@@ -54,14 +55,15 @@ abbrev pub StopsReading : ℕ → (ObjectFault → Type 0) → LinesError → Ty
 StopsReading number Has (error.Device _) = ⊤
 StopsReading number Has e = StopsOn number Has e
 
--- the line that was read last of what was left is the first that is no document, or something else
--- fails that says nothing of it
+-- the line that was read last of what was left is the first that is no document, or there are too
+-- many lines, or something else fails that says nothing of them
 abbrev pub StopsFilling : Options → Option Bytes → LastLine → LinesError → Type 0
 StopsFilling options left last error.Memory = ⊤
 StopsFilling options left last (error.Device _) = ⊤
 StopsFilling options left last (error.Refused _) = ⊥
 StopsFilling options left last (error.Document number problem) = StopsAtLine options left last
     number problem
+StopsFilling options left last error.TooManyLines = IfSome left HasTooManyLines
 
 -- this holds of the index, in this language, of the documents that the lines are
 pub record IsFilledBy (options : Options) (language : AnyLanguage) (input : Bytes) (Is : OfIndex) :

@@ -74,7 +74,9 @@ pub enum LinesError {
     Document(usize, ObjectFault),
     /// A read of the reader failed.
     Device(io::Error),
-    /// Out of memory, or more lines than a `usize` can number.
+    /// More lines than a `usize` can number.
+    TooManyLines,
+    /// Out of memory.
     Memory,
 }
 
@@ -230,7 +232,7 @@ fn fill_and_make<R: MarkedRead, W: Watch, M: Make>(
             return made(maker, &index, options.pretty);
         }
     }
-    Err(LinesError::Memory)
+    Err(LinesError::TooManyLines)
 }
 
 /// What is made of the index of the documents in the lines of a reader. It takes the memory of the

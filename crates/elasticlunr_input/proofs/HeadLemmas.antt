@@ -18,6 +18,7 @@ use Rattle.elasticlunr_job_format.specs.declared.objects.ObjectFault.{ObjectFaul
 use Rattle.std.specs.Fmt.{option_append}
 use Rattle.elasticlunr_job.specs.Answer.{FailsAt, OfIndex}
 use Rattle.elasticlunr_documents.specs.Lines.{FailsLines, HasLineProblem, IsFirstNoDocument, IsMadeOfLines, StopsAtLine}
+use Rattle.elasticlunr_documents.specs.Lines.{HasTooManyLines}
 use Rattle.elasticlunr_documents.specs.Objects.{job_of}
 use Rattle.elasticlunr_documents.specs.declared.objects.ObjectsError.TheVariants as error
 use Rattle.elasticlunr_job_format.specs.declared.outcome.Refusal.{Refusal}
@@ -49,6 +50,7 @@ use Rattle.elasticlunr_diagnostics.specs.declared.form.Form.TheVariants.{Job}
 use Rattle.elasticlunr_diagnostics.specs.declared.message.Message.{Message}
 use Rattle.elasticlunr_diagnostics.specs.declared.message.InputError.{InputError}
 use Rattle.elasticlunr_diagnostics.specs.declared.message.InputError.TheVariants.{Refused, Memory, Device}
+use Rattle.elasticlunr_diagnostics.specs.declared.message.InputError.TheVariants.{TooManyLines}
 use Rattle.elasticlunr_input.proofs.LinesBy.{FailLinesOf, IsPlaceInLines}
 use Rattle.elasticlunr_input.proofs.LineLemmas.{fail_with, fails_also, first_among, made_with, object_fault_among}
 use Rattle.elasticlunr_input.proofs.LinePlaces.{place_with, placed_for}
@@ -223,12 +225,10 @@ module _ (text before line : Bytes) (feeds : ℕ) (after : IsLineAfter (Some tex
   )
 
   -- it is not JSON
-  pub refused_unread : (settings : Settings) → filled_lines before ≡ [] → reading line ≡ None → (trouble : InputError)
-      → IfPlaced (IsBelow feeds (IsPlaceIn line)) trouble → AreRefusedFrom settings text trouble
+  pub refused_unread : (settings : Settings) → filled_lines before ≡ [] → reading line ≡ None → (message : Message)
+      → IfSome message.place (IsBelow feeds (IsPlaceIn line)) → AreRefusedFrom settings text (Refused message)
   unfolding line_begins unread in_below
-  refused_unread settings blank none Memory placed = tt
-  refused_unread settings blank none (Device failed) placed = tt
-  refused_unread settings blank none (Refused message) placed =
+  refused_unread settings blank none message placed =
       let is = unread (options_of settings) [] [] (sym (ap (map reading) blank)) tt none in (
         before ++ line,
         line_begins,
@@ -285,12 +285,11 @@ module _ (text before line : Bytes) (feeds : ℕ) (after : IsLineAfter (Some tex
           )
     ]
 
-    pub refused_line : (trouble : InputError) → IfPlaced (IsBelow feeds (IsPlaceInLine options line problem)) trouble
-        → AreRefusedFrom settings text trouble
+    pub refused_line : (message : Message)
+        → IfSome message.place (IsBelow feeds (IsPlaceInLine options line problem))
+        → AreRefusedFrom settings text (Refused message)
     unfolding fails_of place_in line_begins first_same
-    refused_line Memory placed = tt
-    refused_line (Device failed) placed = tt
-    refused_line (Refused message) placed =
+    refused_line message placed =
         let read = before ++ line in (
           read,
           line_begins,
@@ -417,7 +416,8 @@ module _ (head : Bytes) (left : Option Bytes) (settings : Settings) (last : Last
     at (Some rest) (Device failed) is there = λ is_head. tt
     at (Some rest) (Refused message) is there = λ is_head. refused_unread (head ++ rest) is_head.before last.text.items
         last.before (head_line head rest last.text.items last.before is_head is.0) settings is_head.blank is.1
-        (Refused message) there
+        message there
+    at (Some rest) TooManyLines is there = absurd is
 
   module _ (options : objects.Options) (first : List Data) (are : map Some first
       ≡ map reading (filter is_filled (last.text.items ∷ []))) (told : options ≡ options_of settings first) where
@@ -448,24 +448,25 @@ module _ (head : Bytes) (left : Option Bytes) (settings : Settings) (last : Last
             number_is = refl;
             has = subst (λ o. HasLineProblem options o problem) (sym one.1) is.4;
           })
-          (Refused message) is.5)
+          message is.5)
+      at (Some rest) TooManyLines is = absurd is
 
     -- or a line after it is none
-    pub chained_document : (number : ℕ) (problem : ObjectFault) (later : LastLine) → (before : Bytes)
+    pub chained_document : (number : ℕ) (problem : ObjectFault) (later : LastLine) (message : Message) → (before : Bytes)
         × IsLineAfter (option_append (Some head) left) before later.text.items later.before
         × IsFirstNoDocument options before later.text.items number problem
-        → IfPlaced (IsBelow later.before (IsPlaceInLine options later.text.items problem)) trouble
+        → IfSome message.place (IsBelow later.before (IsPlaceInLine options later.text.items problem))
         → IfSome left (λ rest. IsHeadOf head rest last.text.items last.before
-        → AreRefusedFrom settings (head ++ rest) trouble)
-    chained_document number problem later stops placed = at left stops where
+        → AreRefusedFrom settings (head ++ rest) (Refused message))
+    chained_document number problem later message stops placed = at left stops where
       at : (known : Option Bytes) → (before : Bytes) × IsLineAfter (option_append (Some head) known) before
           later.text.items later.before × IsFirstNoDocument options before later.text.items number problem
           → IfSome known (λ rest. IsHeadOf head rest last.text.items last.before
-          → AreRefusedFrom settings (head ++ rest) trouble)
+          → AreRefusedFrom settings (head ++ rest) (Refused message))
       at None is = tt
       at (Some rest) is = λ is_head.
           refused_line (head ++ rest) is.0 later.text.items later.before is.1 settings options first
-          (first_begins head rest last.text.items last.before is_head first are) told number problem is.2 trouble
+          (first_begins head rest last.text.items last.before is_head first are) told number problem is.2 message
           placed
 
     -- or the settings fail
@@ -503,8 +504,9 @@ chained_lines head (Some rest) settings last options first are told each (Device
 chained_lines head (Some rest) settings last options first are told each (Refused message) is = elim is [
   | inl f ↦ chained_settings head (Some rest) settings last (Refused message) options first are told f.0 message f.2
       each f.1
-  | inr s ↦ chained_document head (Some rest) settings last (Refused message) options first are told s.1 s.2 s.0 s.3 s.4
+  | inr s ↦ chained_document head (Some rest) settings last (Refused message) options first are told s.1 s.2 s.0 message s.3 s.4
 ]
+chained_lines head (Some rest) settings last options first are told each TooManyLines is = λ is_head. is
 
 -- the exit of a call
 pub exit_at : {T : Type 0} (r : Result T InputError) (P : InputError → Type 0) (e : InputError)
@@ -523,3 +525,8 @@ pub fails_document : (options : objects.Options) (left other : Option Bytes) (la
 fails_document options left other last e number problem is same fails =
     let stops = subst (FailsLines options left last) is fails in
     subst (λ known. StopsAtLine options known last number problem) same stops.1
+
+-- there are too many
+pub fails_too_many : (options : objects.Options) (left : Option Bytes) (last : LastLine) (e : LinesError)
+    → e ≡ lines_error.TooManyLines → FailsLines options left last e → IfSome left HasTooManyLines
+fails_too_many options left last e is fails = (subst (FailsLines options left last) is fails).1

@@ -1,5 +1,5 @@
 -- On an input in the form that its head tells.
-use Rattle.std.proofs.Common.{◌≡◌, ◌++◌, Option, None, Some, IfSome, Result, Ok, Err, IfErr, inr, sym, subst, ◌∙◌}
+use Rattle.std.proofs.Common.{◌≡◌, ◌++◌, Option, None, Some, IfSome, Result, Ok, Err, IfErr, inr, refl, sym, subst, ◌∙◌}
 use Rattle.elasticlunr_text.specs.Text.{Bytes}
 use Rattle.elasticlunr_job.specs.Answer.{OfIndex}
 use Rattle.elasticlunr_documents.specs.declared.lines.LastLine.{LastLine}
@@ -15,6 +15,7 @@ use Rattle.elasticlunr_diagnostics.specs.declared.form.Form.{Form}
 use Rattle.elasticlunr_diagnostics.specs.declared.form.Form.TheVariants.{Lines}
 use Rattle.elasticlunr_diagnostics.specs.declared.message.InputError.{InputError}
 use Rattle.elasticlunr_diagnostics.specs.declared.message.InputError.TheVariants.{Refused, Memory, Device}
+use Rattle.elasticlunr_diagnostics.specs.declared.message.InputError.TheVariants.{TooManyLines}
 use Rattle.elasticlunr_input.proofs.HeadLemmas.{told_head}
 use Rattle.elasticlunr_input.proofs.LinePlaces.{some_for}
 
@@ -37,6 +38,7 @@ module _ (asked : Option Form) (settings : Settings) where
   not_read (Some text) Memory other = tt
   not_read (Some text) (Device failed) other = tt
   not_read (Some text) (Refused message) other = absurd other
+  not_read (Some text) TooManyLines other = absurd other
 
   -- lines
   pub lines_ok : (left now : Option Bytes) (head : Bytes) (Is : OfIndex) (last : LastLine) → HasHead left now head last
@@ -53,6 +55,7 @@ module _ (asked : Option Form) (settings : Settings) where
   as_input : (text : Bytes) (e : InputError) → AreRefusedFrom settings text e → IsRefusedFrom Lines settings text e
   as_input text Memory is = tt
   as_input text (Device failed) is = tt
+  as_input text TooManyLines is = (refl, is)
   as_input text (Refused message) is = (
     is.0,
     is.1,
@@ -91,6 +94,7 @@ module _ (asked : Option Form) (settings : Settings) where
       → IsPlacedIfNotJson form text e → IsRefusedFrom form settings text e
   refused_whole form text Memory reads is there placed = tt
   refused_whole form text (Device failed) reads is there placed = tt
+  refused_whole form text TooManyLines reads is there placed = absurd is
   refused_whole form text (Refused message) reads is there placed = (text, reads, is, there, placed)
 
   pub whole_err : (form : Form) (left now : Option Bytes) (head all : Bytes) (last : LastLine) (e : InputError)

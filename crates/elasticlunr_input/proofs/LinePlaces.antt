@@ -13,6 +13,7 @@ use Rattle.elasticlunr_input.specs.RefusedPlaces.{IsLinesPlace}
 use Rattle.elasticlunr_input.specs.Settled.{Settings}
 use Rattle.elasticlunr_diagnostics.specs.declared.message.InputError.{InputError}
 use Rattle.elasticlunr_diagnostics.specs.declared.message.InputError.TheVariants.{Refused, Memory, Device}
+use Rattle.elasticlunr_diagnostics.specs.declared.message.InputError.TheVariants.{TooManyLines}
 use Rattle.elasticlunr_json_place.specs.declared.place.Place.{Place}
 use Rattle.elasticlunr_input.proofs.LinesBy.{IsPlaceInLines}
 use Rattle.elasticlunr_input.proofs.LineLemmas.{first_options, unread_with}
@@ -26,6 +27,7 @@ pub placed_for : (P Q : Place → Type 0) (e : InputError) → ((place : Place) 
     → IfPlaced Q e
 placed_for P Q Memory more is = tt
 placed_for P Q (Device failed) more is = tt
+placed_for P Q TooManyLines more is = tt
 placed_for P Q (Refused message) more is = some_for P Q message.place more is
 
 -- and where the trouble is that of a call

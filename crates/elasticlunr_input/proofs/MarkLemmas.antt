@@ -9,6 +9,7 @@ use Rattle.elasticlunr_diagnostics.specs.Messages.{IsMemoryOrDevice}
 use Rattle.elasticlunr_diagnostics.specs.declared.form.Form.{Form}
 use Rattle.elasticlunr_diagnostics.specs.declared.message.InputError.{InputError}
 use Rattle.elasticlunr_diagnostics.specs.declared.message.InputError.TheVariants.{Refused, Memory, Device}
+use Rattle.elasticlunr_diagnostics.specs.declared.message.InputError.TheVariants.{TooManyLines}
 use Rattle.elasticlunr_input.specs.Mark.{without_mark}
 use Rattle.elasticlunr_input.specs.RefusedRead.{IsRefusedFrom}
 use Rattle.elasticlunr_input.specs.Settled.{Settings}
@@ -47,3 +48,4 @@ module _ (asked : Option Form) (settings : Settings) where
   start_not_read (Some text) Memory other = tt
   start_not_read (Some text) (Device failed) other = tt
   start_not_read (Some text) (Refused message) other = absurd other
+  start_not_read (Some text) TooManyLines other = absurd other

@@ -3,10 +3,12 @@ use Rattle.std.proofs.Common.{◌≡◌, Result, Ok, Err, IfErr, IsErrAnd, sym, 
 use Rattle.elasticlunr_diagnostics.specs.Messages.{IsMemoryOr}
 use Rattle.elasticlunr_diagnostics.specs.declared.message.InputError.{InputError}
 use Rattle.elasticlunr_diagnostics.specs.declared.message.InputError.TheVariants.{Refused, Memory, Device}
+use Rattle.elasticlunr_diagnostics.specs.declared.message.InputError.TheVariants.{TooManyLines}
 
 pub for_reason : (A B : Type 0) (e : InputError) → (A → B) → IsMemoryOr A e → IsMemoryOr B e
 for_reason A B Memory more is = tt
 for_reason A B (Device failed) more is = is
+for_reason A B TooManyLines more is = is
 for_reason A B (Refused message) more is = more is
 
 -- a reason that follows from another one

@@ -10,7 +10,7 @@ use Rattle.elasticlunr_job_format.specs.Reading.{reading}
 use Rattle.elasticlunr_job_format.specs.declared.objects.ObjectFault.{ObjectFault}
 use Rattle.elasticlunr_job_format.specs.declared.outcome.Refusal.{Refusal}
 use Rattle.elasticlunr_job.specs.Answer.{FailsAt}
-use Rattle.elasticlunr_documents.specs.Lines.{StopsAtLine}
+use Rattle.elasticlunr_documents.specs.Lines.{HasTooManyLines, StopsAtLine}
 use Rattle.elasticlunr_documents.specs.Objects.{job_of}
 use Rattle.elasticlunr_documents.specs.declared.lines.LastLine.{LastLine}
 use Rattle.elasticlunr_documents.specs.declared.lines.LinesError.{LinesError}
@@ -63,6 +63,7 @@ IsUnreadLine last (trouble.Refused message) = IsPlacedBelow last.before (IsPlace
     message.place
 IsUnreadLine last trouble.Memory = ⊤
 IsUnreadLine last (trouble.Device _) = ⊥
+IsUnreadLine last trouble.TooManyLines = ⊥
 
 -- memory runs out; or the first of the values is no document, and the place is that of its problem,
 -- which stands in the line that was read last
@@ -72,26 +73,30 @@ IsRefusedFirst options items last (trouble.Refused message) = (d : Data) × (res
     × IfSome message.place (IsBelow last.before (IsPlaceInLine options last.text.items problem))
 IsRefusedFirst options items last trouble.Memory = ⊤
 IsRefusedFirst options items last (trouble.Device _) = ⊥
+IsRefusedFirst options items last trouble.TooManyLines = ⊥
 
 -- it is refused
 abbrev pub IsRefusal : InputError → Type 0
 IsRefusal (trouble.Refused _) = ⊤
 IsRefusal _ = ⊥
 
--- the trouble that an error of lines makes: memory runs out, or the reader failed, where it says
--- so, and else they are refused
+-- the trouble that an error of lines makes: memory runs out, the reader failed, or there are too
+-- many, where it says so, and else they are refused
 abbrev pub IsTroubleOf : LinesError → InputError → Type 0
 IsTroubleOf lines_error.Memory e = e ≡ trouble.Memory
 IsTroubleOf (lines_error.Device failed) e = e ≡ trouble.Device failed
+IsTroubleOf lines_error.TooManyLines e = e ≡ trouble.TooManyLines
 IsTroubleOf (lines_error.Refused _) e = IsRefusal e
 IsTroubleOf (lines_error.Document _ _) e = IsRefusal e
 
 -- lines that were left are refused: the options fail a check, and no place is named; or the line
--- that was read last is the first that is no document, and the place is that of its problem
+-- that was read last is the first that is no document, and the place is that of its problem; or
+-- there are too many
 abbrev pub AreRefusedLines : Options → Option Bytes → InputError → Type 0
 AreRefusedLines options left (trouble.Refused message) =
     ((refusal : Refusal) × FailsAt (job_of options []) refusal × (message.place ≡ None))
     ⊎ ((last : LastLine) × (number : ℕ) × (problem : ObjectFault)
     × StopsAtLine options left last number problem
     × IfSome message.place (IsBelow last.before (IsPlaceInLine options last.text.items problem)))
+AreRefusedLines options left trouble.TooManyLines = IfSome left HasTooManyLines
 AreRefusedLines options left _ = ⊤

@@ -107,6 +107,7 @@ fn blamed<R: MarkedRead>(reader: &R, trouble: InputError) -> InputError
                 InputError::Memory
             }
         }
+        InputError::TooManyLines => InputError::TooManyLines,
         InputError::Memory => InputError::Memory,
     }
 }

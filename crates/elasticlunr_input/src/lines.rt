@@ -57,7 +57,8 @@ pub(crate) fn read_head<R: BufRead>(
             return Ok(head);
         }
     }
-    Err(InputError::Memory)
+    // The head has a line feed for each line, and fewer bytes than that.
+    unreachable!()
 }
 
 /// What notes what is suspicious in documents.
@@ -215,6 +216,7 @@ fn input_error_of(
 {
     match error {
         LinesError::Memory => Ok(InputError::Memory),
+        LinesError::TooManyLines => Ok(InputError::TooManyLines),
         LinesError::Device(e) => Ok(InputError::Device(e)),
         LinesError::Refused(refusal) => {
             let said = settings_fault(alloc, options, refusal)?;

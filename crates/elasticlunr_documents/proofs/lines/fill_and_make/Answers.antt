@@ -12,7 +12,7 @@ use Rattle.elasticlunr_documents.proofs.LineStops.{exit_for, no_document, on_lin
 use Rattle.elasticlunr_documents.proofs.LineStops.{unread_line}
 use Rattle.elasticlunr_documents.proofs.ReadLines.{added_blank, added_document, all_filled, feeds_next}
 use Rattle.elasticlunr_documents.proofs.ReadLines.{first_no_document, line_after, none_blank, one_fed, one_last}
-use Rattle.elasticlunr_documents.proofs.ReadLines.{some_filled}
+use Rattle.elasticlunr_documents.proofs.ReadLines.{some_filled, taken_feeds}
 use Rattle.elasticlunr_job.proofs.Stops.{ok_more}
 use Rattle.elasticlunr_documents.proofs.lines.fill_and_make.Goals as goal
 
@@ -171,3 +171,10 @@ pub returns-in_err-object-clause-device : goal.returns-in_err-object-clause-devi
 returns-in_err-object-clause-device g c =
     exit_for c.from_residual-in_err-object.result _ c.in_err-object.field-0.0 c.from_residual-in_err-object.ensures.1
     (on_no_device _ (c.lines.number + 1) _ c.in_err-object.field-0.0 c.in_err-object.ensures.err)
+
+pub returns-clause-err : goal.returns-clause-err
+returns-clause-err g c =
+    let left = g.R.Read.remaining in
+    let so_far = c.lines.invariant in
+    taken_feeds (left c.args.reader.now) (left c.lines.reader) so_far.text so_far.taken
+    (omega (arith, c.lines-test.false, so_far.feeds))

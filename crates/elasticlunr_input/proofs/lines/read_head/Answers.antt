@@ -1,5 +1,6 @@
 use Rattle.std.proofs.Common.{◌≡◌, ◌+◌, ◌++◌, ◌∷◌, ◌==◌, [], true, false, count_by, if◌then◌else◌, inr, refl, sym, ap}
-use Rattle.std.proofs.Common.{subst, ◌∙◌, append_assoc}
+use Rattle.std.proofs.Common.{subst, ◌∙◌, append_assoc, arith}
+use Rattle.std.proofs.lemmas.List.Sums.{count_by-le-length}
 use Rattle.std.specs.Io.KnownBytes.{Consumes}
 use Rattle.elasticlunr_job_format.specs.LineRead.{fed}
 use Rattle.elasticlunr_job_format.specs.Lines.{filled_lines, is_blank}
@@ -61,3 +62,10 @@ lines-preserved g c =
       feeds = ap (λ n. n + 1) so_far.feeds ∙ (sym (feeds_next head line c.in_ok-more.ensures.line)
           ∙ ap (count_by (λ b. b == 10)) (sym whole));
     }
+
+pub unreachable-requires : goal.unreachable-requires
+unreachable-requires g c =
+    let head = c.lines.head in
+    let feeds = c.lines.invariant.feeds in
+    let few = count_by-le-length (λ b. b == 10) head.items in
+    omega (arith, c.lines-test.false, feeds, few, head.ok.0, head.ok.1, head.small)

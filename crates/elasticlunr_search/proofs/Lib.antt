@@ -5,6 +5,7 @@ pub mod Naming
 pub mod Stages
 pub mod Refusing
 pub mod FieldTries
+pub mod NaturalTries
 pub mod Whole
 pub mod Sets
 pub mod Those

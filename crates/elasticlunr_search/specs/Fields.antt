@@ -16,7 +16,8 @@ use Rattle.serde_json.specs.Find.{get}
 abbrev pub HasStages : Data → List Bytes → Type 0
 HasStages v stages = get (codes "pipeline") v ≡ Some (array (texts stages))
 
--- under this name it has, with 1 instead of each fraction, the trie value of this table
+-- under this name it has, with 1 instead of each number that is negative or a fraction, the trie
+-- value of this table
 abbrev pub HasWholeTrie : Data → Bytes → Table → Type 0
 HasWholeTrie index name table = IsTable table
     × IsSomeAnd (get name index) (λ trie. IsTrieValue table (with_ones trie))

@@ -161,7 +161,8 @@ fn trie_of(alloc: Global, name: &str, index: &Value) -> Result<InvertedIndex, Se
     }
 }
 
-/// The trie that the value is with 1 instead of each fraction, as frequencies of others are.
+/// The trie that the value is with 1 instead of each number that is negative or a fraction, as
+/// frequencies of others are.
 fn rounded_trie(alloc: Global, value: &Value) -> Result<InvertedIndex, SearchError>
     ensures ok { IfOk result (λ trie. IsTrieValue trie (with_ones (view value.now))) }
     ensures table { IfOk result (λ trie. IsTable trie) }

@@ -1,4 +1,4 @@
-//! A value with a whole number instead of each fraction.
+//! A value with a natural number instead of each other number.
 ghost use Rattle.std.specs.Prelude.{◌≡◌, IfOk};
 ghost use Rattle.elasticlunr_search.specs.Whole.{with_ones, items_with_ones, members_with_ones};
 ghost use Rattle.serde_json.specs.View.{view, items_view, members_view};
@@ -6,7 +6,8 @@ ghost use Rattle.serde_json.specs.View.{view, items_view, members_view};
 use serde_json::{Map, Value};
 use std::alloc::{AllocError, Global};
 
-/// The value with 1 instead of each number that is a fraction. Each level of it takes a call.
+/// The value with 1 instead of each number that is negative or a fraction. Each level of it takes a
+/// call.
 #[cycle(round)]
 pub(crate) fn round(alloc: Global, value: &Value) -> Result<Value, AllocError>
     ensures { IfOk result (λ v. view v ≡ with_ones (view value.now)) }
@@ -14,8 +15,8 @@ pub(crate) fn round(alloc: Global, value: &Value) -> Result<Value, AllocError>
     match value {
         Value::Null => Ok(Value::Null),
         Value::Bool(b) => Ok(Value::Bool(*b)),
-        Value::Number(n) if n.is_f64() => Ok(Value::from(1u64)),
-        Value::Number(n) => Ok(Value::Number(*n)),
+        Value::Number(n) if n.is_u64() => Ok(Value::Number(*n)),
+        Value::Number(_) => Ok(Value::from(1u64)),
         Value::String(text) => Ok(Value::String(text.clone()?)),
         Value::Array(items) => Ok(Value::Array(round_items(alloc, items)?)),
         Value::Object(members) => Ok(Value::Object(round_members(alloc, members)?)),

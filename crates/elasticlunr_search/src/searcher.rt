@@ -508,11 +508,12 @@ impl<L: Language> Searcher<L> {
             (options_of options.now) self.now.printed.store
             (zip (fields_of self.now) self.now.printed.tries.items)) }
     {
+        let printed = &self.printed;
         searched_fields(
             self.alloc,
-            &self.printed.fields,
-            &self.printed.tries,
-            &self.printed.store,
+            &printed.fields,
+            &printed.tries,
+            &printed.store,
             options,
         )
     }

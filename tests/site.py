@@ -232,7 +232,7 @@ def check_indexes(folder, results):
             ("no page", (os.path.join(folder, ".git", "none"),), 2),
             ("a folder without pages", (made,), 2),
             ("a command that is not there", (folder, "-o", one, "--command", "/no/command"), 1),
-            ("an option that the command refuses", (folder, "-o", one, "--command", COMMAND, "--", "--no-option"), 2),
+            ("an option that the command refuses", (folder, "-o", one, "--command", COMMAND, "--", "--no-option"), 64),
             ("a file that can't be written", (folder, "-o", "/no/folder/index.json", "--command", COMMAND), 1),
         ]:
             out, err, status = site(*words)

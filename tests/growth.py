@@ -4,8 +4,8 @@ The seconds of the processor tell it quickly. Where they say too many times, oth
 why: then valgrind counts the instructions of a run of each, and these decide.
 """
 import glob
-import os
 import shutil
+import tempfile
 
 from bench.measure import measured
 from tools.repository import read
@@ -40,9 +40,9 @@ class Runs:
     def instructions(self):
         """The instructions of one run, those of the programs that it starts among them."""
         self.begin()
-        counts = self.printed + ".instructions."
-        measured([*COUNTING, f"--cachegrind-out-file={counts}%p", *self.command], self.given, self.printed)
-        return sum(int(read(path).rsplit("summary:", 1)[1].split()[0]) for path in glob.glob(glob.escape(counts) + "*"))
+        with tempfile.TemporaryDirectory() as counts:  # a file for each process
+            measured([*COUNTING, f"--cachegrind-out-file={counts}/%p", *self.command], self.given, self.printed)
+            return sum(int(read(path).rsplit("summary:", 1)[1].split()[0]) for path in glob.glob(f"{counts}/*"))
 
 
 def growth(short, long, count):

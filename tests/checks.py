@@ -56,7 +56,7 @@ LEAST = {
     "check_docs": 830,
     "command": 210,
     "site": 460,
-    "c_calls": 700,
+    "c_calls": 640,
     "check_jobs": 150,
     "check_gate": 38,
 }

@@ -8,6 +8,7 @@ use Rattle.elasticlunr.specs.History.{Commands}
 use Rattle.elasticlunr.specs.Standing.{Plan}
 use Rattle.elasticlunr_input.specs.Counts.{AreCounts, HasCounts}
 use Rattle.elasticlunr_input.specs.declared.counts.Counts.{Counts}
+use Rattle.elasticlunr_input.specs.Warnings.{EndWithWordless, WarnOfWordless}
 
 -- a test of the bytes of strings, and of the strings
 pub any_of_names : (test : Bytes → Bool) (names : List (String Global))
@@ -36,4 +37,16 @@ counts_noted plan commands counts documents tokens is are (tables, kept, holds, 
     documents_are = is ∙ count.documents_are;
     tokens_are = (count.tokens_are.0, count.tokens_are.1, are ∙ count.tokens_are.2);
   },
+)
+
+-- the warnings of the documents without a token, which were added to those before them
+pub wordless_noted : (plan : Plan) (commands : Commands) (counts : Counts) (earlier warnings : List Bytes)
+    → WarnOfWordless (bytes_of counts.without_token.items) earlier warnings → AreCounts plan commands counts
+    → EndWithWordless plan commands warnings
+wordless_noted plan commands counts earlier warnings warn (tables, kept, holds, count, are) = (
+  tables,
+  kept,
+  holds,
+  earlier,
+  subst (λ references. WarnOfWordless references earlier warnings) are warn,
 )

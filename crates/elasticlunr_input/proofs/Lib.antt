@@ -9,3 +9,4 @@ pub mod InputLemmas
 pub mod MarkLemmas
 pub mod Counting
 pub mod MadeMore
+pub mod Warned

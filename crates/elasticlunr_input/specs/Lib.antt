@@ -11,3 +11,4 @@ pub mod FaultPlaces
 pub mod RefusedPlaces
 pub mod RefusedRead
 pub mod Mark
+pub mod Warnings

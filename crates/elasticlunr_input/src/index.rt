@@ -18,6 +18,7 @@ ghost use Rattle.elasticlunr_input.specs.RefusedPlaces.{IsInputPlace};
 ghost use Rattle.elasticlunr_input.specs.RefusedRead.{AreRefusedFrom, IfDevice, IsRefusedFrom};
 ghost use Rattle.elasticlunr_input.specs.Settled as settled;
 ghost use Rattle.elasticlunr_input.specs.Settled.{settings_told};
+ghost use Rattle.elasticlunr_input.specs.Warnings.{EndWithWordless, warnings_of};
 ghost use Rattle.elasticlunr_text.specs.Text.{Bytes};
 ghost use Rattle.elasticlunr_diagnostics.specs.declared.form.Form.TheVariants as form;
 ghost use Rattle.serde_json.specs.View.{view};
@@ -57,6 +58,9 @@ pub fn made_from<R: MarkedRead, M: Make>(
     ensures counts { OnOk result (IfSome (R.remaining reader.old) (λ text.
         IsMadeFrom asked (settings_told settings.now) (without_mark text)
         (λ _ plan commands. HasCounts plan commands notes.new.documents (token_count notes.new)))) }
+    ensures warnings { OnOk result (IfSome (R.remaining reader.old) (λ text.
+        IsMadeFrom asked (settings_told settings.now) (without_mark text)
+        (λ _ plan commands. EndWithWordless plan commands (warnings_of notes.new)))) }
     ensures err { IfErr result (λ e. IfSome (R.remaining reader.old) (λ text.
         IsRefusedFrom (asked_or_told asked (without_mark text)) (settings_told settings.now) (without_mark text) e)) }
     ensures device { IfErr result (IfDevice (R.has_failed reader.new ≡ true)) }
@@ -84,6 +88,9 @@ pub fn index_from<R: MarkedRead>(
     ensures counts { OnOk result (IfSome (R.remaining reader.old) (λ text.
         IsMadeFrom asked (settings_told settings.now) (without_mark text)
         (λ _ plan commands. HasCounts plan commands notes.new.documents (token_count notes.new)))) }
+    ensures warnings { OnOk result (IfSome (R.remaining reader.old) (λ text.
+        IsMadeFrom asked (settings_told settings.now) (without_mark text)
+        (λ _ plan commands. EndWithWordless plan commands (warnings_of notes.new)))) }
     ensures err { IfErr result (λ e. IfSome (R.remaining reader.old) (λ text.
         IsRefusedFrom (asked_or_told asked (without_mark text)) (settings_told settings.now) (without_mark text) e)) }
     ensures device { IfErr result (IfDevice (R.has_failed reader.new ≡ true)) }

@@ -1,6 +1,11 @@
 //! What is suspicious in documents that are fine.
-ghost use Rattle.std.specs.Prelude.{◌≡◌, OnOk};
+ghost use Rattle.std.specs.Prelude.{◌≡◌, ◌++◌, map, OnOk};
+ghost use Rattle.elasticlunr_text.specs.Text.{bytes_of};
+ghost use Rattle.elasticlunr_job_format.specs.ObjectsTold.{texts_told};
 ghost use Rattle.elasticlunr_input.specs.Counts.{token_count};
+ghost use Rattle.elasticlunr_input.specs.Warnings.{end_warnings, has_text, is_property};
+ghost use Rattle.elasticlunr_input.specs.Warnings.{property_names, property_warnings};
+ghost use Rattle.elasticlunr_input.specs.Warnings.{textless_warnings, warnings_of, WarnOfWordless};
 
 use crate::counts::Counts;
 use crate::settings::Settings;
@@ -8,26 +13,37 @@ use elasticlunr_documents::objects::{Object, Options};
 use std::alloc::{AllocError, Global};
 use std::collections::{BTreeMap, BTreeSet};
 
-/// The names that each object of JavaScript has: a script that keeps documents in an object takes
-/// them for what is there already.
-const TAKEN: [&str; 12] = [
-    "__defineGetter__",
-    "__defineSetter__",
-    "__lookupGetter__",
-    "__lookupSetter__",
-    "__proto__",
-    "constructor",
-    "hasOwnProperty",
-    "isPrototypeOf",
-    "propertyIsEnumerable",
-    "toLocaleString",
-    "toString",
-    "valueOf",
-];
-
 /// Why a document or a field should not have such a name.
 const OF_EVERY_OBJECT: &str =
     "every JavaScript object has a property of this name, so elasticlunr.js fails on it";
+
+/// The names of the properties that each object of JavaScript has: a script that keeps documents in
+/// an object takes them for what is there already.
+fn property_names() -> [&'static str; 12]
+    ensures { map (λ name. name.now) result ≡ property_names }
+{
+    [
+        "__defineGetter__",
+        "__defineSetter__",
+        "__lookupGetter__",
+        "__lookupSetter__",
+        "__proto__",
+        "constructor",
+        "hasOwnProperty",
+        "isPrototypeOf",
+        "propertyIsEnumerable",
+        "toLocaleString",
+        "toString",
+        "valueOf",
+    ]
+}
+
+/// Whether each object of JavaScript has a property of this name.
+fn is_property(name: &str) -> bool
+    ensures { result ≡ is_property name.now }
+{
+    property_names().contains(&name)
+}
 
 /// What was seen of documents, and what is suspicious in them.
 #[derive(Drop)]
@@ -147,7 +163,7 @@ impl Notes {
             )?;
             self.warnings.push(said)?;
         }
-        if TAKEN.contains(&reference) {
+        if is_property(reference) {
             let why = OF_EVERY_OBJECT;
             let said = format!(in self.alloc; "document {number} (\"{reference}\"): {why}")?;
             self.warnings.push(said)?;
@@ -168,7 +184,10 @@ impl Notes {
     }
 
     /// Takes the end of the documents, and the fields.
-    pub(crate) fn end(&mut self, fields: &[&str]) -> Result<(), AllocError> {
+    pub(crate) fn end(&mut self, fields: &[&str]) -> Result<(), AllocError>
+        ensures { OnOk result (warnings_of self.new
+            ≡ warnings_of self.old ++ end_warnings self.old (texts_told fields.now)) }
+    {
         if self.taken == 0 {
             self.warnings.push(String::from_str(
                 self.alloc,
@@ -183,16 +202,52 @@ impl Notes {
     }
 
     /// Takes a field and its number, after the last document.
-    fn field(&mut self, number: usize, field: &str) -> Result<(), AllocError> {
-        if !matches!(self.has_text.get(number), Some(true)) {
-            let said = format!(in self.alloc; "no document has a text in the field \"{field}\"")?;
-            self.warnings.push(said)?;
+    fn field(&mut self, number: usize, field: &str) -> Result<(), AllocError>
+        ensures warnings { OnOk result (warnings_of self.new ≡ warnings_of self.old
+            ++ (textless_warnings (has_text self.old number) field.now
+            ++ property_warnings field.now)) }
+        ensures seen { self.new.has_text ≡ self.old.has_text }
+    {
+        self.field_text(number, field)?;
+        self.field_name(field)
+    }
+
+    /// Takes whether a document has a text in a field.
+    fn field_text(&mut self, number: usize, field: &str) -> Result<(), AllocError>
+        ensures warnings { OnOk result (warnings_of self.new
+            ≡ warnings_of self.old ++ textless_warnings (has_text self.old number) field.now) }
+        ensures seen { self.new.has_text ≡ self.old.has_text }
+    {
+        if self.is_filled(number) {
+            return Ok(());
         }
-        if TAKEN.contains(&field) {
-            let why = OF_EVERY_OBJECT;
-            let said = format!(in self.alloc; "the field \"{field}\": {why}")?;
-            self.warnings.push(said)?;
+        let said = format!(in self.alloc; "no document has a text in the field \"{field}\"")?;
+        self.warnings.push(said)?;
+        Ok(())
+    }
+
+    /// Whether a document has a text in the field with this number.
+    fn is_filled(&self, number: usize) -> bool
+        ensures { result ≡ has_text self.now number }
+    {
+        match self.has_text.get(number) {
+            Some(seen) => *seen,
+            None => false,
         }
+    }
+
+    /// Takes the name of a field.
+    fn field_name(&mut self, field: &str) -> Result<(), AllocError>
+        ensures warnings { OnOk result (warnings_of self.new
+            ≡ warnings_of self.old ++ property_warnings field.now) }
+        ensures seen { self.new.has_text ≡ self.old.has_text }
+    {
+        if !is_property(field) {
+            return Ok(());
+        }
+        let why = OF_EVERY_OBJECT;
+        let said = format!(in self.alloc; "the field \"{field}\": {why}")?;
+        self.warnings.push(said)?;
         Ok(())
     }
 
@@ -200,6 +255,8 @@ impl Notes {
     pub(crate) fn count(&mut self, counts: &Counts) -> Result<(), AllocError>
         ensures documents { OnOk result (self.new.documents ≡ counts.now.documents) }
         ensures tokens { OnOk result (token_count self.new ≡ counts.now.tokens) }
+        ensures warnings { OnOk result (WarnOfWordless (bytes_of counts.now.without_token.items)
+            (warnings_of self.old) (warnings_of self.new)) }
     {
         self.without_token(&counts.without_token)?;
         self.documents = counts.documents;
@@ -208,7 +265,10 @@ impl Notes {
     }
 
     /// Takes the references of the documents that have no token.
-    fn without_token(&mut self, references: &[String]) -> Result<(), AllocError> {
+    fn without_token(&mut self, references: &[String]) -> Result<(), AllocError>
+        ensures { OnOk result (WarnOfWordless (bytes_of references.now) (warnings_of self.old)
+            (warnings_of self.new)) }
+    {
         let mut found = Vec::with_capacity(self.alloc, references.len())?;
         for reference in references {
             let number = self.references.get(reference.as_str()).copied();

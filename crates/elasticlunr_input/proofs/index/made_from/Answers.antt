@@ -2,7 +2,7 @@ use Rattle.std.proofs.Common.{Option, None, Some, IfSome}
 use Rattle.elasticlunr_diagnostics.specs.Forms.{asked_or_told}
 use Rattle.elasticlunr_input.specs.Mark.{without_mark}
 use Rattle.elasticlunr_input.specs.Settled.{settings_told}
-use Rattle.elasticlunr_input.proofs.Counting.{counts_noted}
+use Rattle.elasticlunr_input.proofs.Counting.{counts_noted, wordless_noted}
 use Rattle.elasticlunr_input.proofs.MadeMore.{if_made}
 use Rattle.elasticlunr_input.proofs.index.made_from.Goals as goal
 
@@ -24,5 +24,12 @@ pub returns-in_ok-count-in-Ok-clause-counts : goal.returns-in_ok-count-in-Ok-cla
 returns-in_ok-count-in-Ok-clause-counts g c =
     if_made _ _ (λ pretty plan commands both. counts_noted plan commands c.in-Ok.counts _ _
     c.in_ok-count-in-Ok.ensures.documents c.in_ok-count-in-Ok.ensures.tokens both.1)
+    (g.R.Read.remaining c.args.reader.now) (asked_or_told c.args.asked) (settings_told c.args.settings.now) without_mark
+    c.in-Ok.ensures.ok
+
+pub returns-in_ok-count-in-Ok-clause-warnings : goal.returns-in_ok-count-in-Ok-clause-warnings
+returns-in_ok-count-in-Ok-clause-warnings g c =
+    if_made _ _ (λ pretty plan commands both. wordless_noted plan commands c.in-Ok.counts _ _
+    c.in_ok-count-in-Ok.ensures.warnings both.1)
     (g.R.Read.remaining c.args.reader.now) (asked_or_told c.args.asked) (settings_told c.args.settings.now) without_mark
     c.in-Ok.ensures.ok

@@ -12,7 +12,7 @@ import re
 from tools.repository import TOP, read
 
 OWNER = re.compile(r"(?:pub )?(?:trait (\w+)|impl(?:<.*?>)? (?:.* for )?(\w+))")
-FUNCTION = re.compile(r"(    )?(?:pub(?:\(\w+\))? )?(?:const |unsafe |final )*fn (\w+)")
+FUNCTION = re.compile(r'(    )?(?:pub(?:\(\w+\))? )?(?:const |unsafe |final |extern "C" )*fn (\w+)')
 CLAUSE = re.compile(r"\s+(?:ensures|requires)\*? ?(\w*) ?\{")
 BODY = re.compile(r"(?:    )?(?:\{|\{\})$|.*;$")
 QUOTED = re.compile(r"^fn ([\w:]+)(?:<.*?>)?\(.*\n((?:  .*\n)*)", re.MULTILINE)

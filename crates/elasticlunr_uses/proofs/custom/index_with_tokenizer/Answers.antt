@@ -17,7 +17,7 @@ returns-clause-text g c language fresh =
     let index = choices_of c.in_ok-index.index in
     let titled = c.in_ok-add_field_with_tokenizer.ensures.chosen in
     let given = c.in_ok-add_field.ensures.chosen ∙ ap (with_field (codes "body") None)
-    (titled.2.0 ∙ ap (with_field (codes "title") (Some titled.0)) fresh) in
+    (titled.1 ∙ ap (with_field (codes "title") (Some titled.0)) fresh) in
     let built = built_with _ index (subst (λ ch. IsBuiltBy ch index) given c.in_ok-index.ensures.given) index.pipeline refl in
     let leaves = subst (λ ch. IfNone ch.pipeline (LeavesBy (λ z. (goal.PipelineFn-dyn g z).leaves z.1) index.pipeline
     (language_leaves english))) given c.in_ok-index.ensures.leaves in
@@ -30,7 +30,7 @@ returns-clause-text g c language fresh =
       document_of_two _ _ _ index _ _ added.0 added.1 _ _ titled.0 (codes "title") (codes "body") (codes "id") _ built _
           (λ value made tokens are answered ran. (
             made,
-            (titled.2.1 value made).0 answered,
+            (titled.2 value made).0 answered,
             left_as _ _ leaves made tokens are ran (λ _. made) 0 value refl,
           ))
           (λ value made tokens are is ran. left_as _ _ leaves made tokens are ran words 1 value is),

@@ -175,7 +175,7 @@ static void *call_all(void *unused)
     for (size_t number = 0; number < count; number++) {
         struct answer made = answer_to(jobs[number]), alone = answers[number];
         if (made.status != alone.status || made.length != alone.length || memcmp(made.text, alone.text, alone.length))
-            fail(number, "another answer beside other threads");
+            fail(number, "another answer while other threads call");
         elasticlunr_free(made.text);
     }
     return unused;

@@ -75,7 +75,7 @@ def check_answers(name, command, rows, results):
 
 
 def check_said(name, command, mode, rows, least, results):
-    """Whether the program finds no fault, and tried so much at least."""
+    """Whether the program finds no fault, and tried as many as `least`."""
     ended = run([*command, mode], listed(rows), seconds=SECONDS)
     said = ended.out.decode(errors="replace").strip()
     tried = int(said.split()[0]) if said[:1].isdigit() else 0

@@ -1,15 +1,15 @@
 """The rows of calls of the library, and what each call promises about memory.
 
-A row of crates/elasticlunr_test_calls/src/text.rt is a line that names what its calls are made on, and a line for each call:
-`CALL -> ANSWER`. An empty line ends it.
+A row of TABLES is a line that names what its calls are made on, and a line for each call: `CALL -> ANSWER`. An empty line ends
+it.
 """
 import json
 from typing import NamedTuple
 
 from tools.repository import read
 
-TABLE = "crates/elasticlunr_test_calls/src/text.rt"
-BEGINS, ENDS = 'r##"', '"##'  # the text of the rows in that file
+TABLES = [f"crates/elasticlunr_test_calls/src/{name}_rows.rt" for name in ("content", "stage", "index")]
+BEGINS, ENDS = 'r##"', '"##'  # the text of the rows in such a file
 # how many rows and calls the table has
 ROWS = 149
 CALLS = 1417
@@ -39,7 +39,7 @@ def rows_of(text):
 
 
 def table():
-    return rows_of(read(TABLE).split(BEGINS, 1)[1].rsplit(ENDS, 1)[0])
+    return [row for path in TABLES for row in rows_of(read(path).split(BEGINS, 1)[1].rsplit(ENDS, 1)[0])]
 
 
 # Lines of a row that prepare calls or show what they made, and are no calls of the library.

@@ -86,7 +86,7 @@ def build_index(
     """The text of the index of these documents, which elasticlunr.js loads.
 
     Each document is a mapping. Its member `ref` is its reference: a text, or a whole number from 0. A document whose reference
-    came before takes the place of that one. The member of each field is a text, or is not there, which counts as an empty one.
+    came before replaces it. The member of each field is a text, or is not there, which counts as an empty one.
     Without `fields` these are the members of the first document that are texts, in the order of their bytes.
 
     `lang` is the name of a language, as "German". Without `save` the index has no texts. Raises a TypeError for a member that is

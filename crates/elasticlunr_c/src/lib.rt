@@ -1,5 +1,5 @@
 //! The answer to a job, for C and for languages that call C: bytes in, bytes out. `elasticlunr.h`
-//! declares these functions, and says what a caller owes.
+//! declares these functions, and says what a caller has to ensure.
 #![tactic(auto)]
 
 ghost use Rattle.std.specs.Prelude.{◌≡◌, ◌++◌, ◌≤◌, ◌<◌, IfOk, drop, length, string_bytes};

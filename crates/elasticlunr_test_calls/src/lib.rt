@@ -8,7 +8,11 @@ mod begun;
 #[cfg(test)]
 mod call;
 #[cfg(test)]
+mod content_rows;
+#[cfg(test)]
 mod handed_in;
+#[cfg(test)]
+mod index_rows;
 #[cfg(test)]
 mod indexes;
 #[cfg(test)]
@@ -20,6 +24,8 @@ mod options;
 #[cfg(test)]
 mod rows;
 #[cfg(test)]
+mod stage_rows;
+#[cfg(test)]
 mod stages;
 #[cfg(test)]
 mod stores;
@@ -27,8 +33,6 @@ mod stores;
 mod subject;
 #[cfg(test)]
 mod table;
-#[cfg(test)]
-mod text;
 #[cfg(test)]
 mod texts;
 #[cfg(test)]

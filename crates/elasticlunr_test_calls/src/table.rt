@@ -1,7 +1,6 @@
 //! The rows, one after the other.
 use crate::listed::Listed;
-use crate::rows;
-use crate::text::ROWS;
+use crate::{content_rows, index_rows, rows, stage_rows};
 use std::io;
 
 /// How many calls the table has, at least.
@@ -15,10 +14,14 @@ fn calls(rt: HostRuntime) -> io::Result<()> {
     if make_all(&rt, &mut listed)? > 0 {
         return Ok(());
     }
-    let mut table = Listed::in_table(ROWS);
-    make_all(&rt, &mut table)?;
-    assert!(rt; table.wrong == 0);
-    assert!(rt; table.right >= CALLS);
+    let mut right: u64 = 0;
+    for text in [content_rows::ROWS, stage_rows::ROWS, index_rows::ROWS] {
+        let mut table = Listed::in_table(text);
+        make_all(&rt, &mut table)?;
+        assert!(rt; table.wrong == 0);
+        right = right.saturating_add(table.right);
+    }
+    assert!(rt; right >= CALLS);
     Ok(())
 }
 

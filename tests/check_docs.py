@@ -9,7 +9,8 @@ its name.
 - A block of Rust is the root file of a library, or a file of elasticlunr_uses, byte for byte, so `rt ci`, which proves every
   crate, has proved it. A block of proofs after one is the file of that crate whose path the block begins with. A page that
   shows a file of a crate, or its line of crates.txt, shows the whole crate, that line and each file that a proof reads;
-  elasticlunr_uses alone is shown in part. README.md may leave out the proofs of a crate that LIBRARY.md shows whole.
+  elasticlunr_uses alone is shown in part. README.md may leave out the proofs of a crate that LIBRARY.md shows whole. Nothing
+  is shown twice on a page.
 - A block of lines of crates.txt has lines that crates.txt has.
 - Each command of a block of shell runs at the top of the repository and must end well. Where lines follow it, it must print
   these, its seconds apart. `make test`, which runs this check, `make compare`, what downloads, and `make try` on a page that
@@ -21,6 +22,7 @@ its name.
   each CALLING.md, a clause that the page names is one of that call, and a law is there (clauses.py).
 - Where a page names the logic of the kit, it is that of the kit here (`rt version`).
 """
+import collections
 import functools
 import glob
 import json
@@ -116,12 +118,21 @@ def crate_failures(name, found):
     known = [it.rstrip("\n") for it in lines_of("crates.txt")]
     for line, text in lines_of_crates(found):
         yield line, LINES, None if text in known else f"crates.txt has no line `{text}`"
+    for crate, path in twice(found):
+        yield 0, crate, f"the page shows {path} twice"
     listed = {text.partition(":")[0] for _, text in lines_of_crates(found)}
     for crate in sorted((listed | crates_of(found)) - {USES}):
         paths = paths_of(crate, found)
         if name == "README.md" and crate in whole_in_library():
             paths |= {it for it in files_of(crate) if it.startswith("proofs")}
         yield 0, crate, part_failure(crate, paths, crate in listed)
+
+
+def twice(found):
+    """The files and the lines of crates.txt that a page shows again, each with its crate."""
+    files = [(crate, path) for _, _, crate, path, _ in shown(found) if crate]
+    lines = [(text.partition(":")[0], "its line of crates.txt") for _, text in lines_of_crates(found)]
+    return sorted(it for it, count in collections.Counter(files + lines).items() if count > 1)
 
 
 def paths_of(crate, found):

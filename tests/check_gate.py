@@ -1,5 +1,6 @@
 #!/usr/bin/env python3
-"""Tries what the checks depend on: the gate, its counts, the notes of what is built, and the scripts that download.
+"""Tries what the checks depend on: the gate, its counts, the notes of what is built, how growth is judged, and the scripts that
+download.
 
 usage: check_gate.py [WORD ..]
 
@@ -16,7 +17,7 @@ from typing import NamedTuple
 
 sys.path.insert(0, os.path.join(os.path.dirname(__file__), ".."))
 
-from tests import checks
+from tests import checks, growth
 from tests.report import FAILED, Results, is_asked
 from tools.repository import TOP, read, write
 
@@ -206,6 +207,41 @@ def try_what_failed():
     return None if checks.what_failed([]) == [] else "lines of no failure"
 
 
+class Fake(growth.Runs):
+    """Runs that took so many seconds and instructions."""
+
+    def __init__(self, seconds, counted):
+        super().__init__([], "", "")
+        self.took, self.counted = seconds, counted
+
+    def run(self):
+        self.seconds = min(self.seconds, self.took)
+        return ""
+
+    def instructions(self):
+        return self.counted
+
+
+GROWTHS = {  # the seconds and the instructions of both runs, and whether they may pass
+    "twice as long": ((3, 6), (0, 0), True),
+    "four times as long in a short run": ((0.3, 1.2), (0, 0), False),
+    "four times as long, with twice as many instructions": ((3, 12), (5, 10), True),
+    "four times as long, with four times as many instructions": ((3, 12), (5, 20), False),
+    "four times as long, and no count of the longer run": ((3, 12), (5, 0), False),
+    "four times as long, and too long to be counted": ((8, 32), (5, 10), False),
+    "two runs that are too long to be counted": ((16, 64), (5, 10), False),
+    "no time": ((0.01, 0.02), (5, 10), False),
+}
+
+
+def try_growth(seconds, counted, may_pass):
+    """A program that takes too many times as long for an input twice as long is refused, however long it takes."""
+    counting, growth.COUNTING = growth.COUNTING, [sys.executable]  # which is there
+    wrong, times, of_what = growth.growth(*map(Fake, seconds, counted), 2)
+    growth.COUNTING = counting
+    return None if (not wrong and times <= growth.TIMES) == may_pass else f"{times:.1f} times, {of_what}, {wrong!r}"
+
+
 LOW = "crate low: modules loaded=1 checked=2\nlogic=proved functions=1\n"
 PROG = "library low: modules loaded=0 checked=0\ncrate prog: modules loaded=1 checked=2\n"
 RUNS = "rt: running out/prog; to give it other input, run that file yourself\nthe output"
@@ -314,6 +350,8 @@ def cases():
     for name, *end in ENDS:
         yield name, lambda end=end: try_end(*end)
     yield "what failed is said in few lines", try_what_failed
+    for name, growing in GROWTHS.items():
+        yield f"growth: {name}", lambda growing=growing: try_growth(*growing)
     yield from BUILDS.items()
     yield "the costs of a proof", try_costs
     yield "what is installed", try_install

@@ -391,6 +391,8 @@ def forged_code():
     yield "a file of a program", "README.md", readme + f"```rust\n{find}```\n", "Rust: no crate has this file"
     yield "one more crate in part", "README.md", readme + f"```rust\n{error}```\n", "elasticlunr_error: the page shows "
     yield "a crate without its proof", "LIBRARY.md", re.sub(r"^```antt\n.*?^```\n", "", library, count=1, flags=re.DOTALL | re.MULTILINE), part
+    yield "a crate twice", "README.md", readme + readme[readme.index("```rust") : readme.index("```\n", readme.index("```rust")) + 4], "page shows src/lib.rt twice"
+    yield "a line of crates.txt twice", "README.md", readme + "```text\nelasticlunr_site: elasticlunr\n```\n", "page shows its line of crates.txt twice"
     yield "no Rust", "README.md", without("rust|antt", readme), "a whole crate: the page has none"
     yield "no Rust but the lines of crates.txt", "README.md", without("rust|antt", readme), part
     yield "modules of one crate alone", "README.md", without("rust|antt|text", readme) + library[library.index("This module,") :], "a whole crate: the page has none"

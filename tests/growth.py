@@ -1,9 +1,11 @@
 """How much longer a program takes for an input twice as long.
 
 The seconds of the processor tell it quickly. Where they say too many times, other programs that run at the same time may be
-why: then valgrind counts the instructions of a run of each, and these decide.
+why: then valgrind counts the instructions of a run of each, and these decide. If a run is too long to be counted, or valgrind
+is not there, the seconds decide.
 """
 import glob
+import math
 import shutil
 import tempfile
 
@@ -12,7 +14,7 @@ from tools.repository import read
 
 TIMES = 2.6  # times as long, at most
 LEAST = 0.05  # seconds of the longer run, below which a time says nothing
-LONGEST = 15  # seconds, after which no other run is made
+LONGEST = 15  # seconds of a run, after which no other one is made, and nothing is counted
 COUNTING = ["valgrind", "--quiet", "--tool=cachegrind", "--cache-sim=no", "--trace-children=yes"]
 
 
@@ -21,7 +23,7 @@ class Runs:
 
     def __init__(self, command, given, printed):
         self.command, self.given, self.printed = command, given, printed
-        self.seconds, self.megabytes = LONGEST, 0
+        self.seconds, self.megabytes = math.inf, 0
 
     def begin(self):
         """What is done before each run."""
@@ -38,11 +40,13 @@ class Runs:
         return self.wrong(ended.status)
 
     def instructions(self):
-        """The instructions of one run, those of the programs that it starts among them."""
+        """The instructions of one run, those of the programs that it starts among them; 0 if they could not be counted."""
         self.begin()
         with tempfile.TemporaryDirectory() as counts:  # a file for each process
-            measured([*COUNTING, f"--cachegrind-out-file={counts}/%p", *self.command], self.given, self.printed)
-            return sum(int(read(path).rsplit("summary:", 1)[1].split()[0]) for path in glob.glob(f"{counts}/*"))
+            ended = measured([*COUNTING, f"--cachegrind-out-file={counts}/%p", *self.command], self.given, self.printed)
+            texts = [read(path).rsplit("summary:", 1) for path in glob.glob(f"{counts}/*")]
+            is_counted = isinstance(ended.status, int) and ended.status >= 0 and all(len(it) == 2 for it in texts)
+            return sum(int(count.split()[0]) for _, count in texts) if is_counted else 0
 
 
 def growth(short, long, count):
@@ -56,7 +60,8 @@ def growth(short, long, count):
     of_what = f"{short.seconds:.2f} and {long.seconds:.2f} s"
     if not wrong and times > TIMES and long.seconds < LONGEST and shutil.which(COUNTING[0]):
         fewer, more = short.instructions(), long.instructions()
-        times, of_what = more / max(fewer, 1), f"{of_what}, {fewer / 1e6:.0f} and {more / 1e6:.0f} million instructions"
+        if fewer and more:
+            times, of_what = more / fewer, f"{of_what}, {fewer / 1e6:.0f} and {more / 1e6:.0f} million instructions"
     if not wrong and long.seconds < LEAST:
         wrong = "no time"
     return wrong, times, of_what

@@ -91,6 +91,12 @@ def a_key_again(count):
     return Search("j k", index_of(references, [trie(*members)]), lines(["000000"]))
 
 
+def no_reference_again(count):
+    """Nodes with a posting of the empty reference, each of which comes again."""
+    nodes = [node(letter, posted([""])) for letter in letters(count)]
+    return Search("k", index_of([""], [trie(EMPTY, node("k", posted([""])), *nodes, *nodes)]), lines([""]))
+
+
 def falling_references(count):
     references = [reference(number) for number in range(count)]
     members = [EMPTY, node("j", posted(references)), node("k", posted(references[::-1]))]
@@ -131,6 +137,14 @@ def other_tries(count):
     return Search("k", index_of(references, tries), lines(references[:1]))
 
 
+def fields_and_other_tries(count):
+    """Fields, and a hundred times as many tries, of which those of the fields come last."""
+    fields = [f"f{number}" for number in range(count // 100)]
+    tries = [node(it, node("root", EMPTY)) for it in [*(reference(number) for number in range(count)), *fields]]
+    index = index_of(["1"], [*tries, trie(EMPTY, node("k", posted(["1"])))])
+    return Search("k", index.replace('"fields":["body"]', f'"fields":{json.dumps([*fields, "body"])}'), lines(["1"]))
+
+
 def own_numbers(count):
     """An index that the library prints: each document has a number of its own, and the same words."""
     words = " ".join(f"{first}{second}7" for first in "bcdfghjk" for second in "lmnpq")
@@ -140,15 +154,17 @@ def own_numbers(count):
 
 
 ORDERS = [  # a name, a size, and what makes the text of a size
-    ("keys that fall", 300_000, falling_keys),
+    ("keys that fall", 150_000, falling_keys),
     ("children that fall", 60_000, falling_children),
     ("a key that comes again", 50_000, a_key_again),
+    ("postings of no reference that come again", 30_000, no_reference_again),
     ("references that fall", 30_000, falling_references),
     ("references that docInfo has", 40_000, known_references),
     ("references that docInfo hasn't", 40_000, unknown_references),
     ("levels and children", 8_000, levels_and_children),
     ("tries that come again", 50_000, tries_again),
     ("tries of other names", 50_000, other_tries),
+    ("fields and tries of other names", 45_000, fields_and_other_tries),
     ("numbers of their own", 10_000, own_numbers),
 ]
 

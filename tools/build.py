@@ -23,7 +23,7 @@ sys.path.insert(0, os.path.join(os.path.dirname(__file__), ".."))
 from tools import crates
 from tools.repository import TOP, say
 
-LOGS = os.path.join(TOP, "out")
+NOTES = os.path.join(TOP, "out")  # what was said, and what was built
 FIRST = {"elasticlunr_index": "12 to 30 minutes on four cores, by how fast they are"}  # a build from nothing
 SHOWN = 40  # lines of the log if a crate isn't proved
 CRATE = re.compile(r"crate (\w+): modules loaded=")
@@ -60,7 +60,7 @@ def built(name):
 
 
 def note_of(name):
-    return os.path.join(crates.folder(name), "out", "sources")
+    return os.path.join(NOTES, f"sources-{name}")
 
 
 def is_built(name):
@@ -75,6 +75,7 @@ def note_built(name, sources):
     """Notes that the program was built, and proved, from these sources, which were read before the build. If one has changed
     since then, nobody knows which text the build has read, and nothing is noted."""
     if sources == sources_of(name):
+        os.makedirs(NOTES, exist_ok=True)
         with open(note_of(name), "w", encoding="ascii") as file:
             file.write(sources.sum + sum_of([built(name)]))
 
@@ -132,8 +133,8 @@ def main():
     say(f"The first time this takes {FIRST.get(name, 'minutes')}; later only what changed is proved again.")
     begun = time.monotonic()
     sources = sources_of(name)
-    os.makedirs(LOGS, exist_ok=True)
-    log = os.path.join(LOGS, f"build-{name}.log")
+    os.makedirs(NOTES, exist_ok=True)
+    log = os.path.join(NOTES, f"build-{name}.log")
     if not build(name, log):
         failed(name, log)
         return 1

@@ -1,4 +1,4 @@
-//! What is found for a text that has a request and an index, and in the value of an index.
+//! What is found for a text that has a request and an index, and in the text of an index.
 ghost use Rattle.std.specs.Prelude.{◌≡◌, ◌⊎◌, Some, None, IfOk, IfErr, IfSome, codes, option_map};
 ghost use Rattle.std.specs.Prelude.{string_bytes};
 ghost use Rattle.elasticlunr_text.specs.Text.{bytes_of};

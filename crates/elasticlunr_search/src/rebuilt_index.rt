@@ -119,7 +119,8 @@ fn all_differ(names: &[String]) -> bool
     true
 }
 
-/// The tries in the order of the fields.
+/// The tries in the order of the fields, if there are as many. More tries are not looked through:
+/// the text is not printed of these fields.
 fn in_order(
     alloc: Global,
     fields: &[String],
@@ -127,6 +128,9 @@ fn in_order(
 ) -> Result<Option<Vec<InvertedIndex>>, AllocError>
     ensures { IfOk result (λ o. IfSome o (λ tries. vec_len tries ≡ length fields.now)) }
 {
+    if named.len() != fields.len() {
+        return Ok(None);
+    }
     let mut tries = Vec::new(alloc);
     for field in fields {
         let Some(place) = place_among(&named, field.as_str()) else {

@@ -3,10 +3,11 @@ ghost use Rattle.std.specs.Prelude.{◌≡◌, ◌<◌, [], ◌∷◌, ◌++◌,
 ghost use Rattle.std.specs.Prelude.{IfOk, OnOk, OnErr};
 
 use std::alloc::{AllocError, Global};
+use std::fmt;
 use std::marker::Model;
 
 // A number takes four bytes while each has 32 bits, and else eight.
-#[derive(Debug, Drop)]
+#[derive(Drop)]
 enum Numbers {
     Short(Vec<u32>),
     Long(Vec<u64>),
@@ -14,7 +15,7 @@ enum Numbers {
 
 /// Numbers of nodes, in the order in which they came. Each takes four bytes, or eight in a list
 /// that had one of more than 32 bits.
-#[derive(Debug, Drop)]
+#[derive(Drop)]
 pub struct NumberList {
     numbers: Numbers,
 }
@@ -108,6 +109,15 @@ impl NumberList {
             Numbers::Long(numbers) => {
                 numbers.remove(at);
             }
+        }
+    }
+}
+
+impl fmt::Debug for NumberList {
+    fn fmt<W: fmt::Write>(&self, f: &mut fmt::Formatter<W>) -> fmt::Result {
+        match &self.numbers {
+            Numbers::Short(numbers) => numbers.fmt(f),
+            Numbers::Long(numbers) => numbers.fmt(f),
         }
     }
 }

@@ -80,10 +80,10 @@ SUBJECTS = {"InvertedIndex": (TRIE, '["to_value"]'), "DocumentStore": (STORE, '[
 STATES = {"run_on": '["kept"]'}
 
 # Calls that may go on without a request that is refused, and then give their whole answer. Where a trie can't remember a
-# token, it is walked the next time as well. The others collect the characters of a class or a list of stop words, and
-# `collect` of the kit makes do with less room than it asks for first.
+# token, it is walked the next time as well. A text that can't have room for all of it begins with less. The others collect
+# the characters of a class or a list of stop words, and `collect` of the kit makes do with less room than it asks for first.
 GOES_ON = {"InvertedIndex add_tokens", "Index add_doc", "Index Index::new", "Index Index::with_language", "Index build",
-           "Pipeline RegexTrimmer::new", "language make_pipeline"}
+           "Index to_json", "Pipeline RegexTrimmer::new", "language make_pipeline"}
 
 # What the filter and the clone of the last stage answer when memory is refused.
 FILTERS = {"EnglishTrimmer": None, "EnglishStemmer": None, "ArabicStemmer": None, "Keep": None,

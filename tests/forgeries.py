@@ -49,23 +49,30 @@ FINDERS = {
     "says nothing when out of memory": REQUESTS + 'return at ? write(1, "1\\n2\\n", 4) < 0 : 1;',
 }
 
-# Programs in C that answer the calls of a row of a trie, and request so many bytes for a line of this size
+# Programs in C that answer the calls of a row, and request so many bytes for a line of this size. MORE may use the size of
+# the longest line.
 CALLS = """
-char line[999];
+static char line[99999];
+size_t most = 0;
 if (!fgets(line, sizeof line, stdin) || write(1, line, strlen(line)) < 0) return 1;
 while (fgets(line, sizeof line, stdin) && line[0] != '\\n') {
     size_t size = strlen(line) - 1;
     const char *answer = strstr(line, "to_value") ? "{\\"root\\":{\\"df\\":0,\\"docs\\":{}}}\\n" : "done\\n";
+    most = size > most ? size : most;
     void *volatile at = write(1, line, size) < 0 || strstr(line, "new") ? NULL : malloc(BYTES);
+    MORE
     if (write(1, " -> ", 4) < 0 || write(1, answer, strlen(answer)) < 0) return 1;
 }
 return write(1, "\\n\\n\\ntest result: ok\\n", 19) < 0;
 """
 SLOTS, NO_SLOTS, GOES_ON = "takes slots for each token of a call", "remembers no token", "goes on when out of memory"
+GROWS = "doubles the room of a text as it grows"
+DOUBLES = 'for (size_t room = 128; strstr(line, "to_json") && room < most; room *= 2) at = malloc(room);'
 CALLED = {
-    SLOTS: CALLS.replace("BYTES", "128 * size"),
-    NO_SLOTS: CALLS.replace("BYTES", "1"),
-    GOES_ON: CALLS.replace("BYTES", "1"),
+    SLOTS: CALLS.replace("BYTES", "128 * size").replace("MORE", ""),
+    NO_SLOTS: CALLS.replace("BYTES", "1").replace("MORE", ""),
+    GOES_ON: CALLS.replace("BYTES", "1").replace("MORE", ""),
+    GROWS: CALLS.replace("BYTES", "1").replace("MORE", DOUBLES),
 }
 
 # Programs in Python that change the input, the words or the answer of a built program. `path` is the program.
@@ -168,6 +175,7 @@ def forged_programs(few_jobs):
     for name, case, said in [
         (SLOTS, "slots", r".* where the token is given once$"),
         (NO_SLOTS, "slots", "0 tables of slots were requested"),
+        (GROWS, "room", r"10 requests for a text of 50000 characters, and 1 for one of 100$"),
         (GOES_ON, "InvertedIndex: new", r"\[\"to_value\"\]: request 1: \[\"to_value\"\] -> "),
     ]:
         yield Forgery(name, "refuse_calls", f"^calls: {case}: {said}", name, (case,), "elasticlunr_test_calls")

@@ -17,9 +17,10 @@ And each call that may run out of memory did so at least once, and so did each t
 call promises. With -v each call has a line.
 
 Known tokens are given to a trie eight times in each call, which must take no more memory than to give them once: a token has
-one slot. This case is called `slots`.
+one slot. This case is called `slots`. And `to_json` has room for its whole text from the start, so it makes as many requests
+for an index with a long stored text as for one with a short text. This case is called `room`.
 
-With words, only the rows and the case run that have one of them in their names.
+With words, only the rows and the cases run that have one of them in their names.
 """
 import json
 import os
@@ -44,6 +45,7 @@ ON_FAILED = [["add_doc", "1", "fox"], ["add_doc", "1", *["fox"] * 9], ["remove_d
 
 KNOWN = 200  # known tokens, more than the first two tables of slots take
 FIRST_TABLE = 64 * 32  # bytes
+SHORT, LONG = 100, 50_000  # characters of a stored text
 
 
 class Requests(NamedTuple):
@@ -218,6 +220,26 @@ def why_more_slots(program):
     return None
 
 
+def requests_of_text(program, size):
+    """How many requests `to_json` makes for an index with a stored text of this size; or why there is no number."""
+    calls = [json.dumps(call) for call in (["Index::new", "body"], ["add_doc", "1", " " * size], ["to_json"])]
+    found, counts = program.run(f"Index: a text of {size} characters", calls)
+    if isinstance(found, str):
+        return found
+    wrong = next((call for call, answer in zip(found.calls[:-1], found.answers) if answer != "done"), None)
+    return f"{wrong[:40]} isn't done" if wrong else counts[-1].count()
+
+
+def why_more_requests(program):
+    """Why `to_json` makes more requests for a long text than for a short one, or None."""
+    short, long = requests_of_text(program, SHORT), requests_of_text(program, LONG)
+    if isinstance(short, str) or isinstance(long, str):
+        return short if isinstance(short, str) else long
+    if not 0 < long <= short:
+        return f"{long} requests for a text of {LONG} characters, and {short} for one of {SHORT}"
+    return None
+
+
 def is_asked(name, words):
     return not words or any(word in name for word in words)
 
@@ -226,9 +248,10 @@ def main():
     words = [word for word in sys.argv[1:] if word != "-v"]
     results = Results("calls")
     with Program() as program:
-        if is_asked("slots", words):
-            wrong = why_more_slots(program)
-            results.note(wrong is None, f"calls: slots: {wrong}")
+        for name, why in [("slots", why_more_slots), ("room", why_more_requests)]:
+            if is_asked(name, words):
+                wrong = why(program)
+                results.note(wrong is None, f"calls: {name}: {wrong}")
         check_rows(program, words, results)
     return results.report()
 

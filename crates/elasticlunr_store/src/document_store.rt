@@ -14,6 +14,7 @@ ghost use Rattle.serde_json.specs.View.{view};
 ghost use Rattle.serde_json.specs.Written.{has_float};
 
 mod read;
+mod room;
 mod write;
 
 use elasticlunr_error::IndexError;

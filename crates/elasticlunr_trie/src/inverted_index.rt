@@ -22,6 +22,7 @@ mod postings;
 mod read;
 mod references;
 mod remove;
+mod room;
 mod same;
 mod starts;
 mod tokens;

@@ -48,6 +48,13 @@ impl Names {
         }
     }
 
+    /// How many names there are.
+    pub fn len(&self) -> usize
+        ensures { result ≡ length self.now }
+    {
+        self.in_order.len()
+    }
+
     /// The number of a name.
     pub fn number_of(&self, name: &str) -> Option<usize>
         ensures { result ≡ number_of self.now name.now }

@@ -41,6 +41,19 @@ impl CompactText {
         })
     }
 
+    /// An empty text, with room for at least so many bytes. If memory for them is refused, it begins
+    /// with room for 128.
+    pub fn with_room(alloc: Global, bytes: usize) -> Result<Self, AllocError>
+        ensures { IfOk result (λ out. out ≡ []) }
+    {
+        match Vec::with_capacity(alloc, bytes.max(128)) {
+            Ok(room) => Ok(CompactText {
+                writer: Writer::new(room),
+            }),
+            Err(_) => CompactText::new(alloc),
+        }
+    }
+
     /// The text, in which a reader finds the same tokens.
     pub fn into_string(self) -> String
         ensures text { string_bytes result ≡ print self }

@@ -78,7 +78,7 @@ def sources():
 
 @functools.cache
 def words_of_code():
-    paths = glob.glob(os.path.join(TOP, "crates", "**", "*.rt"), recursive=True)
+    paths = glob.glob(os.path.join(TOP, "crates", "*", "src", "**", "*.rt"), recursive=True)
     paths += glob.glob(os.path.join(TOP, "crates", "*", "specs", "**", "*.antt"), recursive=True)
     return {word for path in paths for word in re.findall(r"\w+", read(path))} | set(os.listdir(os.path.join(TOP, "crates")))
 

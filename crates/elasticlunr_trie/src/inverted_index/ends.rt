@@ -87,6 +87,7 @@ impl TokenCache {
     }
 
     // The node to which a token leads, if that is remembered.
+    #[inline(always)]
     fn get(&self, token: &str) -> Option<u32>
         ensures { IfSome result (λ k. (step : Step) → AreEnds step self.now
             → walk step Root (chars token.now) ≡ Some (At k)) }

@@ -296,6 +296,7 @@ fn write_ranked<W: Tokens>(
 }
 
 // Writes a reference and its frequency.
+#[inline(always)]
 fn write_posting<W: Tokens>(doc_ref: &str, term_freq: u64, out: &mut W) -> Result<(), AllocError>
     ensures { OnOk result (W.Tokens.written out.new ≡ W.Tokens.written out.old
         ++ key doc_ref.now ∷ begin_object ∷ key (codes "tf") ∷ number (decimal term_freq) ∷ end_object ∷ []) }

@@ -253,11 +253,12 @@ fn write_single<W: Tokens>(
         ++ postings_tokens (named names.now postings.now)) }
 {
     let posting = postings.pairs()[0];
+    let ranked = [(0, posting.number(), posting.frequency())];
     out.token(Token::Key("df"))?;
     out.number(1)?;
     out.token(Token::Key("docs"))?;
     out.token(Token::BeginObject)?;
-    write_posting(names.name(posting.number()), posting.frequency(), out)?;
+    write_ranked(names, &ranked, out)?;
     out.token(Token::EndObject)?;
     Ok(())
 }
@@ -296,7 +297,6 @@ fn write_ranked<W: Tokens>(
 }
 
 // Writes a reference and its frequency.
-#[inline(always)]
 fn write_posting<W: Tokens>(doc_ref: &str, term_freq: u64, out: &mut W) -> Result<(), AllocError>
     ensures { OnOk result (W.Tokens.written out.new ≡ W.Tokens.written out.old
         ++ key doc_ref.now ∷ begin_object ∷ key (codes "tf") ∷ number (decimal term_freq) ∷ end_object ∷ []) }

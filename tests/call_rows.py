@@ -81,7 +81,7 @@ STATES = {"run_on": '["kept"]'}
 
 # Calls that may go on without a request that is refused, and then give their whole answer. Where a trie can't remember a
 # token, it is walked the next time as well. A text that can't have room for all of it begins with less. The others collect
-# the characters of a class or a list of stop words, and `collect` of the kit makes do with less room than it asks for first.
+# the characters of a class or a list of stop words, and `collect` of the kit goes on when its first request is refused.
 GOES_ON = {"InvertedIndex add_tokens", "Index add_doc", "Index Index::new", "Index Index::with_language", "Index build",
            "Index to_json", "Pipeline RegexTrimmer::new", "language make_pipeline"}
 

@@ -13,7 +13,7 @@ ghost use Rattle.elasticlunr_trie_nodes.specs.Table.{postings_of};
 use crate::child::Child;
 use crate::names::{NameTexts, Names};
 use crate::nodes::{Node, Place, find, postings_at};
-use crate::posting::Posting;
+use crate::postings::Postings;
 use std::alloc::{AllocError, Global};
 use std::collections::BTreeMap;
 
@@ -21,18 +21,17 @@ use std::collections::BTreeMap;
 fn copy_postings(
     alloc: Global,
     names: &Names,
-    pairs: &[Posting],
+    postings: &Postings,
 ) -> Result<BTreeMap<String, u64>, AllocError>
     requires names { AreNames names.now }
-    requires postings { ArePostings names.now pairs.now }
-    ensures { IfOk result (λ m. postings_of m.entries ≡ named_pairs names.now pairs.now) }
+    requires postings { ArePostings names.now (entries postings.now) }
+    ensures { IfOk result (λ m. postings_of m.entries ≡ named_pairs names.now
+        (entries postings.now)) }
 {
     let mut docs = BTreeMap::new(alloc);
-    for posting in pairs {
-        docs.insert(
-            String::from_str(alloc, names.name(posting.number()))?,
-            posting.frequency(),
-        )?;
+    for i in 0..postings.len() {
+        let (number, frequency) = postings.at(i);
+        docs.insert(String::from_str(alloc, names.name(number))?, frequency)?;
     }
     Ok(docs)
 }
@@ -55,26 +54,28 @@ pub fn copy_docs(
         None => Ok(None),
         Some(Place::Root) => Ok(Some(BTreeMap::new(alloc))),
         Some(Place::At(k)) => {
-            let docs = copy_postings(alloc, names, postings_at(nodes, k).pairs())?;
+            let docs = copy_postings(alloc, names, postings_at(nodes, k))?;
             Ok(Some(docs))
         }
     }
 }
 
-// The rank of each pair's name, before the pair.
+// The rank of each posting's name, before its number and its frequency.
 fn with_ranks(
     alloc: Global,
     ranks: &[usize],
-    pairs: &[Posting],
+    postings: &Postings,
 ) -> Result<Vec<(usize, usize, u64)>, AllocError>
-    requires { (i : ℕ) → i < length pairs.now → key_at pairs.now i < length ranks.now }
+    requires { (i : ℕ) → i < length (entries postings.now)
+        → key_at (entries postings.now) i < length ranks.now }
     ensures { IfOk result (λ r. r.items ≡ map (λ p. (slice_index ranks.now p.0, p.0, p.1))
-        pairs.now) }
+        (entries postings.now)) }
 {
-    let mut ranked = Vec::with_capacity(alloc, pairs.len())?;
-    for posting in pairs {
-        let number = posting.number();
-        ranked.push((ranks[number], number, posting.frequency()))?;
+    let count = postings.len();
+    let mut ranked = Vec::with_capacity(alloc, count)?;
+    for i in 0..count {
+        let (number, frequency) = postings.at(i);
+        ranked.push((ranks[number], number, frequency))?;
     }
     Ok(ranked)
 }
@@ -85,16 +86,16 @@ pub fn in_order(
     alloc: Global,
     names: &NameTexts,
     ranks: &[usize],
-    pairs: &[Posting],
+    postings: &Postings,
 ) -> Result<Vec<(usize, usize, u64)>, AllocError>
     requires names { AreNames names.now }
     requires ranks { AreRanks names.now ranks.now }
-    requires postings { ArePostings names.now pairs.now }
-    ensures shown { IfOk result (λ r. entries (named_pairs names.now pairs.now)
+    requires postings { ArePostings names.now (entries postings.now) }
+    ensures shown { IfOk result (λ r. entries (named_pairs names.now (entries postings.now))
         ≡ under_names names.now (map (λ e. (e.1, e.2)) r.items)) }
     ensures there { IfOk result (λ r. AreThere names.now r.items) }
 {
-    let mut ranked = with_ranks(alloc, ranks, pairs)?;
+    let mut ranked = with_ranks(alloc, ranks, postings)?;
     ranked.sort_unstable_by_key(|&(rank, _, _)| rank);
     Ok(ranked)
 }

@@ -1,6 +1,6 @@
 //! Postings under names, put under numbers.
 ghost use Rattle.std.specs.Prelude.{◌≡◌, IsTrue, Some, OnOk, IfOk, IfSome, slice_get};
-ghost use Rattle.std.specs.FinMap.{empty};
+ghost use Rattle.std.specs.FinMap.{entries};
 ghost use Rattle.elasticlunr_trie_nodes.specs.Table.{postings_of};
 ghost use Rattle.elasticlunr_trie_nodes.specs.Names.{AreNames, ArePostings, Extends, at, entered};
 ghost use Rattle.elasticlunr_trie_nodes.specs.Names.{named_pairs};
@@ -11,7 +11,6 @@ ghost use Rattle.elasticlunr_trie_nodes.specs.Trie.{named};
 use crate::lists::list_new;
 use crate::names::Names;
 use crate::nodes::Reference;
-use crate::posting::Posting;
 use crate::postings::Postings;
 use std::alloc::{AllocError, Global};
 use std::collections::BTreeMap;
@@ -77,27 +76,30 @@ pub fn renumber(
     references: &mut Vec<Reference>,
     k: usize,
     old_names: &Names,
-    pairs: &[Posting],
+    old: &Postings,
 ) -> Result<Postings, AllocError>
     requires names { AreNames names.old }
     requires old_names { AreNames old_names.now }
-    requires postings { ArePostings old_names.now pairs.now }
+    requires postings { ArePostings old_names.now (entries old.now) }
     ensures names { IfOk result (λ _. AreNames names.new) }
     ensures extends { IfOk result (λ _. Extends names.old names.new) }
     ensures keeps { IfOk result (λ _. KeepsLists references.old.items references.new.items) }
     ensures listed { IfOk result (λ p. IsListed names.new references.new.items k p) }
-    ensures same { IfOk result (λ p. named names.new p ≡ named_pairs old_names.now pairs.now) }
+    ensures same { IfOk result (λ p. named names.new p ≡ named_pairs old_names.now
+        (entries old.now)) }
 {
-    let mut postings = Postings::with_room(alloc, pairs.len())?;
-    for posting in pairs {
+    let count = old.len();
+    let mut postings = Postings::with_room(alloc, count)?;
+    for i in 0..count {
+        let (number, frequency) = old.at(i);
         put_posting(
             alloc,
             names,
             references,
             k,
             &mut postings,
-            old_names.name(posting.number()),
-            posting.frequency(),
+            old_names.name(number),
+            frequency,
         )?;
     }
     Ok(postings)

@@ -1,22 +1,18 @@
 //! The postings of a node, by the numbers of their references.
 ghost use Rattle.std.specs.FinMap as map;
-ghost use Rattle.std.specs.Prelude.{◌≡◌, ◌≤◌, length, insert, OnOk, OnErr, IfOk, IfErr};
-ghost use Rattle.elasticlunr_trie_nodes.specs.Pairs.{value_of, IsStrictlySorted, IsAt, IsGapFor};
+ghost use Rattle.std.specs.Prelude.{◌≡◌, ◌<◌, slice_index_or, OnOk, OnErr, IfOk};
+ghost use Rattle.elasticlunr_trie_nodes.specs.Pairs.{value_of, IsStrictlySorted};
 ghost use Rattle.elasticlunr_trie_nodes.specs.Frequencies.{frequencies_of};
 
-use crate::inline_list::InlineList;
-use crate::posting::Posting;
+use crate::posting_list::PostingList;
 use std::alloc::{AllocError, Global};
 use std::marker::Model;
-
-// One posting alone stands in place: most tokens have one reference.
-type Pairs = InlineList<Posting>;
 
 /// A finite map from numbers of references to frequencies, as pairs in the order of the numbers. A
 /// new greatest number goes to the end without a search.
 #[derive(Debug, Drop)]
 pub struct Postings {
-    pairs: Pairs,
+    pairs: PostingList,
 }
 
 impl Model for Postings {
@@ -40,7 +36,7 @@ impl Postings {
         ensures { result ≡ map.empty }
     {
         Postings {
-            pairs: InlineList::new(alloc),
+            pairs: PostingList::new(alloc),
         }
     }
 
@@ -48,7 +44,7 @@ impl Postings {
     pub fn with_room(alloc: Global, count: usize) -> Result<Self, AllocError>
         ensures { IfOk result (λ p. p ≡ map.empty) }
     {
-        let pairs = InlineList::with_room(alloc, count)?;
+        let pairs = PostingList::with_room(alloc, count)?;
         Ok(Postings { pairs })
     }
 
@@ -56,21 +52,22 @@ impl Postings {
     pub fn len(&self) -> usize
         ensures { result ≡ map.len self.now }
     {
-        self.pairs().len()
+        self.pairs.len()
     }
 
-    /// The pairs in the order of the numbers.
-    pub fn pairs(&self) -> &[Posting]
-        ensures { result.now ≡ map.entries self.now }
+    /// The number and the frequency at a place, in the order of the numbers.
+    pub fn at(&self, i: usize) -> (usize, u64)
+        requires { i < map.len self.now }
+        ensures { result ≡ slice_index_or (map.entries self.now) i (0, 0) }
     {
-        self.pairs.as_slice()
+        self.pairs.get(i)
     }
 
     /// The frequency of a reference, if it has a posting.
     pub fn get(&self, number: usize) -> Option<u64>
         ensures { result ≡ map.get self.now number }
     {
-        value_of(self.pairs.as_slice(), number)
+        value_of(&self.pairs, number)
     }
 
     /// Sets the posting of a reference. One alone does not allocate.
@@ -89,63 +86,45 @@ impl Postings {
     }
 }
 
-// Where the pair of a number is, or where it would go. A number above all others is not searched
-// for.
-fn place_of(pairs: &[Posting], number: usize) -> Result<usize, usize>
-    requires { IsStrictlySorted pairs.now }
-    ensures found { IfOk result (IsAt pairs.now number) }
-    ensures absent { IfErr result (IsGapFor pairs.now number) }
-{
-    let count = pairs.len();
-    if count == 0 {
-        return Err(0);
-    }
-    if pairs[count - 1].number() < number {
-        return Err(count);
-    }
-    pairs.binary_search_by_key(&number, |posting| posting.number())
-}
-
 // The frequency under a number.
-fn value_of(pairs: &[Posting], number: usize) -> Option<u64>
-    requires { IsStrictlySorted pairs.now }
-    ensures { result ≡ value_of pairs.now number }
+fn value_of(pairs: &PostingList, number: usize) -> Option<u64>
+    requires { IsStrictlySorted pairs.now.items }
+    ensures { result ≡ value_of pairs.now.items number }
 {
-    match place_of(pairs, number) {
-        Ok(at) => Some(pairs[at].frequency()),
+    match pairs.search(number) {
+        Ok(at) => Some(pairs.get(at).1),
         Err(_) => None,
     }
 }
 
 // Sets the pair of a number.
-fn set_pair(pairs: &mut Pairs, number: usize, frequency: u64) -> Result<(), AllocError>
+fn set_pair(pairs: &mut PostingList, number: usize, frequency: u64) -> Result<(), AllocError>
     requires { IsStrictlySorted pairs.old.items }
     ensures sorted { IsStrictlySorted pairs.new.items }
     ensures ok { OnOk result (frequencies_of pairs.new.items
         ≡ map.insert (frequencies_of pairs.old.items) number frequency) }
     ensures err { OnErr result (pairs.new.items ≡ pairs.old.items) }
 {
-    let posting = Posting::new(number, frequency)?;
-    match place_of(pairs.as_slice(), number) {
+    match pairs.search(number) {
         Ok(at) => {
-            pairs.set(at, posting);
+            pairs.set(at, number, frequency)?;
             Ok(())
         }
         Err(at) => {
-            pairs.insert(at, posting)?;
+            pairs.insert(at, number, frequency)?;
             Ok(())
         }
     }
 }
 
 // Takes the pair of a number away.
-fn remove_pair(pairs: &mut Pairs, number: usize)
+fn remove_pair(pairs: &mut PostingList, number: usize)
     requires { IsStrictlySorted pairs.old.items }
     ensures sorted { IsStrictlySorted pairs.new.items }
     ensures removed { frequencies_of pairs.new.items ≡ map.remove (frequencies_of pairs.old.items)
         number }
 {
-    if let Ok(at) = place_of(pairs.as_slice(), number) {
+    if let Ok(at) = pairs.search(number) {
         pairs.remove(at);
     }
 }

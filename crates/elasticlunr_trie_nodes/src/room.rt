@@ -12,19 +12,19 @@ use std::alloc::{AllocError, Global};
 
 // Is the last posting of a place that of the reference with this number?
 fn ends_with(nodes: &[Node], place: Place, number: usize) -> bool {
-    let last = match place {
-        Place::Root => None,
-        Place::At(k) => nodes.get(k).and_then(|node| node.postings.pairs().last()),
+    let Place::At(k) = place else {
+        return false;
     };
-    match last {
-        Some(posting) => posting.number() == number,
-        None => false,
-    }
+    let Some(node) = nodes.get(k) else {
+        return false;
+    };
+    let count = node.postings.len();
+    count > 0 && node.postings.at(count - 1).0 == number
 }
 
 // How many of the places that tokens lead to don't end with a posting of the reference. Their last
-// postings are read one after the other, so that the processor loads several at once, and adding
-// finds them at hand.
+// postings are read one after the other, so that the processor loads several at once; adding then
+// finds them in its caches.
 fn count_new(nodes: &[Node], starts: &[WalkedToken<'_>], number: usize) -> usize {
     starts
         .iter()

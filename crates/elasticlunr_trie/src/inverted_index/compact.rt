@@ -125,7 +125,7 @@ fn bears_posting(node: &Node, marks: &[bool]) -> bool
     ensures { IsTrue result ↔ (HasFrequency node.now.postings
         ⊎ HasMarked marks.now node.now.children.items) }
 {
-    if !node.postings.pairs().is_empty() {
+    if node.postings.len() > 0 {
         return true;
     }
     has_marked(node.children.as_slice(), marks)
@@ -219,7 +219,7 @@ fn keep_nodes(
             references,
             kept.len(),
             names,
-            node.postings.pairs(),
+            &node.postings,
         )?;
         kept.push(Node { children, postings })?;
     }

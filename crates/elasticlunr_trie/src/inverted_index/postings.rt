@@ -9,7 +9,7 @@ ghost use Rattle.elasticlunr_trie.specs.Tokens.{told_postings};
 use super::InvertedIndex;
 use elasticlunr_trie_nodes::names::Names;
 use elasticlunr_trie_nodes::nodes::find_postings;
-use elasticlunr_trie_nodes::posting::Posting;
+use elasticlunr_trie_nodes::postings::Postings;
 use std::alloc::{AllocError, Global};
 
 impl InvertedIndex {
@@ -28,7 +28,7 @@ impl InvertedIndex {
             ≡ entries (postings self.now (chars token.now))) }
     {
         match find_postings(&self.root, &self.nodes, token) {
-            Some(postings) => in_name_order(alloc, &self.names, postings.pairs()),
+            Some(postings) => in_name_order(alloc, &self.names, postings),
             None => Ok(Vec::new(alloc)),
         }
     }
@@ -39,15 +39,18 @@ impl InvertedIndex {
 fn in_name_order<'a>(
     alloc: Global,
     names: &'a Names,
-    pairs: &[Posting],
+    postings: &Postings,
 ) -> Result<Vec<(&'a str, u64)>, AllocError>
     requires names { AreNames names.now }
-    requires postings { ArePostings names.now pairs.now }
-    ensures { IfOk result (λ v. told_postings v.items ≡ entries (named_pairs names.now pairs.now)) }
+    requires postings { ArePostings names.now (entries postings.now) }
+    ensures { IfOk result (λ v. told_postings v.items ≡ entries (named_pairs names.now
+        (entries postings.now))) }
 {
-    let mut named = Vec::with_capacity(alloc, pairs.len())?;
-    for posting in pairs {
-        named.push((names.name(posting.number()), posting.frequency()))?;
+    let count = postings.len();
+    let mut named = Vec::with_capacity(alloc, count)?;
+    for i in 0..count {
+        let (number, frequency) = postings.at(i);
+        named.push((names.name(number), frequency))?;
     }
     named.sort_unstable();
     Ok(named)

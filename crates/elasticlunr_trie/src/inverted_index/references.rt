@@ -5,7 +5,7 @@ ghost use Rattle.std.specs.List.Sorted.{IsStrictlySortedBy};
 ghost use Rattle.std.specs.Str.{chars};
 ghost use Rattle.elasticlunr_error.specs.Text.{Bytes, bytes_of, is_listed, text_cmp};
 ghost use Rattle.elasticlunr_error.specs.declared.error.IndexError.TheVariants.{Memory};
-ghost use Rattle.std.specs.FinMap.{get};
+ghost use Rattle.std.specs.FinMap.{entries, get};
 ghost use Rattle.elasticlunr_trie_nodes.specs.Names.{AreNames, ArePostings, named_pairs};
 ghost use Rattle.elasticlunr_trie_nodes.specs.Table.{posting};
 ghost use Rattle.elasticlunr_trie.specs.References.{texts_in};
@@ -14,7 +14,7 @@ use super::InvertedIndex;
 use elasticlunr_error::IndexError;
 use elasticlunr_trie_nodes::names::Names;
 use elasticlunr_trie_nodes::nodes::find_postings;
-use elasticlunr_trie_nodes::posting::Posting;
+use elasticlunr_trie_nodes::postings::Postings;
 use std::alloc::{AllocError, Global};
 use std::collections::BTreeSet;
 
@@ -54,7 +54,7 @@ impl InvertedIndex {
         ensures memory { IsOkUnless result Memory }
     {
         match find_postings(&self.root, &self.nodes, token) {
-            Some(postings) => Ok(put_names(&self.names, postings.pairs(), found)?),
+            Some(postings) => Ok(put_names(&self.names, postings, found)?),
             None => Ok(()),
         }
     }
@@ -63,21 +63,23 @@ impl InvertedIndex {
 // Puts the names of postings into a set.
 fn put_names<'a>(
     names: &'a Names,
-    pairs: &[Posting],
+    postings: &Postings,
     found: &mut BTreeSet<&'a str>,
 ) -> Result<(), AllocError>
     requires names { AreNames names.now }
-    requires postings { ArePostings names.now pairs.now }
+    requires postings { ArePostings names.now (entries postings.now) }
     ensures listed { OnOk result ((r : Bytes) → is_listed r (texts_in found.new)
-        ≡ (is_listed r (texts_in found.old) || is_some (get (named_pairs names.now pairs.now) r))) }
+        ≡ (is_listed r (texts_in found.old) || is_some (get (named_pairs names.now
+        (entries postings.now)) r))) }
     ensures keeps { (r : Bytes) → IsTrue (is_listed r (texts_in found.old))
         → IsTrue (is_listed r (texts_in found.new)) }
     ensures err { OnErr result ((r : Bytes) → IsTrue (is_listed r (texts_in found.new))
         → IsTrue (is_listed r (texts_in found.old) || is_some
-        (get (named_pairs names.now pairs.now) r))) }
+        (get (named_pairs names.now (entries postings.now)) r))) }
 {
-    for posting in pairs {
-        found.insert(names.name(posting.number()))?;
+    for i in 0..postings.len() {
+        let (number, _) = postings.at(i);
+        found.insert(names.name(number))?;
     }
     Ok(())
 }

@@ -1,7 +1,7 @@
 //! Comparing two tries.
 ghost use Rattle.std.specs.Prelude.{◌≡◌, ◌<◌, ◌↔◌, ℕ, Some, length, IsTrue, slice_get};
 ghost use Rattle.elasticlunr_error.specs.Text.{Bytes};
-ghost use Rattle.std.specs.FinMap.{get};
+ghost use Rattle.std.specs.FinMap.{entries, get};
 ghost use Rattle.elasticlunr_trie_nodes.specs.Names.{ArePostings, named_pairs, AreNames};
 ghost use Rattle.elasticlunr_trie_nodes.specs.Names.{AreNumbered, at};
 ghost use Rattle.elasticlunr_trie_nodes.specs.Nodes.{postings_at, AreAllNumbered};
@@ -11,7 +11,6 @@ ghost use Rattle.elasticlunr_trie.specs.Same.{IsSameBelow};
 use elasticlunr_trie_nodes::child::Child;
 use elasticlunr_trie_nodes::names::Names;
 use elasticlunr_trie_nodes::nodes::{Node, Place, children_at, frequency_of, postings_at};
-use elasticlunr_trie_nodes::posting::Posting;
 use elasticlunr_trie_nodes::postings::Postings;
 
 // Has the name of a number this posting on the other side?
@@ -30,21 +29,16 @@ fn same_posting(
 }
 
 // Is each of these postings one of the others?
-fn includes(names: &Names, pairs: &[Posting], names2: &Names, postings2: &Postings) -> bool
+fn includes(names: &Names, postings: &Postings, names2: &Names, postings2: &Postings) -> bool
     requires names { AreNames names.now }
-    requires postings { ArePostings names.now pairs.now }
-    ensures { IsTrue result ↔ ((r : Bytes) → (f : ℕ) → get (named_pairs names.now pairs.now) r
-        ≡ Some f
+    requires postings { ArePostings names.now (entries postings.now) }
+    ensures { IsTrue result ↔ ((r : Bytes) → (f : ℕ) → get (named_pairs names.now
+        (entries postings.now)) r ≡ Some f
         → at names2.now r postings2.now ≡ Some f) }
 {
-    for posting in pairs {
-        if !same_posting(
-            names,
-            posting.number(),
-            posting.frequency(),
-            names2,
-            postings2,
-        ) {
+    for i in 0..postings.len() {
+        let (number, frequency) = postings.at(i);
+        if !same_posting(names, number, frequency, names2, postings2) {
             return false;
         }
     }
@@ -59,8 +53,7 @@ fn same_postings(names: &Names, postings: &Postings, names2: &Names, postings2: 
     requires numbered2 { AreNumbered names2.now postings2.now }
     ensures { IsTrue result ↔ (named names.now postings.now ≡ named names2.now postings2.now) }
 {
-    includes(names, postings.pairs(), names2, postings2)
-        && includes(names2, postings2.pairs(), names, postings)
+    includes(names, postings, names2, postings2) && includes(names2, postings2, names, postings)
 }
 
 // Have these children the same character and the same postings?

@@ -125,5 +125,5 @@ fn visit_next<'a>(
 fn has_posting(nodes: &[Node], k: usize) -> bool
     ensures { result ≡ is_posted nodes.now k }
 {
-    k < nodes.len() && !postings_at(nodes, k).pairs().is_empty()
+    k < nodes.len() && postings_at(nodes, k).len() > 0
 }

@@ -131,7 +131,7 @@ fn root_value(
     while i > 0 {
         i -= 1;
         let node = &nodes[i];
-        let ranked = in_order(alloc, names, ranks, node.postings.pairs())?;
+        let ranked = in_order(alloc, names, ranks, &node.postings)?;
         let docs = docs_value(alloc, names, &ranked)?;
         let df = ranked.len() as u64;
         let value = node_value(alloc, node.children.as_slice(), docs, df, finished)?;

@@ -252,8 +252,8 @@ fn write_single<W: Tokens>(
     ensures { OnOk result (W.Tokens.written out.new ≡ W.Tokens.written out.old
         ++ postings_tokens (named names.now postings.now)) }
 {
-    let posting = postings.pairs()[0];
-    let ranked = [(0, posting.number(), posting.frequency())];
+    let (number, frequency) = postings.at(0);
+    let ranked = [(0, number, frequency)];
     out.token(Token::Key("df"))?;
     out.number(1)?;
     out.token(Token::Key("docs"))?;
@@ -270,7 +270,7 @@ fn write_sorted<W: Tokens>(order: Order, postings: &Postings, out: &mut W) -> Re
     ensures { OnOk result (W.Tokens.written out.new ≡ W.Tokens.written out.old
         ++ postings_tokens (named order.entry.names.now postings.now)) }
 {
-    let ranked = in_order(order.alloc, order.names, order.ranks, postings.pairs())?;
+    let ranked = in_order(order.alloc, order.names, order.ranks, postings)?;
     out.token(Token::Key("df"))?;
     out.number(ranked.len() as u64)?;
     out.token(Token::Key("docs"))?;

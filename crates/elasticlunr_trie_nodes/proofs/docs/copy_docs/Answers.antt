@@ -18,7 +18,7 @@ postings_at-requires c =
 
 pub copy_postings-requires-clause-postings : goal.copy_postings-requires-clause-postings
 copy_postings-requires-clause-postings c =
-    subst (ArePostings c.args.names.now) (sym (c.pairs.ensures ∙ ap entries c.postings_at.ensures))
+    subst (ArePostings c.args.names.now) (sym (ap entries c.postings_at.ensures))
     (pairs_are c.args.names.now (postings_at c.args.nodes.now c.in-Some-At.k)
     (c.requires.numbered c.in-Some-At.k))
 
@@ -33,6 +33,6 @@ returns-in_ok-docs-in-Some-At c =
     let leads = sym c.find.ensures ∙ c.in-Some-At.is ∙ ap Some c.in-Some-At.field-0-is in
     let P = postings_at c.args.nodes.now c.in-Some-At.k in
     ap Some (c.in_ok-docs-in-Some-At.ensures
-    ∙ ap (named_pairs c.args.names.now) (c.pairs.ensures ∙ ap entries c.postings_at.ensures)
+    ∙ ap (named_pairs c.args.names.now) (ap entries c.postings_at.ensures)
     ∙ sym (pairs_named c.args.names.now P (c.requires.numbered c.in-Some-At.k) c.requires.names))
     ∙ sym (ap (option_map (λ q. named c.args.names.now (entries_at c.args.root.now c.args.nodes.now q))) leads)

@@ -1,5 +1,5 @@
 use Rattle.std.proofs.Common.{subst, sym}
-use Rattle.elasticlunr_trie_nodes.specs.Pairs.{IsStrictlySorted, IsAt, IsGapFor}
+use Rattle.elasticlunr_trie_nodes.specs.Pairs.{IsStrictlySorted}
 use Rattle.elasticlunr_trie_nodes.proofs.Found.{value-remove, GetsAfterRemove}
 use Rattle.elasticlunr_trie_nodes.proofs.Gap.{sorted_remove, value_in_gap}
 use Rattle.elasticlunr_trie_nodes.proofs.Frequencies.{seen_remove, seen_absent}
@@ -7,12 +7,11 @@ use Rattle.elasticlunr_trie_nodes.proofs.postings.remove_pair.Goals as goal
 
 pub returns-in-Ok-clause-sorted : goal.returns-in-Ok-clause-sorted
 returns-in-Ok-clause-sorted c =
-    let here = subst (λ l. IsAt l c.args.number c.in-Ok.at) c.as_slice.ensures c.in-Ok.ensures.found in
-    subst IsStrictlySorted (sym c.remove.ensures) (sorted_remove _ c.requires _ here.in_range)
+    subst IsStrictlySorted (sym c.remove.ensures) (sorted_remove _ c.requires _ c.in-Ok.ensures.found.in_range)
 
 pub returns-in-Ok-clause-removed : goal.returns-in-Ok-clause-removed
 returns-in-Ok-clause-removed c =
-    let here = subst (λ l. IsAt l c.args.number c.in-Ok.at) c.as_slice.ensures c.in-Ok.ensures.found in
+    let here = c.in-Ok.ensures.found in
     let l = c.args.pairs.now.items in
     seen_remove l _ c.requires (subst IsStrictlySorted (sym c.remove.ensures)
     (sorted_remove _ c.requires _ here.in_range)) c.args.number
@@ -21,6 +20,4 @@ returns-in-Ok-clause-removed c =
 
 pub returns-in_default-clause-removed : goal.returns-in_default-clause-removed
 returns-in_default-clause-removed c =
-    let free = subst (λ l. IsGapFor l c.args.number c.in_default.field-0) c.as_slice.ensures c.in_default.ensures.absent
-    in
-    seen_absent _ c.requires _ (value_in_gap _ _ _ free)
+    seen_absent _ c.requires _ (value_in_gap _ _ _ c.in_default.ensures.absent)

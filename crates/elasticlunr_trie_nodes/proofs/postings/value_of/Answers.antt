@@ -1,13 +1,9 @@
-use Rattle.std.proofs.Common.{Some, length, refl, sym, ap, ◌∙◌}
-use Rattle.std.proofs.lemmas.List.{get_or_read_under}
+use Rattle.std.proofs.Common.{Some, sym, ap, ◌∙◌}
 use Rattle.elasticlunr_trie_nodes.proofs.Gap.{value_at_place, value_in_gap}
 use Rattle.elasticlunr_trie_nodes.proofs.postings.value_of.Goals as goal
 
 pub returns-in-Ok : goal.returns-in-Ok
-returns-in-Ok c =
-    let item = get_or_read_under c.args.pairs.now c.in-Ok.at (length c.args.pairs.now) c.index-pairs-at.result (0, 0)
-    c.index-pairs-at.is c.in-Ok.ensures.found.in_range refl in
-    ap Some (c.frequency.ensures ∙ ap (λ e. e.1) item) ∙ sym (value_at_place _ c.requires _ _ c.in-Ok.ensures.found)
+returns-in-Ok c = ap (λ e. Some e.1) c.get.ensures ∙ sym (value_at_place _ c.requires _ _ c.in-Ok.ensures.found)
 
 pub returns-in-Err : goal.returns-in-Err
 returns-in-Err c = sym (value_in_gap _ _ _ c.in-Err.ensures.absent)

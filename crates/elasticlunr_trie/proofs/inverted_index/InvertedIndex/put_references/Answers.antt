@@ -1,8 +1,7 @@
-use Rattle.std.proofs.Common.{◌||◌, is_some, sym, ap, subst, ◌∙◌}
+use Rattle.std.proofs.Common.{◌||◌, is_some, sym, ap, ◌∙◌}
 use Rattle.std.specs.FinMap.{get, get-empty}
 use Rattle.std.specs.Str.{chars}
 use Rattle.elasticlunr_error.specs.Text.{is_listed, text_cmp}
-use Rattle.elasticlunr_trie_nodes.specs.Names.{ArePostings, named_pairs}
 use Rattle.elasticlunr_trie_nodes.specs.Table.{postings}
 use Rattle.elasticlunr_trie_nodes.proofs.Named.{no_names, pairs_are, pairs_named}
 use Rattle.elasticlunr_trie.specs.References.{texts_in}
@@ -13,8 +12,7 @@ pub put_names-requires-clause-postings : goal.put_names-requires-clause-postings
 put_names-requires-clause-postings c =
     let found = rw (c.deref.ensures.value, c.deref-2.ensures.value) at c.in-Some.ensures in
     let names = c.self.inside.names in
-    subst (ArePostings names) (sym c.pairs.ensures)
-    (pairs_are names c.in-Some.postings.now (found.numbered names c.self.invariant.0.listed.named))
+    pairs_are names c.in-Some.postings.now (found.numbered names c.self.invariant.0.listed.named)
 
 pub returns-in_ok-put_names-in-Some-clause-listed : goal.returns-in_ok-put_names-in-Some-clause-listed
 returns-in_ok-put_names-in-Some-clause-listed c r =
@@ -23,8 +21,7 @@ returns-in_ok-put_names-in-Some-clause-listed c r =
     let P = c.in-Some.postings.now in
     c.in_ok-put_names-in-Some.ensures.listed r
     ∙ ap (λ Q. is_listed r (texts_in c.args.found.now) || is_some (get Q r))
-    (ap (named_pairs names) c.pairs.ensures
-    ∙ sym (pairs_named names P (found.numbered names c.self.invariant.0.listed.named)
+    (sym (pairs_named names P (found.numbered names c.self.invariant.0.listed.named)
     c.self.invariant.0.names_are) ∙ sym (found.postings names)
     ∙ ap (λ T. postings T (chars c.args.token.now)) c.self.view_is)
 
@@ -35,8 +32,7 @@ returns-in_err-put_names-in-Some-clause-err c =
     let P = c.in-Some.postings.now in
     on_err c.from_residual.result _ (λ r h.
     sym (ap (λ Q. is_listed r (texts_in c.args.found.now) || is_some (get Q r))
-    (ap (named_pairs names) c.pairs.ensures
-    ∙ sym (pairs_named names P (found.numbered names c.self.invariant.0.listed.named)
+    (sym (pairs_named names P (found.numbered names c.self.invariant.0.listed.named)
     c.self.invariant.0.names_are) ∙ sym (found.postings names)
     ∙ ap (λ T. postings T (chars c.args.token.now)) c.self.view_is)) ∙ c.in_err-put_names-in-Some.ensures.err r h)
 

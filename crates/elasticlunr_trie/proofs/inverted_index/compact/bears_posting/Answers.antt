@@ -1,13 +1,12 @@
-use Rattle.std.proofs.Common.{refl, inl, inr, sym, ap, ◌∙◌, length, true≢false}
-use Rattle.std.proofs.lemmas.Bool.{eq-eqb, eqb-true}
+use Rattle.std.proofs.Common.{refl, inl, inr, arith}
+use Rattle.std.specs.FinMap.{len-entries}
 use Rattle.elasticlunr_trie.proofs.Compact.{some_posting, bare_posting}
 use Rattle.elasticlunr_trie.proofs.inverted_index.compact.bears_posting.Goals as goal
 
-pub returns-then-not-is_empty : goal.returns-then-not-is_empty
-returns-then-not-is_empty c = (
+pub returns-then-len-gt0 : goal.returns-then-len-gt0
+returns-then-len-gt0 c = (
   λ _. inl (some_posting c.args.node.now.postings
-      (λ none. true≢false (sym (c.is_empty.ensures ∙ eq-eqb (length c.pairs.result.now) 0 (ap length c.pairs.ensures
-      ∙ none)) ∙ c.if-not-is_empty.true))),
+      (λ none. omega (arith, c.if-len-gt0.true, c.len.ensures, len-entries c.args.node.now.postings, none))),
   λ _. refl,
 )
 
@@ -16,9 +15,12 @@ returns c =
     let found = rw c.as_slice.ensures at c.has_marked.ensures in (
       λ h. inr (found.0 h),
       λ either. elim either [
-        | inl own ↦ absurd (bare_posting c.args.node.now.postings (sym (ap length c.pairs.ensures)
-            ∙ eqb-true (length c.pairs.result.now) 0 (sym c.is_empty.ensures ∙ c.if-not-is_empty.false)) own.0 own.1
-            own.2)
+        | inl own ↦ absurd (bare_posting c.args.node.now.postings (omega (
+          arith,
+          c.if-len-gt0.false,
+          c.len.ensures,
+          len-entries c.args.node.now.postings,
+        )) own.0 own.1 own.2)
         | inr other ↦ found.1 other
       ],
     )

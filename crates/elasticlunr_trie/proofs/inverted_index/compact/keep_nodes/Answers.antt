@@ -47,7 +47,7 @@ pub renumber-requires-clause-postings : goal.renumber-requires-clause-postings
 renumber-requires-clause-postings c =
     let here = get_there c.args.nodes.now c.loop-i.i c.index-nodes-i.result c.loop-i-test.true
     ∙ ap Some (sym c.index-nodes-i.is) in
-    subst (ArePostings c.args.names.now) (sym (c.pairs.ensures ∙ ap (λ o. entries (entries_of o)) (sym here)))
+    subst (ArePostings c.args.names.now) (sym (ap (λ o. entries (entries_of o)) (sym here)))
     (pairs_are c.args.names.now (postings_at c.args.nodes.now c.loop-i.i) (c.requires.numbered c.loop-i.i))
 
 pub loop-i-preserved-then-not-marks-i : goal.loop-i-preserved-then-not-marks-i
@@ -73,7 +73,7 @@ loop-i-preserved c =
     ∙ c.if-not-marks-i.false in
     let new = c.renumber.new.names in
     let ok = c.in_ok-postings.ensures in
-    let same = ok.same ∙ ap (named_pairs names) (c.pairs.ensures ∙ ap (λ o. entries (entries_of o)) (sym here))
+    let same = ok.same ∙ ap (named_pairs names) (ap (λ o. entries (entries_of o)) (sym here))
     ∙ sym (pairs_named names (postings_at nodes c.loop-i.i) (c.requires.numbered c.loop-i.i) c.requires.names) in
     let items = c.in_ok-push.ensures.items in
     record {

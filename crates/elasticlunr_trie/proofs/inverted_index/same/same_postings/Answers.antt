@@ -1,16 +1,14 @@
-use Rattle.std.proofs.Common.{sym, subst, ◌∙◌}
+use Rattle.std.proofs.Common.{sym, ◌∙◌}
 use mathlib.Core.Bool.{false≢true}
-use Rattle.elasticlunr_trie_nodes.specs.Names.{ArePostings}
 use Rattle.elasticlunr_trie_nodes.proofs.Named.{pairs_are, same_both_ways, one_way, other_way}
 use Rattle.elasticlunr_trie.proofs.inverted_index.same.same_postings.Goals as goal
 
 pub includes-requires-clause-postings : goal.includes-requires-clause-postings
-includes-requires-clause-postings c = subst (ArePostings c.args.names.now) (sym c.pairs.ensures)
-    (pairs_are c.args.names.now c.args.postings.now c.requires.numbered)
+includes-requires-clause-postings c = pairs_are c.args.names.now c.args.postings.now c.requires.numbered
 
 pub includes-requires-then-includes-clause-postings : goal.includes-requires-then-includes-clause-postings
-includes-requires-then-includes-clause-postings c = subst (ArePostings c.args.names2.now)
-    (sym c.pairs-then-includes.ensures) (pairs_are c.args.names2.now c.args.postings2.now c.requires.numbered2)
+includes-requires-then-includes-clause-postings c = pairs_are c.args.names2.now c.args.postings2.now
+    c.requires.numbered2
 
 pub returns-then-includes : goal.returns-then-includes
 returns-then-includes c =
@@ -18,8 +16,8 @@ returns-then-includes c =
     let names2 = c.args.names2.now in
     let P = c.args.postings.now in
     let Q = c.args.postings2.now in
-    let one = rw c.pairs.ensures at c.includes.ensures in
-    let other = rw c.pairs-then-includes.ensures at c.includes-then-includes.ensures in (
+    let one = c.includes.ensures in
+    let other = c.includes-then-includes.ensures in (
       λ h. same_both_ways names c.requires.names P c.requires.numbered names2 c.requires.names2 Q c.requires.numbered2
           (one.0 c.if-includes.true) (other.0 h),
       λ same. other.1 (other_way names c.requires.names P c.requires.numbered names2 c.requires.names2 Q
@@ -28,7 +26,7 @@ returns-then-includes c =
 
 pub returns-else-includes : goal.returns-else-includes
 returns-else-includes c =
-    let one = rw c.pairs.ensures at c.includes.ensures in (
+    let one = c.includes.ensures in (
       λ h. absurd (false≢true (sym c.if-includes.false ∙ h)),
       λ same. one.1 (one_way c.args.names.now c.requires.names c.args.postings.now c.requires.numbered c.args.names2.now
           c.requires.names2 c.args.postings2.now c.requires.numbered2 same),

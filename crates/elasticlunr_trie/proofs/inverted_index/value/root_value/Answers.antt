@@ -80,7 +80,7 @@ loop-i-preserved c =
     let ranked = c.in_ok-ranked.ranked.items in
     let shown : map.entries P ≡ under_names names (behind ranked) =
     ap map.entries (pairs_named names (postings_at nodes i) (c.requires.numbered i) c.requires.names
-    ∙ ap (named_pairs names) (sym (c.pairs.ensures ∙ ap (λ o. map.entries (entries_of o)) (sym here))))
+    ∙ ap (named_pairs names) (sym (ap (λ o. map.entries (entries_of o)) (sym here))))
     ∙ c.in_ok-ranked.ensures.shown in
     let docs = c.in_ok-docs.ensures ∙ ap (λ r. object (frequencies (under_names names (behind r))))
     c.deref.ensures.value ∙ ap (λ es. object (frequencies es)) (sym shown) in
@@ -133,7 +133,7 @@ in_order-requires-clause-postings c =
     let i = c.loop-i.i - 1 in
     let here = get_there nodes i c.index-nodes-i.result (omega (arith, c.loop-i.invariant.low))
     ∙ ap Some (sym c.index-nodes-i.is) in
-    subst (ArePostings c.args.names.now) (sym (c.pairs.ensures ∙ ap (λ o. map.entries (entries_of o)) (sym here)))
+    subst (ArePostings c.args.names.now) (sym (ap (λ o. map.entries (entries_of o)) (sym here)))
     (pairs_are c.args.names.now (postings_at nodes i) (c.requires.numbered i))
 
 pub docs_value-requires-clause-shown : goal.docs_value-requires-clause-shown
@@ -146,7 +146,7 @@ docs_value-requires-clause-shown c =
     let P = named names (postings_at nodes i) in
     let shown : map.entries P ≡ under_names names (behind c.in_ok-ranked.ranked.items) =
     ap map.entries (pairs_named names (postings_at nodes i) (c.requires.numbered i) c.requires.names
-    ∙ ap (named_pairs names) (sym (c.pairs.ensures ∙ ap (λ o. map.entries (entries_of o)) (sym here))))
+    ∙ ap (named_pairs names) (sym (ap (λ o. map.entries (entries_of o)) (sym here))))
     ∙ c.in_ok-ranked.ensures.shown in
     (P, shown ∙ ap (λ r. under_names names (behind r)) (sym c.deref.ensures.value))
 

@@ -1,7 +1,7 @@
-use Rattle.std.proofs.Common.{◌≡◌, ◌∷◌, ◌++◌, sym, ap, subst, ◌∙◌, append_assoc, codes, decimal}
+use Rattle.std.proofs.Common.{◌≡◌, ◌∷◌, ◌++◌, sym, ap, ◌∙◌, append_assoc, codes, decimal}
 use Rattle.json.specs.Token.{Token}
 use Rattle.std.specs.FinMap.{entries}
-use Rattle.elasticlunr_trie_nodes.specs.Names.{ArePostings, named_pairs, under_names}
+use Rattle.elasticlunr_trie_nodes.specs.Names.{under_names}
 use Rattle.elasticlunr_trie_nodes.specs.Trie.{named}
 use Rattle.elasticlunr_trie.specs.Tree.{frequencies}
 use Rattle.elasticlunr_json.specs.Tokens.{tokens_of}
@@ -11,8 +11,7 @@ use Rattle.elasticlunr_json.proofs.Rows.{four}
 use Rattle.elasticlunr_trie.proofs.inverted_index.write.write_sorted.Goals as goal
 
 pub in_order-requires-clause-postings : goal.in_order-requires-clause-postings
-in_order-requires-clause-postings g c = subst (ArePostings c.args.order.names.now) (sym c.pairs.ensures)
-    (pairs_are c.args.order.names.now c.args.postings.now c.requires.numbered)
+in_order-requires-clause-postings g c = pairs_are c.args.order.names.now c.args.postings.now c.requires.numbered
 
 pub returns : goal.returns
 returns g c =
@@ -21,8 +20,8 @@ returns g c =
     let P = named names c.args.postings.now in
     let r = c.in_ok-ranked.ranked.items in
     let is : entries P ≡ under_names names (behind r) =
-    ap entries (pairs_named names c.args.postings.now c.requires.numbered c.requires.order.0
-    ∙ ap (named_pairs names) (sym c.pairs.ensures)) ∙ c.in_ok-ranked.ensures.shown in
+    ap entries (pairs_named names c.args.postings.now c.requires.numbered c.requires.order.0)
+    ∙ c.in_ok-ranked.ensures.shown in
     let start = four old _ _ _ _ _ _ _ _ c.in_ok-token.ensures c.in_ok-number.ensures c.in_ok-token-2.ensures
     c.in_ok-token-3.ensures in
     let count = c.len.ensures ∙ c.in_ok-ranked.ranked.ok.0 ∙ sym (count_shown names P r is) in

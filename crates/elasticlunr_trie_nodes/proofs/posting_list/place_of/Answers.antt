@@ -1,7 +1,7 @@
 use Rattle.std.proofs.Common.{rules}
 use Rattle.std.proofs.lemmas.List.Sorted.{answers_always}
 use Rattle.elasticlunr_trie_nodes.proofs.Gap.{searched}
-use Rattle.elasticlunr_trie_nodes.proofs.postings.place_of.Goals as goal
+use Rattle.elasticlunr_trie_nodes.proofs.posting_list.place_of.Goals as goal
 
 -- the closure gives a pair's key
 pub returns-clause-found : goal.returns-clause-found

@@ -1,4 +1,4 @@
-//! Why a job came to no end.
+//! Why a job failed.
 
 use elasticlunr::IndexError;
 use elasticlunr_search::SearchError;

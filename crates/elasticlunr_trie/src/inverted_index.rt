@@ -67,8 +67,8 @@ use value::tree_value;
 /// to 27 bytes that `add_tokens` is given when it is known already, for the second time or as the
 /// beginning of another one, is remembered with its node, if a slot is free for it: a slot takes 32
 /// bytes, and at most three of four are taken. Where memory for more slots is refused, the token
-/// isn't remembered. There are numbers for 2^43 nodes and 2^48 references, more than memory has
-/// room for: a call that would make more of them fails as where memory is refused.
+/// isn't remembered. There are numbers for 2^43 nodes, more than memory has room for: a call that
+/// would make more of them fails as where memory is refused.
 #[derive(Drop)]
 pub struct InvertedIndex {
     root: Vec<Child>,

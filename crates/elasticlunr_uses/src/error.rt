@@ -1,4 +1,4 @@
-//! Why a use came to no end.
+//! Why a use failed.
 
 use elasticlunr::IndexError;
 use elasticlunr_job::outcome::JobError;

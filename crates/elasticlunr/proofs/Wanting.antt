@@ -1,4 +1,4 @@
--- Calls on an index that works want nothing but memory.
+-- Calls on an index that works fail only where memory is refused.
 use Rattle.std.proofs.Common.{◌≡◌, ◌↔◌, ◌⊎◌, ◌<◌, ◌≤◌, ℕ, List, length, Bool, true, false, Option, None, Some, Result}
 use Rattle.std.proofs.Common.{Ok, Err, IsNone, IsSomeAnd, inl, inr, true≢false, arith, refl, sym, ap, ◌∙◌}
 use Rattle.std.specs.Prelude.{IfErr, IsErrAnd}
@@ -17,7 +17,7 @@ there_works : {X : Type 0} (there : Option X) (Q : X → Type 0) → IsSomeAnd t
 there_works None Q some none = absurd some
 there_works (Some x) Q some none = true≢false none
 
--- an error that is passed on, and is want of memory
+-- an error that is passed on, and is out of memory
 pub memory_passed : {T : Type 0} (r : Result T IndexError) (e : IndexError) → IsErrAnd r (λ x. x ≡ e) → e ≡ Memory
     → IfErr r (λ x. x ≡ Memory)
 memory_passed (Ok x) e is memory = tt

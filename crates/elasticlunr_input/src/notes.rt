@@ -53,7 +53,7 @@ pub struct Notes {
     references: BTreeMap<String, usize>,
     /// Whether a field has a text, by its number.
     has_text: Vec<bool>,
-    /// The keys under which a text is no news, where the fields are those of the first object.
+    /// The keys that are not warned of, where the fields are those of the first object.
     known: Option<BTreeSet<String>>,
     /// How many documents were taken.
     taken: usize,

@@ -5,7 +5,7 @@ PROGRAM = crates/elasticlunr_index/out/elasticlunr_index
 COMMAND = crates/elasticlunr_cli/out/elasticlunr_cli
 PORT ?= 8095
 
-.PHONY: run try build command lib script calls demo test compare install
+.PHONY: run try build command lib script calls demo test compare mdbook install dist dist-test
 
 # Reads a job from standard input, and takes an example where that is a terminal or empty.
 run: build
@@ -50,7 +50,20 @@ test:
 compare: build
 	@bench/compare/compare.sh
 
+# Builds mdBook with elasticlunr-rs and with the crate of rust/, and compares the books that both build. It needs root, the
+# network and about an hour.
+mdbook: lib
+	@tests/mdbook.sh
+
 install: build command
 	@install -d "$(DESTDIR)$(PREFIX)/bin"
 	@install -m 755 $(PROGRAM) "$(DESTDIR)$(PREFIX)/bin/elasticlunr_index"
 	@install -m 755 $(COMMAND) "$(DESTDIR)$(PREFIX)/bin/elasticlunr"
+
+# The archive of a release, in out/dist.
+dist: build command lib
+	@python3 tools/dist.py
+
+# Unpacks it in a bare Debian, and tries there what its README says. Needs root, debootstrap and the network.
+dist-test: dist
+	@python3 tests/dist.py

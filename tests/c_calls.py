@@ -1,45 +1,106 @@
 #!/usr/bin/env python3
 """Builds the library for C by both compilers of the kit, links programs to it, and makes calls.
 
-usage: c_calls.py [WORD ..]
+usage: c_calls.py [--beside] [WORD ..]
 
 Each job of the table is answered as the table says, in a block of malloc and in the caller's bytes, by the archives and by
 the shared library; with each request for memory refused in turn; by four threads at the same time; and under valgrind, where
-it is installed. The example of examples/c is built as its first line says. With words, only the cases are tried that have one
-of them in their names.
+it is installed. So are documents in the flat form: those of the table as the table says, and made, refused and damaged ones as
+the model says (flat_model.py); and searches of indexes, as the built command answers them (search_inputs.py). The example of
+examples/c is built as its first line says. With words, only the cases are tried
+that have one of them in their names, such as `LLVM` or `index_documents`. With --beside, the library is built as `tools/library.py --beside` does it.
+
+If FORGED_LIBRARY is set, it is the folder of the one library that is tried, and none is built (tests/forgeries.py).
 """
+import functools
 import os
 import shutil
 import struct
 import subprocess
 import sys
 import tempfile
+from typing import NamedTuple
 
 sys.path.insert(0, os.path.join(os.path.dirname(__file__), ".."))
 
+from tests import flat_inputs, flat_model, search_inputs
+from tests.flat_model import AS_GIVEN, Document, Input, Value
 from tests.report import Results, is_asked
 from tests.tables import jobs, row_of
 from tools import library
 from tools.repository import TOP, run
 
 FEW = 40  # of the shortest jobs, whose requests are refused and which valgrind watches
+FEW_MADE = 120  # of the shortest made inputs, and of these each second one
+EACH = 20  # and of the damaged ones each of this number
+LEAST_MADE, LEAST_OF_TABLE, LEAST_DAMAGED = 250, 50, 7_600  # inputs
+LEAST_OF_STATUS = {flat_model.DONE: 700, flat_model.REFUSED: 600, flat_model.MALFORMED: 6_000}  # of the damaged ones
 SECONDS = 600
+SHOWN = 40  # failures that are printed
+DEEP = 20_000  # levels of Python; the tree of a long token has one for each character
 VALGRIND = ["valgrind", "--quiet", "--error-exitcode=9", "--leak-check=full", "--errors-for-leak-kinds=definite"]
-LEAST_REFUSED = 1_000
+LEAST_SEARCHES, LEAST_DAMAGED_SEARCHES, LEAST_NO_INDEX = 250, 600, 15  # inputs
+LEAST_REFUSED = {"answer": 2_000, "index_documents": 15_000, "search": 5_000}  # requests of each call
+PARTS = ("answer", "index_documents", "search", "symbols", "Python", "the example")
 EXAMPLE = {"fields": ["body"], "docs": [["1", "go"]]}  # a job of the table
+PAGE = "[{'id': 1, 'tags': 'the-pages', 'body': 'Red pages'}], fields=['tags', 'body']"
+PARTS_OF_TAGS = "tokens=lambda field, text: text.split('-') if field == 'tags' else None"
+ONE_BY_ONE = "tokens=lambda field, text: iter(['the', 'pages']) if field == 'tags' else None"
+FROM_LANGUAGE = "tokens=lambda *_: None"
+FOXES = "elasticlunr.build_index([{'id': 1, 'title': 'Page', 'body': ''}, {'id': 'a', 'body': 'fox fox'}], ['title', 'body'])"
+SPLIT = Document("1", (Value("the-pages", AS_GIVEN, ("the", "pages")), Value("Red pages")))
 
 
-# Calls of the module of Python: what each is about, the row of the table or the line that it prints, and the call
+class Call(NamedTuple):
+    """A call of the library, and inputs with their answers."""
+
+    name: str  # as tests/c_calls.c has it
+    rows: list
+    few: list  # those whose requests are refused and which valgrind watches
+
+
+# Calls of the module of Python: what each is about, the row of the table, the input or the line that it prints, and the call
 PYTHON = [
     ("a document", EXAMPLE, "build_index([{'id': '1', 'body': 'go'}])"),
     ("a number as reference", EXAMPLE, "build_index([{'id': 1, 'body': 'go', 'tags': ['a']}])"),
-    ("another reference", "TypeError document 1: its 'id' is no text and no whole number from 0", "build_index([{'id': None}])"),
-    ("a value that is no text", "TypeError document 2: its 'body' is no text", "build_index([{'id': 1, 'body': 'go'}, {'id': 2, 'body': 7}])"),
+    ("another reference", "TypeError document 1: its 'id' is not a text or a whole number from 0", "build_index([{'id': None}])"),
+    ("a value that is not a text", "TypeError document 2: its 'body' is not a text", "build_index([{'id': 1, 'body': 'go'}, {'id': 2, 'body': 7}])"),
     ("an unknown language", "RefusedError refused: unknown language", "build_index([], lang='german')"),
     ("a field that stands twice", "RefusedError refused: duplicate field", "build_index([], fields=['a', 'a'])"),
     ("half a character", "RefusedError refused: not JSON", "build_index([{'id': 1, 'body': chr(0xd800)}])"),
     ("no documents", {"fields": [], "docs": []}, "build_index([])"),
     ("the version", library.version(), "version()"),
+    ("tokens of a field", Input(("tags", "body"), (SPLIT,)), f"build_index({PAGE}, {PARTS_OF_TAGS})"),
+    ("tokens one by one", Input(("tags", "body"), (SPLIT,)), f"build_index({PAGE}, {ONE_BY_ONE})"),
+    ("no tokens at all", Input(("a",), (Document("1", (Value("the", AS_GIVEN),)),)), "build_index([{'id': 1, 'a': 'the'}], tokens=lambda *_: [])"),
+    ("tokens of no member", Input(("a",), (Document("1", (Value("", AS_GIVEN, ("a", "")),)),)), "build_index([{'id': 1}], ['a'], tokens=lambda *it: it)"),
+    ("tokens that the language makes", Input(("a",), (Document("1", (Value("Häuser der"),)),), "German", save=False),
+     f"build_index([{{'id': 1, 'a': 'Häuser der'}}], lang='German', save=False, {FROM_LANGUAGE})"),
+    ("the reference has no tokens", Input(("key", "a"), (Document("7", (Value("7"), Value("go", AS_GIVEN, ("a", "go")))),), ref="key"),
+     "build_index([{'key': '7', 'a': 'go'}], ['key', 'a'], ref='key', tokens=lambda field, text: {'a': [field, text]}[field])"),
+    ("a reference that comes again", Input(("a",), tuple(Document("1", (Value(it, AS_GIVEN, (it,)),)) for it in ("go", "b"))),
+     "build_index([{'id': 1, 'a': 'go'}, {'id': 1, 'a': 'b'}], tokens=lambda _, text: [text])"),
+    ("no documents, and tokens", Input((), ()), f"build_index([], {FROM_LANGUAGE})"),
+    ("a token that is not a text", "TypeError document 1: the tokens of its 'tags' are not a list of texts", f"build_index({PAGE}, tokens=lambda *_: ['a', 7])"),
+    ("a text for tokens", "TypeError document 1: the tokens of its 'tags' are not a list of texts", f"build_index({PAGE}, tokens=lambda *_: 'ab')"),
+    ("a lone surrogate in a token", "RefusedError refused: not Unicode", f"build_index({PAGE}, tokens=lambda *_: [chr(0xd800)])"),
+    ("a lone surrogate, and tokens", "RefusedError refused: not Unicode", f"build_index([{{'id': 1, 'a': chr(0xdfff)}}], {FROM_LANGUAGE})"),
+    ("an unknown language, and tokens", "RefusedError refused: unknown language", f"build_index([], lang='german', {FROM_LANGUAGE})"),
+    ("a field that stands twice, and tokens", "RefusedError refused: duplicate field", f"build_index([], fields=['a', 'a'], {FROM_LANGUAGE})"),
+    ("an error of the caller's function", "ZeroDivisionError division by zero", f"build_index({PAGE}, tokens=lambda *_: 1 / 0)"),
+    ("a hit", "('a', {'body': 'fox fox', 'id': 'a', 'title': ''})", f"search({FOXES}, 'fox', limit=1)[0][::2]"),
+    ("the best hit by boosts", "1", f"search({FOXES}, 'fox page', boosts={{'body': 0, 'title': 9}})[0].ref"),
+    ("hits with each word", "[]", f"search({FOXES}, 'fox page', needed='each')"),
+    ("a hit of a beginning", "1", f"search({FOXES}, 'pa', ['title'], expand=True)[0].ref"),
+    ("a hit without texts", "{}", "search(elasticlunr.build_index([{'id': 1, 'a': 'go'}], save=False), 'go')[0].doc"),
+    ("hits in no such field", "RefusedError refused: no such field", f"search({FOXES}, 'fox', fields=['none'])"),
+    ("hits in no index", "RefusedError refused: not JSON", "search('', 'fox')"),
+    ("a query that is not Unicode", "RefusedError refused: not Unicode", f"search({FOXES}, chr(0xd800))"),
+    ("an index that is not Unicode", "RefusedError refused: not JSON", "search(chr(0xd800), 'fox')"),
+    ("an unknown need", "ValueError needed is 'all' instead of 'one', 'each in one field', 'each'", f"search({FOXES}, 'fox', needed='all')"),
+    ("a boost past 255", "ValueError the boost of 'body' is not a whole number from 0 to 255", f"search({FOXES}, 'fox', boosts={{'body': 256}})"),
+    ("a limit below 0", "ValueError limit is -1 instead of a whole number from 0 to 2^32 - 1", f"search({FOXES}, 'fox', limit=-1)"),
+    ("tokens, and a pretty text", "ValueError tokens and pretty can't be used together", f"build_index({PAGE}, {FROM_LANGUAGE}, pretty=True)"),
 ]
 
 
@@ -65,22 +126,33 @@ def linked(folder, made, name, *flags):
     return path
 
 
-def check_answers(name, command, rows, results):
-    """Whether each job has the answer of the table. A program of C can't be told more than these."""
-    ended = run([*command, "answers"], listed(rows), seconds=SECONDS)
+def check_answers(name, command, call, rows, results):
+    """Whether each input has its answer. A program of C can't be told more than these."""
+    ended = run([*command, "answers", call], listed(rows), seconds=SECONDS)
     found = answers_in(ended.out)
     results.note(ended.status == 0 and len(found) == len(rows), f"c, {name}: status {ended.status}, {len(found)} answers, {ended.err[-300:]}")
     for number, (row, answer) in enumerate(zip(rows, found), 1):
-        results.note(answer == (row.status, row.out), f"c, {name}, job {number}: status {answer[0]} instead of {row.status}, or another text")
+        results.note(answer == (row.status, row.out), f"c, {name}, input {number}: status {answer[0]} instead of {row.status}, or another text")
 
 
-def check_said(name, command, mode, rows, least, results):
+def check_said(name, command, rows, least, results):
     """Whether the program finds no fault, and tried as many as `least`."""
-    ended = run([*command, mode], listed(rows), seconds=SECONDS)
+    ended = run(command, listed(rows), seconds=SECONDS)
     said = ended.out.decode(errors="replace").strip()
     tried = int(said.split()[0]) if said[:1].isdigit() else 0
     results.note(ended.status == 0 and tried >= least, f"c, {name}: status {ended.status}, {said}, {ended.err[-300:]}")
     print(f"c, {name}: {said}", flush=True)
+
+
+def check_call(compiler, call, programs, results):
+    """A call, in each of the ways that its inputs are tried."""
+    name = f"{compiler}, {call.name}"
+    check_answers(f"{name}, archive", [programs["archive"]], call.name, call.rows, results)
+    check_answers(f"{name}, shared library", [programs["shared"]], call.name, call.rows, results)
+    check_said(f"{name}, refused requests", [programs["counted"], "refused", call.name], call.few, LEAST_REFUSED[call.name], results)
+    check_said(f"{name}, threads", [programs["archive"], "threads", call.name], call.rows, len(call.rows), results)
+    if shutil.which(VALGRIND[0]):
+        check_answers(f"{name}, valgrind", [*VALGRIND, programs["archive"]], call.name, call.few, results)
 
 
 def check_example(made, folder, results):
@@ -97,14 +169,20 @@ def check_example(made, folder, results):
         results.note((ended.err, ended.status) == (b"refused: not JSON\n", 2), f"c, {name}, a refusal: status {ended.status}, {ended.err[:60]!r}")
 
 
+def printed(row):
+    """What is printed for a job of the table, for an input, or for a line."""
+    if isinstance(row, dict):
+        return row_of(row).out.decode()
+    return (row if isinstance(row, str) else flat_model.answer(flat_model.flat(row))[0].decode()) + "\n"
+
+
 def check_python(made, results):
     """Calls of the module of Python over the shared library, in a process of its own."""
     environment = {**os.environ, "PYTHONPATH": os.path.join(TOP, "python"), "ELASTICLUNR_LIBRARY": os.path.join(made, "lib", "libelasticlunr.so")}
     for name, row, words in PYTHON:
-        wanted = row_of(row).out.decode() if isinstance(row, dict) else row + "\n"
         script = f"import elasticlunr\ntry: print(elasticlunr.{words})\nexcept Exception as error: print(type(error).__name__, error)"
         ended = run([sys.executable, "-c", script], env=environment)
-        results.note(ended.out.decode(errors="replace") == wanted, f"c, Python, {name}: {ended.out[:100]!r}, {ended.err[-300:]!r}")
+        results.note(ended.out.decode(errors="replace") == printed(row), f"c, Python, {name}: {ended.out[:100]!r}, {ended.err[-300:]!r}")
 
 
 def check_symbols(made, results):
@@ -114,33 +192,86 @@ def check_symbols(made, results):
     results.note(sorted(shown) == sorted(library.functions()), f"c, symbols: {shown}")
 
 
-def check_library(compiler, made, folder, rows, results):
-    shared = os.path.join(made, "lib", "libelasticlunr.so")
-    short = sorted(rows, key=lambda row: len(row.given) + len(row.out))[:FEW]
-    archive = os.path.join(made, "lib", "libelasticlunr.a")
-    counted = linked(folder, made, "counted", archive, "-DCOUNTING", "-Wl,--wrap=malloc,--wrap=realloc,--wrap=free")
-    program = linked(folder, made, "program", archive)
-    check_answers(f"archive of {compiler}", [program], rows, results)
-    check_said(f"refused requests, {compiler}", [counted], "refused", short, LEAST_REFUSED, results)
-    check_said(f"threads, {compiler}", [program], "threads", rows, len(rows), results)
-    check_answers(f"shared library of {compiler}", [linked(folder, made, "shared", shared, f"-Wl,-rpath,{os.path.dirname(shared)}")], rows, results)
-    if shutil.which(VALGRIND[0]):
-        check_answers(f"valgrind, {compiler}", [*VALGRIND, program], short, results)
-    check_symbols(made, results)
-    check_python(made, results)
-    check_example(made, folder, results)
+def shortest(rows, number):
+    return sorted(rows, key=lambda row: len(row.given) + len(row.out))[:number]
+
+
+@functools.cache
+def jobs_asked():
+    """The jobs of the table."""
+    rows = list(jobs())
+    return Call("answer", rows, shortest(rows, FEW))
+
+
+@functools.cache
+def documents_asked(results):
+    """Documents in the flat form. Counts whether they are enough."""
+    made, of_table, damaged = flat_inputs.rows_of_made(), list(flat_inputs.rows_of_table()), flat_inputs.rows_of_damaged()
+    floors = [(made, LEAST_MADE), (of_table, LEAST_OF_TABLE), (damaged, LEAST_DAMAGED)]
+    floors += [([row for row in damaged if row.status == status], least) for status, least in LEAST_OF_STATUS.items()]
+    for rows, least in floors:
+        results.note(len(rows) >= least, f"c, index_documents: {len(rows)} inputs, and {least} are the least")
+    wrong = flat_inputs.wrongly_decoded()
+    results.note(not wrong, f"c, index_documents: {len(wrong)} inputs are not read back from their bytes: {wrong[:1]}")
+    few = [*shortest(made, FEW_MADE)[::2], *damaged[::EACH]]
+    return Call("index_documents", [*made, *of_table, *damaged], few)
+
+
+@functools.cache
+def searches_asked(results):
+    """Searches in the flat form. Counts whether they are enough."""
+    made, damaged, other = search_inputs.rows_of_searches(), search_inputs.rows_of_damaged(), search_inputs.rows_of_other_texts()
+    for rows, least in [(made, LEAST_SEARCHES), (damaged, LEAST_DAMAGED_SEARCHES), (other, LEAST_NO_INDEX)]:
+        results.note(len(rows) >= least, f"c, search: {len(rows)} inputs, and {least} are the least")
+    found = [row for row in made if row.status == flat_model.DONE and row.out]
+    results.note(len(found) >= LEAST_SEARCHES // 2, f"c, search: {len(found)} searches find something")
+    wrong = search_inputs.wrongly_decoded()
+    results.note(not wrong, f"c, search: {len(wrong)} searches are not read back from their bytes: {wrong[:1]}")
+    few = [*shortest(made, FEW), *damaged[::EACH], *shortest(other, 8)]
+    return Call("search", [*made, *damaged, *other], few)
+
+
+def check_library(compiler, made, folder, results):
+    """The library that a compiler made, in each part that is asked for."""
+    shared, archive = (os.path.join(made, "lib", name) for name in ("libelasticlunr.so", "libelasticlunr.a"))
+    programs = {
+        "archive": linked(folder, made, "program", archive),
+        "shared": linked(folder, made, "shared", shared, f"-Wl,-rpath,{os.path.dirname(shared)}"),
+        "counted": linked(folder, made, "counted", archive, "-DCOUNTING", "-Wl,--wrap=malloc,--wrap=realloc,--wrap=free"),
+    }
+    checks = [
+        lambda: check_call(compiler, jobs_asked(), programs, results),
+        lambda: check_call(compiler, documents_asked(results), programs, results),
+        lambda: check_call(compiler, searches_asked(results), programs, results),
+        lambda: check_symbols(made, results),
+        lambda: check_python(made, results),
+        lambda: check_example(made, folder, results),
+    ]
+    for part, check in zip(PARTS, checks):
+        if is_asked(f"{compiler}, {part}"):
+            check()
+
+
+def libraries(folder, top):
+    """The name of each compiler that is asked for, and the folder of the library that it made of the crates below `top`."""
+    if "FORGED_LIBRARY" in os.environ:
+        yield "LLVM", os.environ["FORGED_LIBRARY"]
+        return
+    for compiler, backend, made in [("LLVM", (), os.path.join(TOP, "out")), ("Rattle", ("--backend", "rattle"), folder)]:
+        if is_asked(f"{compiler}, {', '.join(PARTS)}"):
+            library.build(made, backend, top)
+            yield compiler, made
 
 
 def main():
-    results = Results("c")
+    top = library.copied() if "--beside" in sys.argv else TOP
+    sys.argv = [word for word in sys.argv if word != "--beside"]
+    results = Results("c", most=SHOWN)
+    sys.setrecursionlimit(DEEP)
     try:
-        rows = list(jobs())
         with tempfile.TemporaryDirectory() as folder:
-            for compiler, backend in [("LLVM", ()), ("Rattle", ("--backend", "rattle"))]:
-                if is_asked(compiler):
-                    made = os.path.join(folder, compiler)
-                    library.build(made, backend)
-                    check_library(compiler, made, folder, rows, results)
+            for compiler, made in libraries(folder, top):
+                check_library(compiler, made, folder, results)
     except (OSError, ValueError, subprocess.SubprocessError) as error:
         results.note(False, f"c: {error!r}")
     return results.report()

@@ -3,10 +3,11 @@
 
 usage: forgeries.py [-v] [CHECK ..]
 
-A forged program replaces the built program of a crate (FORGED_PROGRAM, FORGED_CRATE). A forged table or page is given to
-the check that reads it, and a forged page is in a copy of the folders that its check needs. None of them touches the
-repository. Without a name all checks are tried but those of NEEDS, which install or download what they need. If that can't
-be had, their forgeries are skipped. With -v each forgery has a line.
+A forged program replaces the built program of a crate (FORGED_PROGRAM, FORGED_CRATE), and a forged library the one for C
+(FORGED_LIBRARY). A forged table or page is given to the check that reads it, and a forged page is in a copy of the folders that
+its check needs. None of them touches the repository. Without a name all checks are tried but those of NEEDS: they install or
+download what they need, and if that can't be had, their forgeries are skipped; or they need the library for C in out/, which
+`make lib` builds. With -v each forgery has a line.
 """
 import json
 import os
@@ -21,14 +22,17 @@ from typing import NamedTuple
 
 sys.path.insert(0, os.path.join(os.path.dirname(__file__), ".."))
 
-from tests import browser_tools, tables
+from tests import browser_tools, dist_files, tables
 from tests.report import FAILED, Results
+from tools import library
 from tools.repository import TOP, lines_of, program, read, write
 
 NEEDS = {
     "compare_search": {"node", "elasticlunr.min.js"},
     "pieces": {"node", "elasticlunr.min.js"},
     "browser": {"chromium", "chromedriver", "selenium", "elasticlunr.min.js"},
+    "c_calls": set(),
+    "dist_files": {"git"},
 }
 ROW_1 = tables.row_of({"fields": ["body"], "docs": [["1", "go"]]}).out.decode()
 
@@ -112,20 +116,14 @@ JOBS = {  # forged programs that change the job
     "takes each language for English": 'job.pop("lang")',
     "writes to standard error, too": 'os.write(2, b"so")',
 }
+# Sixteen times as many steps for an input twice as long: more than the square, so that a slow program cannot hide them
+STEPS = "for step in range(int((os.fstat(0).st_size / %d) ** 4)): pass"
 CHANGES = {  # whose program is run, what is changed of its run, and how
     **{name: (INDEX, CHANGES_INPUT, OF_A_JOB % change) for name, change in JOBS.items()},
     "finds any word for all": (FIND, CHANGES_INPUT, 'given = given.replace(b\'"all"]\', b\'"any"]\', 1)'),
     "finds one reference less": (FIND, CHANGES_ANSWER, 'out = out[: out[:-1].rfind(b"\\n") + 1]'),
-    "takes time by the square": (
-        FIND,
-        CHANGES_ANSWER,
-        "for step in range(int((os.fstat(0).st_size / 1000) ** 2)): pass",
-    ),
-    "compares each word with all": (
-        COMMAND,
-        CHANGES_ANSWER,
-        "for step in range(int((os.fstat(0).st_size / 300) ** 2)): pass",
-    ),
+    "takes too many steps for the text": (FIND, CHANGES_ANSWER, STEPS % 65_000),
+    "takes too many steps for the words": (COMMAND, CHANGES_ANSWER, STEPS % 15_000),
     "may take more steps": (FIND, CHANGES_INPUT, 'given = given.replace(b\'"fields"\', b" " * 200_000 + b\'"fields"\', 1)'),
     "reads no index at any depth": (FIND, CHANGES_INPUT, 'given = given.replace(b"{", b\'{"x":0,\', 1)'),
     "ranks in the order of references": (COMMAND, CHANGES_ANSWER, 'out = b"".join(sorted(out.splitlines(True)))'),
@@ -156,6 +154,7 @@ class Forgery(NamedTuple):
     arguments: tuple = ()
     crate: str = INDEX  # whose program is forged
     top: str = TOP  # the repository that the check runs in
+    library: str = ""  # the folder of the library for C
 
 
 WRONG_JOB = r"^job \d+: status"
@@ -238,7 +237,7 @@ def forged_orders():
     for name, arguments, said in [
         ("finds nothing", keys, "keys that fall: .*: status 0, or another answer: ''"),
         ("crashes", keys, "keys that fall: .*: status -9, or another answer: ''"),
-        ("takes time by the square", unknown, r"references that docInfo hasn't: .*: 2\.6 times are the most"),
+        ("takes too many steps for the text", unknown, r"references that docInfo hasn't: .*: 2\.6 times are the most"),
         ("finds one reference less", bound, r"the bound of steps: \d+ documents share 10000 letters: another answer"),
         ("may take more steps", bound, r"the bound of steps: \d+ documents share 30000 letters: another answer"),
         ("finds one reference less", deep, r"deep job \d+, .* instead of "),
@@ -247,7 +246,7 @@ def forged_orders():
         yield Forgery(name, "orders", f"^order, {said}", name, arguments, FIND)
     for name, case, said in [
         ("crashes", "an index", "status -9, 0 documents of 16384"),
-        ("compares each word with all", "one document", r"million instructions, .*: 2\.6 times are the most"),
+        ("takes too many steps for the words", "one document", r"million instructions, .*: 2\.6 times are the most"),
     ]:
         yield Forgery(name, "one_hash", f"^one hash, {case}: .*{said}", name, (case,), COMMAND)
 
@@ -294,16 +293,24 @@ SCRIPTS = {
 }
 
 
-def forged_page(folder, name, case, file, old, new):
-    """A copy of the folders that the check needs, with a file of browser/ in which a text is replaced."""
+def forged_copy(folder, name, parts, links, replaced):
+    """A copy of the folders that a check needs, next to links to others, with a file in which a text is replaced."""
+    file, old, new = replaced
     top = os.path.join(folder, name.replace(" ", "-"))
-    for part in ("tests", "tools", "browser"):
+    for part in parts:
         shutil.copytree(os.path.join(TOP, part), os.path.join(top, part), ignore=shutil.ignore_patterns("__pycache__", "out"))
-    for path in ("README.md", "browser/out", "crates", "docs"):
+    for path in links:
         os.symlink(os.path.join(TOP, path), os.path.join(top, path))
-    text = read(f"browser/{file}")
-    assert text.count(old) == 1, f"browser/{file} hasn't {old} once"
-    write(os.path.join(top, "browser", file), text.replace(old, new))
+    text = read(file)
+    assert text.count(old) == 1, f"{file} hasn't {old} once"
+    write(os.path.join(top, file), text.replace(old, new))
+    return top
+
+
+def forged_page(folder, name, case, file, old, new):
+    """A page with a file of browser/ in which a text is replaced."""
+    links = ("README.md", "browser/out", "crates", "docs")
+    top = forged_copy(folder, name, ("tests", "tools", "browser"), links, (f"browser/{file}", old, new))
     return Forgery(name, "browser", f"^{case}: AssertionError: ", arguments=(case,), top=top)
 
 
@@ -357,14 +364,144 @@ HTML_READERS = {
 
 def forged_sites(folder):
     for name, (file, old, new, case, says) in HTML_READERS.items():
-        top = os.path.join(folder, name.replace(" ", "-"))
-        for part in ("tests", "tools", "python"):
-            shutil.copytree(os.path.join(TOP, part), os.path.join(top, part), ignore=shutil.ignore_patterns("__pycache__"))
-        os.symlink(os.path.join(TOP, "crates"), os.path.join(top, "crates"))
-        text = read(f"python/elasticlunr/{file}")
-        assert text.count(old) == 1, f"python/elasticlunr/{file} hasn't {old} once"
-        write(os.path.join(top, "python", "elasticlunr", file), text.replace(old, new))
+        top = forged_copy(folder, name, ("tests", "tools", "python"), ("crates",), (f"python/elasticlunr/{file}", old, new))
         yield Forgery(name, "site", f"^{says}", arguments=(case,), top=top)
+
+
+# Libraries for C: the body of elasticlunr_index_documents, where `kept` is the built one, and what the check must say
+LIBRARY = """
+#include "elasticlunr.h"
+#include <stdlib.h>
+#include <unistd.h>
+uint32_t kept(const uint8_t *input, size_t size, uint8_t **text, size_t *length);
+uint32_t elasticlunr_index_documents(const uint8_t *input, size_t size, uint8_t **text, size_t *length)
+{
+    BODY
+}
+"""
+KEPT = "uint32_t status = kept(input, size, text, length); "
+LIBRARIES = {
+    "a library that takes a byte too many": (
+        KEPT + "return status == 3 && size ? kept(input, size - 1, text, length) : status;", r"input \d+: status [02] instead of 3",
+    ),
+    "a library that takes all for malformed": ("return 3;", r"input \d+: status 3 instead of 0"),
+    "a library that writes where it has no text": ("*length = 0; return kept(input, size, text, length);", "no answer, and a length is written"),
+    "a library that hands out a text of malformed bytes": (
+        KEPT + "if (status == 3) *text = malloc(1); return status;", "a text without an answer, or an answer without a text",
+    ),
+    "a library that ends each text with a line feed": (
+        KEPT + "if (!status) *text = realloc(*text, *length + 1), (*text)[(*length)++] = 10; return status;", "status 0 instead of 0, or another text",
+    ),
+    "a library that keeps a block": (
+        "void *volatile block = malloc(8); return block ? kept(input, size, text, length) : 1;", "a block is not given back",
+    ),
+    "a library that takes refused memory for malformed": (KEPT + "return status == 1 ? 3 : status;", "another answer after a refused request"),
+    "a library that takes room for each number": (
+        KEPT + "if (status == 3) { void *volatile block = malloc(99999); free(block); } return status;", "take more memory than they have items",
+    ),
+    "a library for one thread": ("return getpid() == gettid() ? kept(input, size, text, length) : 3;", "another answer while other threads call"),
+}
+if shutil.which("valgrind"):
+    READS = "volatile uint8_t last = input[size]; return last < 256 ? kept(input, size, text, length) : 9;"
+    LIBRARIES["a library that reads a byte too many"] = (READS, "valgrind: status 9")
+
+# Files: a text of a file, what it is replaced by, the part that is tried, and what the check must say
+C_CALLS = {
+    "a model that accepts a byte too many": (
+        "tests/flat_model.py", "if self.at < len(self.given):", "if self.at + 1 < len(self.given):", r"input \d+: status 3 instead of [02]",
+    ),
+    "a model that runs all tokens through the pipeline": (
+        "tests/flat_model.py", "if value.source == AS_GIVEN:", "if value.source == MALFORMED:", "status 0 instead of 0, or another text",
+    ),
+    "a model that takes all tokens as they are": (
+        "tests/flat_model.py", "if value.source == AS_GIVEN:", "if value.source != FROM_TEXT:", "status 0 instead of 0, or another text",
+    ),
+    "a model that adds the last document first": (
+        "tests/flat_model.py", "for doc in it.docs:", "for doc in it.docs[::-1]:", "status 0 instead of 0, or another text",
+    ),
+    "a model that asks for the language last": (
+        "tests/flat_model.py", "if it.stages is None and it.lang not in LANGUAGES:",
+        "if it.stages is None and it.lang not in LANGUAGES and len(set(it.fields)) == len(it.fields):",
+        "status 2 instead of 2, or another text",
+    ),
+    "a decoder that reads another input": ("tests/flat_model.py", "Value(text, source, ", "Value(text, AS_GIVEN, ", "inputs are not read back"),
+    "inputs without damage": (
+        "tests/flat_inputs.py", "for it in short_inputs() for damaged in", "for it in () for damaged in", r"\d+ inputs, and \d+ are the least",
+    ),
+    "an answer that is never compared": ("tests/c_calls.c", "        print(made);", "        if (number) print(made);", r"status 0, \d+ answers"),
+    "a module that runs tokens through the pipeline": ("python/elasticlunr/__init__.py", "AS_GIVEN = 0, 2", "AS_GIVEN = 0, 1", "Python, tokens of a field: "),
+    "a module that makes tokens of the reference": (
+        "python/elasticlunr/__init__.py", "None if field == ref else tokens", "tokens", "Python, the reference has no tokens: ",
+    ),
+}
+
+# The same for searches
+SEARCHES = {
+    "a search that expands by any number": (
+        "tests/flat_model.py", "bool(self.number(2)), self.items(self.text)", "bool(self.number(256)), self.items(self.text)",
+        r"input \d+: status 3 instead of 0",
+    ),
+    "a search that never expands": ("tests/search_inputs.py", '["--expand"]', "[]", "status 0 instead of 0, or another text"),
+    "searches that find nothing": (
+        "tests/search_inputs.py", "in enumerate(QUERIES[name])", 'in enumerate([""] * len(QUERIES[name]))', r"\d+ searches find something",
+    ),
+}
+
+
+def forged_library(folder, name, body, built):
+    """The folder of a library that is the built one but for a function."""
+    made = os.path.join(folder, name.replace(" ", "-"))
+    shutil.copytree(built, made)
+    archive, own = os.path.join(made, "lib", "libelasticlunr.a"), os.path.join(made, "lib", "forged.o")
+    subprocess.run(["objcopy", "--redefine-sym", "elasticlunr_index_documents=kept", archive], check=True)
+    text = LIBRARY.replace("BODY", body).encode()
+    command = ["cc", "-O2", "-fPIC", "-D_GNU_SOURCE", "-I", os.path.join(made, "include")]
+    subprocess.run([*command, "-x", "c", "-c", "-o", own, "-"], input=text, check=True)
+    subprocess.run(["ar", "r", archive, own], check=True, capture_output=True)
+    library.link_shared(made)
+    return made
+
+
+def forged_libraries(folder):
+    built, part = os.path.join(folder, "library"), ("index_documents",)
+    for name in ("lib", "include"):
+        shutil.copytree(os.path.join(TOP, "out", name), os.path.join(built, name))
+    for name, (body, says) in LIBRARIES.items():
+        made = forged_library(folder, name, body, built)
+        yield Forgery(name, "c_calls", f"^c, .*{says}", arguments=part, library=made)
+    for name, (file, old, new, says) in {**C_CALLS, **SEARCHES}.items():
+        top = forged_copy(folder, name, ("tests", "tools", "python", "include"), ("crates",), (file, old, new))
+        words = ("search",) if name in SEARCHES else part if file.startswith("tests") else ("Python",)
+        yield Forgery(name, "c_calls", f"^c, .*{says}", arguments=words, top=top, library=built)
+
+
+# Releases: a file that makes them, a text of it, what it is replaced by, the case, and what the check must say
+RELEASES = {
+    "a release of this hour": ("dist.py", 'f"--mtime=@{seconds}"', '"--mtime=now"', "members", r"members: .*/bin: \("),
+    "a release without a folder": ("dist.py", '("browser", "examples"', '("examples"', "list", "list: browser/search.js is not in a release"),
+    "a release with a picture": ("dist.py", '".png", ', "", "list", "list: browser/search.png has no place in a release"),
+    "checksums of some files": ("dist.py", "for path in sorted(files))", "for path in sorted(files)[1:])", "checksums", "checksums: LICENSE-APACHE: None instead of "),
+    "a package of another folder": ("dist.py", '"${pcfiledir}/../.."', '"/usr/local"', "pkg-config", "pkg-config: --cflags gives "),
+    "programs for a newer glibc": ("dist.py", "name: (2, 34) for", "name: (2, 99) for", "refusals", "refusals: bin/elasticlunr, which needs GLIBC_2.35 "),
+    "programs with another library": ("dist.py", "if it not in PARTS_OF_GLIBC", "if False", "refusals", "refusals: .*, which needs GLIBC_2.2.5 of libother"),
+    "a README with a gap": ("dist.py", '.replace("CHECKSUM", checksum)', "", "texts", "texts: README.md has a place"),
+    "a page with a link to no file": ("dist.py", "else link[1]", "else link[0]", "texts", "texts: docs/COMMAND.md: there is no "),
+    "a manual without an option": ("manual.py", "*usage.options]", "*usage.options[1:]]", "manual", "manual: build --format: "),
+    "a manual without meanings": ("manual.py", "{escaped(meaning)}.", "See the help.", "manual", "manual: build --format: "),
+    "a shell that completes less": ("completions.py", "for word in usage.options]\n    return", "for word in usage.options[:3]]\n    return", "completions", "completions: share/fish/"),
+    "licenses of some crates": ("licenses.py", "set(named())", "set(named()[1:])", "licenses", "licenses: there is none of clap/"),
+    "a help that is read in part": ("usage.py", ' - {"Commands:", "Arguments:", "Options:"}', " - set(below)", "helps", "helps: another section "),
+}
+
+
+def forged_releases(folder):
+    """Copies of the scripts, next to links to all other files."""
+    copied = ("tests", "tools")
+    links = [path for path in os.listdir(TOP) if path not in copied]
+    for name, (file, old, new, case, says) in RELEASES.items():
+        top = forged_copy(folder, name, copied, links, (f"tools/{file}", old, new))
+        yield Forgery(name, "dist_files", f"^dist, {says}", arguments=("--built", case), top=top)
+    yield Forgery(FIXED, "dist_files", "^dist: ValueError", FIXED, ("--built", "none"), COMMAND)
 
 
 def forged_tables(folder):
@@ -469,6 +606,8 @@ def why_missed(forgery, paths):
     environment = dict(os.environ, RUN_SECONDS="1" if forgery.program == "does not end" else "20")
     if forgery.program:
         environment.update(FORGED_PROGRAM=paths[forgery.program], FORGED_CRATE=forgery.crate)
+    if forgery.library:
+        environment.update(FORGED_LIBRARY=forgery.library)
     command = [sys.executable, os.path.join(forgery.top, "tests", forgery.check + ".py"), *forgery.arguments]
     ended = subprocess.run(command, env=environment, stdout=subprocess.PIPE, stderr=subprocess.STDOUT, text=True)
     said = ended.stdout
@@ -478,7 +617,7 @@ def why_missed(forgery, paths):
     return None if any(re.search(forgery.says, line) for line in failures) else f"it says something else: {' | '.join(failures)[:300]}"
 
 
-def forgeries(folder):
+def forgeries(folder, names):
     few_jobs = write_table(os.path.join(folder, "few-jobs.jsonl"), lines_of(tables.JOBS)[-ROWS:], ROWS)
     yield from forged_programs(few_jobs)
     yield from forged_refusals()
@@ -490,15 +629,20 @@ def forgeries(folder):
     yield from forged_searches()
     yield from forged_readers(folder)
     yield from forged_pages(folder)
+    if "c_calls" in names:
+        yield from forged_libraries(folder)
+    yield from forged_releases(folder)
 
 
 def main():
     names = [word for word in sys.argv[1:] if word != "-v"]
-    lacking = browser_tools.prepare() if set(names) & set(NEEDS) else set()
+    lacking = browser_tools.prepare() if any(NEEDS.get(name, set()) - {"git"} for name in names) else set()
+    if not dist_files.has_history():
+        lacking = lacking | {"git"}
     results = Results("forgeries")
     with tempfile.TemporaryDirectory() as folder:
         paths = write_programs(folder)
-        for forgery in forgeries(folder):
+        for forgery in forgeries(folder, names):
             if forgery.check not in names if names else forgery.check in NEEDS:
                 continue
             if lacking & NEEDS.get(forgery.check, set()):

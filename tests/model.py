@@ -79,10 +79,11 @@ def store(job, commands):
     return {"save": job.save, "docs": docs, "docInfo": lengths, "length": len(docs)}
 
 
-def value(job, commands):
+def value(job, commands, pipeline):
+    """The value of an index, whose stages have the names in `pipeline`."""
     return {
         "fields": job.fields,
-        "pipeline": stages(LANGUAGES[job.lang]),
+        "pipeline": pipeline,
         "ref": job.ref,
         "version": VERSION,
         "index": {field: trie(commands, field) for field in job.fields},
@@ -132,7 +133,8 @@ def commands_of(job):
 
 def printed(job):
     layout = {"indent": 2} if job.pretty else {"separators": (",", ":")}
-    return json.dumps(value(job, commands_of(job)), ensure_ascii=False, sort_keys=True, **layout)
+    whole = value(job, commands_of(job), stages(LANGUAGES[job.lang]))
+    return json.dumps(whole, ensure_ascii=False, sort_keys=True, **layout)
 
 
 def refusal(item) -> Optional[str]:

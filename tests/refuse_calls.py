@@ -10,8 +10,8 @@ and ` -> ` right after, so the requests of the call alone are counted (count_req
 - a call that promises not to allocate makes no request between its beginning and its end;
 - each other call, with its first, second and each later request refused, answers that it is out of memory, and then the
   state before the call is the state after it. After `add_tokens` the first of its tokens may have their postings. After
-  `add_doc` of an index each call but `get_fields` answers that the index has failed. The calls of GOES_ON may give their
-  whole answer as well, and then what follows is as if nothing had been refused.
+  `add_doc` of an index, with tokens or without, each call but `get_fields` answers that the index has failed. The calls of
+  GOES_ON may give their whole answer as well, and then what follows is as if nothing had been refused.
 
 And each call that may run out of memory did so at least once, and so did each that may go on. call_rows.py says what each
 call promises. With -v each call has a line.
@@ -84,7 +84,7 @@ def after(row, number):
     _, state = call_rows.SUBJECTS.get(row.kind().split(" ")[0], (None, None))
     if row.kind().startswith("Index") and call not in call_rows.INDEX:
         return [], []
-    if row.kind().startswith("Index") and call == "add_doc":
+    if row.kind().startswith("Index") and call in ("add_doc", "add_doc_with_tokens"):
         fields = ["get_fields", *fields_of(row, number)]
         shown = [json.dumps(made, ensure_ascii=False) for made in [fields, *ON_FAILED]]
         return shown, ["true", *[FAILED] * len(ON_FAILED)]

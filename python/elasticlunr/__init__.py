@@ -1,36 +1,53 @@
-"""Search indexes for elasticlunr.js: `build_index` makes one of documents, and `python3 -m elasticlunr.site` one of a folder of HTML.
+"""Search indexes for elasticlunr.js: `build_index` makes one of documents, `search` finds documents in it, and
+`python3 -m elasticlunr.site` makes one of a folder of HTML.
 
-The index is made by libelasticlunr.so, which `make lib` builds. It is looked for under the name that the environment variable
-ELASTICLUNR_LIBRARY has, in the folder `out/lib` next to the folder of this package, and where the system keeps libraries.
+The index is made and searched by libelasticlunr.so, which `make lib` builds. It is looked for under the name that the environment variable
+ELASTICLUNR_LIBRARY has, in the folder `out/lib` of the repository or `lib` of the release that this package is a part of, and
+where the system keeps libraries.
 """
 import ctypes
 import ctypes.util
 import functools
 import json
 import os
-from typing import Iterable, Mapping, Optional, Sequence, Union
+from typing import Callable, Iterable, List, Mapping, NamedTuple, Optional, Sequence, Union
 
-__all__ = ["RefusedError", "build_index", "version"]
+__all__ = ["Hit", "RefusedError", "build_index", "search", "version"]
 
 NAME = "libelasticlunr.so"
-DONE, MEMORY = 0, 1  # statuses of a call
+PLACES = ("out/lib", "lib")  # of the repository, and of a release
+DONE, MEMORY, MALFORMED = 0, 1, 3  # statuses of a call
+BUILT_IN = 0  # whose language it is, in the flat form that elasticlunr.h describes
+FROM_TEXT, AS_GIVEN = 0, 2  # where the tokens of a value come from
+NEEDED = {"one": 0, "each in one field": 1, "each": 2}  # which words of a query are needed, in the flat form
 Member = Union[str, int]
+Tokens = Callable[[str, str], Optional[Iterable[str]]]
 
 
 class RefusedError(ValueError):
     """What was asked for is refused; the text says why."""
 
 
+class Hit(NamedTuple):
+    """A document that a search found."""
+
+    ref: str
+    score: Optional[float]  # None where it is too large for a number of JSON
+    doc: Optional[Mapping[str, str]]  # its stored texts by the names of their fields; None without a document of this reference
+
+
 @functools.lru_cache(maxsize=None)
 def _library() -> ctypes.CDLL:
-    near = os.path.join(os.path.dirname(os.path.abspath(__file__)), "..", "..", "out", "lib", NAME)
+    top = os.path.join(os.path.dirname(os.path.abspath(__file__)), "..", "..")
+    near = filter(os.path.isfile, (os.path.join(top, place, NAME) for place in PLACES))
     named = os.environ.get("ELASTICLUNR_LIBRARY")
-    library = ctypes.CDLL(named or (near if os.path.isfile(near) else ctypes.util.find_library("elasticlunr") or NAME))
+    library = ctypes.CDLL(named or next(near, None) or ctypes.util.find_library("elasticlunr") or NAME)
     pointer = ctypes.POINTER(ctypes.c_ubyte)
-    library.elasticlunr_answer.argtypes = [
-        ctypes.c_char_p, ctypes.c_size_t, ctypes.POINTER(pointer), ctypes.POINTER(ctypes.c_size_t),
-    ]
-    library.elasticlunr_answer.restype = ctypes.c_uint32
+    given, text = [ctypes.c_char_p, ctypes.c_size_t], [ctypes.POINTER(pointer), ctypes.POINTER(ctypes.c_size_t)]
+    library.elasticlunr_answer.argtypes = library.elasticlunr_index_documents.argtypes = given + text
+    library.elasticlunr_search.argtypes = given + given + text
+    for call in (library.elasticlunr_answer, library.elasticlunr_index_documents, library.elasticlunr_search):
+        call.restype = ctypes.c_uint32
     library.elasticlunr_free.argtypes = [pointer]
     library.elasticlunr_free.restype = None
     library.elasticlunr_version.restype = ctypes.c_char_p
@@ -42,13 +59,15 @@ def version() -> str:
     return _library().elasticlunr_version().decode()
 
 
-def _answer(job: bytes) -> str:
-    """The text of a job's index."""
+def _answer(call: str, *given: bytes) -> str:
+    """The text that a call of the library makes of these bytes."""
     library = _library()
     text, length = ctypes.POINTER(ctypes.c_ubyte)(), ctypes.c_size_t()
-    status = library.elasticlunr_answer(job, len(job), ctypes.byref(text), ctypes.byref(length))
+    status = getattr(library, call)(*(it for each in given for it in (each, len(each))), ctypes.byref(text), ctypes.byref(length))
     if status == MEMORY:
         raise MemoryError("out of memory")
+    if status == MALFORMED:
+        raise RefusedError("refused: not Unicode")  # all else of the form is right
     try:
         line = ctypes.string_at(text, length.value).decode().removesuffix("\n")
     finally:
@@ -64,15 +83,52 @@ def _reference(document: Mapping[str, Member], ref: str, number: int) -> str:
         return reference
     if isinstance(reference, int) and not isinstance(reference, bool) and reference >= 0:
         return str(reference)
-    raise TypeError(f"document {number}: its {ref!r} is no text and no whole number from 0")
+    raise TypeError(f"document {number}: its {ref!r} is not a text or a whole number from 0")
 
 
 def _values(document: Mapping[str, Member], fields: Sequence[str], number: int) -> list:
     values = [document.get(field, "") for field in fields]
     for field, value in zip(fields, values):
         if not isinstance(value, str):
-            raise TypeError(f"document {number}: its {field!r} is no text")
+            raise TypeError(f"document {number}: its {field!r} is not a text")
     return values
+
+
+def _flat_number(number: int) -> bytes:
+    return number.to_bytes(4, "little")
+
+
+def _flat_text(text: str) -> bytes:
+    """The text in the flat form. The library refuses a lone surrogate."""
+    data = text.encode("utf-8", "surrogatepass")
+    return _flat_number(len(data)) + data
+
+
+def _flat_list(items: Sequence[bytes]) -> bytes:
+    return _flat_number(len(items)) + b"".join(items)
+
+
+def _flat_value(field: str, text: str, tokens: Optional[Tokens], number: int) -> bytes:
+    """A value in the flat form, with the tokens that the caller makes of it, if any."""
+    found = tokens(field, text) if tokens is not None else None
+    if found is None:
+        return _flat_text(text) + _flat_number(FROM_TEXT)
+    listed = list(found)
+    if isinstance(found, str) or not all(isinstance(token, str) for token in listed):
+        raise TypeError(f"document {number}: the tokens of its {field!r} are not a list of texts")
+    return _flat_text(text) + _flat_number(AS_GIVEN) + _flat_list([_flat_text(token) for token in listed])
+
+
+def _flat_document(document: Sequence[str], fields: Sequence[str], ref: str, tokens: Tokens, number: int) -> bytes:
+    """A document, its reference and its values, in the flat form."""
+    reference, *values = document
+    flat = [_flat_value(field, text, None if field == ref else tokens, number) for field, text in zip(fields, values)]
+    return _flat_text(reference) + _flat_list(flat)
+
+
+def _default_fields(listed: Sequence[Mapping[str, Member]], ref: str) -> Sequence[str]:
+    first = listed[0] if listed else {}
+    return sorted((name for name, value in first.items() if isinstance(value, str) and name != ref), key=lambda it: it.encode())
 
 
 def build_index(
@@ -82,6 +138,7 @@ def build_index(
     ref: str = "id",
     save: bool = True,
     pretty: bool = False,
+    tokens: Optional[Tokens] = None,
 ) -> str:
     """The text of the index of these documents, which elasticlunr.js loads.
 
@@ -89,13 +146,59 @@ def build_index(
     came before replaces it. The member of each field is a text, or is not there, which counts as an empty one.
     Without `fields` these are the members of the first document that are texts, in the order of their bytes.
 
-    `lang` is the name of a language, as "German". Without `save` the index has no texts. Raises a TypeError for a member that is
-    no text, and a RefusedError for an unknown language, a field that stands twice, or texts that are no Unicode.
+    `lang` is the name of a language, as "German". Without `save` the index has no texts. `pretty` puts each of its members on a
+    line.
+
+    `tokens` is called with the name of the field and the text, for each text of each field that isn't the reference's. The tokens
+    that it returns are indexed as they are; for None the language makes them of the text. The text is always stored.
+
+    Raises a TypeError for a member or a token that is not a text, a RefusedError for an unknown language, a field that stands twice,
+    or texts that are no Unicode, and a ValueError for `pretty` with `tokens`.
     """
+    if pretty and tokens is not None:
+        raise ValueError("tokens and pretty can't be used together")
     listed = list(documents)
-    if fields is None:
-        first = listed[0] if listed else {}
-        fields = sorted((name for name, value in first.items() if isinstance(value, str) and name != ref), key=lambda it: it.encode())
+    fields = _default_fields(listed, ref) if fields is None else list(fields)
     docs = [[_reference(it, ref, number), *_values(it, fields, number)] for number, it in enumerate(listed, 1)]
-    job = {"fields": list(fields), "docs": docs, "lang": lang, "ref": ref, "save": bool(save), "pretty": bool(pretty)}
-    return _answer(json.dumps(job).encode())
+    if tokens is None:
+        job = {"fields": fields, "docs": docs, "lang": lang, "ref": ref, "save": bool(save), "pretty": bool(pretty)}
+        return _answer("elasticlunr_answer", json.dumps(job).encode())
+    settings = _flat_number(BUILT_IN) + _flat_text(lang) + _flat_text(ref) + _flat_number(bool(save))
+    flat = [_flat_document(it, fields, ref, tokens, number) for number, it in enumerate(docs, 1)]
+    return _answer("elasticlunr_index_documents", settings + _flat_list([_flat_text(it) for it in fields]) + _flat_list(flat))
+
+
+def _flat_boost(field: str, boost: int) -> bytes:
+    if not 0 <= boost <= 255:
+        raise ValueError(f"the boost of {field!r} is not a whole number from 0 to 255")
+    return _flat_text(field) + _flat_number(boost)
+
+
+def search(
+    index: str,
+    query: str,
+    fields: Optional[Sequence[str]] = None,
+    boosts: Optional[Mapping[str, int]] = None,
+    needed: str = "one",
+    expand: bool = False,
+    limit: int = 10,
+) -> List[Hit]:
+    """What a query finds in the text of an index, the best first, as `elasticlunr search --json` prints it.
+
+    `fields` are the names of the fields that are searched, without it all. `boosts` has whole numbers from 0 to 255; the boost of
+    a field is 1 unless it says another one. `needed` says which words of the query a document must have: "one" of them, "each" of
+    them, or "each in one field". With `expand` a token of the index counts that begins with one of the query. At most `limit`
+    documents come; 0 is no limit.
+
+    Raises a RefusedError for a text that is not an index, or that has no field of one of these names, and a ValueError for other
+    arguments than these.
+    """
+    if needed not in NEEDED:
+        raise ValueError(f"needed is {needed!r} instead of " + ", ".join(map(repr, NEEDED)))
+    if not 0 <= limit < 1 << 32:
+        raise ValueError(f"limit is {limit!r} instead of a whole number from 0 to 2^32 - 1")
+    words = _flat_text(query) + _flat_number(NEEDED[needed]) + _flat_number(bool(expand))
+    names = _flat_list([_flat_text(field) for field in fields or ()])
+    numbers = _flat_list([_flat_boost(field, boost) for field, boost in (boosts or {}).items()])
+    found = _answer("elasticlunr_search", index.encode("utf-8", "surrogatepass"), words + names + numbers + _flat_number(limit))
+    return [Hit(**json.loads(line)) for line in found.split("\n") if line]

@@ -12,6 +12,14 @@ pub record LanguageReads (tokens_of : Text → List Text) (leaves_of : Text → 
   pub each : AllZip leaves_of (tokens_of (chars value)) lefts
   pub are : tokens ≡ filter_map (λ left. left) lefts
 
+-- these are what is left of tokens that are given; `leaves_of` relates a token to what may be left
+-- of it
+pub record LanguageLeaves (leaves_of : Text → Option Text → Type 0) (given tokens : List Text)
+    : Type 0 where
+  pub lefts : List (Option Text)
+  pub each : AllZip leaves_of given lefts
+  pub are : tokens ≡ filter_map (λ left. left) lefts
+
 -- where the one produces tokens of a value, the other does, too
 abbrev pub ReadsOnly : (reads other : ℕ → Bytes → List Text → Type 0) → Type 0
 ReadsOnly reads other = (i : ℕ) (value : Bytes) (tokens : List Text) → reads i value tokens

@@ -2,6 +2,7 @@
 pub mod calls;
 pub mod current;
 pub mod found;
+pub mod given;
 pub mod reading;
 pub mod word;
 

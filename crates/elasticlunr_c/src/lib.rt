@@ -1,21 +1,12 @@
-//! The answer to a job, for C and for languages that call C: bytes in, bytes out. `elasticlunr.h`
-//! declares these functions, and says what a caller has to ensure.
+//! The library for C, and for languages that call C: bytes in, bytes out. `elasticlunr.h` declares
+//! these functions, and says what a caller has to ensure.
 #![tactic(auto)]
 
-ghost use Rattle.std.specs.Prelude.{◌≡◌, ◌++◌, ◌≤◌, ◌<◌, IfOk, drop, length, string_bytes};
-ghost use Rattle.elasticlunr_c.specs.Calls.{HasStatus, IsAnsweredBy, IsAnsweredInto};
-ghost use Rattle.elasticlunr_c.specs.Calls.{IsPut};
-ghost use Rattle.elasticlunr_job.specs.Answer.{IsAnswer};
+ghost use Rattle.elasticlunr_c_calls.specs.Calls.{IsAnsweredBy, IsAnsweredInto, IsIndexedBy};
+ghost use Rattle.elasticlunr_c_calls.specs.Calls.{IsSearchedBy};
 
-use elasticlunr_job::answer::answer;
-use elasticlunr_job::outcome::Outcome;
-use std::alloc::{AllocError, Global};
-
-const DONE: u32 = 0;
-
-const MEMORY: u32 = 1;
-
-const REFUSED: u32 = 2;
+use elasticlunr_c_calls::{answer_into, answer_text, hand_out, index_answer, search_answer};
+use std::alloc::Global;
 
 /// Writes the answer to a job to the beginning of `out`, and returns its length. If `out` is
 /// shorter, nothing is written. The status is 0 for the text of an index, 2 for the line of a
@@ -29,16 +20,7 @@ pub extern "C" fn elasticlunr_answer_into(
 ) -> usize
     ensures answered { IsAnsweredInto job.now out.old out.new status.new result }
 {
-    match answer_to(alloc, job) {
-        Ok((outcome, line)) => {
-            *status = status_of(outcome);
-            put(line.as_bytes(), out)
-        }
-        Err(_) => {
-            *status = MEMORY;
-            0
-        }
-    }
+    answer_into(alloc, job, out, status)
 }
 
 /// The same answer in a block of `malloc`, at `text`, with its length. Where memory ran out, both
@@ -52,44 +34,55 @@ pub extern "C" fn elasticlunr_answer(
 ) -> u32
     ensures answered { IsAnsweredBy job.now length.old length.new result }
 {
-    match answer_to(alloc, job) {
-        Ok((outcome, line)) => {
-            let mut bytes = line.into_bytes();
-            *length = bytes.len();
-            *text = bytes.as_mut_ptr();
-            bytes.leak();
-            status_of(outcome)
+    match answer_text(alloc, job) {
+        Ok((status, answer)) => {
+            hand_out(answer, text, length);
+            status
         }
-        Err(_) => MEMORY,
+        Err(status) => status,
     }
 }
 
-/// The answer to a job, which is copied.
-fn answer_to(alloc: Global, job: &[u8]) -> Result<(Outcome, String), AllocError>
-    ensures { IfOk result (λ a. IsAnswer job.now a.0 (string_bytes a.1)) }
+/// The index of documents in the flat form, whose tokens may come with them, in a block of `malloc`.
+/// The status is 0 for the text of an index, 2 for the line of a refusal, 1 where memory ran out,
+/// and 3 where the bytes are not in the flat form. At 1 and 3 both stay as they were.
+#[unsafe(no_mangle)]
+pub extern "C" fn elasticlunr_index_documents(
+    alloc: Global,
+    input: &[u8],
+    text: &mut *mut u8,
+    length: &mut usize,
+) -> u32
+    ensures indexed { IsIndexedBy input.now length.old length.new result }
 {
-    let bytes = Vec::from_slice(alloc, job)?;
-    answer(alloc, bytes)
-}
-
-/// The status of an outcome.
-fn status_of(outcome: Outcome) -> u32
-    ensures { HasStatus outcome result }
-{
-    match outcome {
-        Outcome::Printed => DONE,
-        Outcome::Refused(_) => REFUSED,
+    match index_answer(alloc, input) {
+        Ok((status, answer)) => {
+            hand_out(answer, text, length);
+            status
+        }
+        Err(status) => status,
     }
 }
 
-/// Writes a line to the beginning of these bytes if there is room, and returns its length.
-fn put(line: &[u8], out: &mut [u8]) -> usize
-    ensures length { result ≡ length line.now }
-    ensures put { IsPut line.now out.old out.new }
+/// What a search in the flat form finds in the text of an index: a line of JSON for each hit, the
+/// best first, in a block of `malloc`. The status is 0 for these lines, of which there may be none,
+/// 2 for the line of a refusal, 1 where memory ran out, and 3 where the search is not in the flat
+/// form. At 1 and 3 both stay as they were.
+#[unsafe(no_mangle)]
+pub extern "C" fn elasticlunr_search(
+    alloc: Global,
+    index: &[u8],
+    search: &[u8],
+    text: &mut *mut u8,
+    length: &mut usize,
+) -> u32
+    ensures searched { IsSearchedBy index.now search.now length.old length.new result }
 {
-    let length = line.len();
-    if length <= out.len() {
-        out[..length].copy_from_slice(line);
+    match search_answer(alloc, index, search) {
+        Ok((status, answer)) => {
+            hand_out(answer, text, length);
+            status
+        }
+        Err(status) => status,
     }
-    length
 }

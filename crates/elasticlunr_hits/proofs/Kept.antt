@@ -12,7 +12,7 @@ use Rattle.elasticlunr.specs.Kept.{KeptReads}
 use Rattle.elasticlunr_ranking.specs.Order.{told_hits}
 use Rattle.elasticlunr_ranking.specs.declared.hits.Hit.{Hit}
 use Rattle.elasticlunr_search.specs.Ranking.{AreBestHits, AreRankedHits}
-use Rattle.elasticlunr_search.specs.Standing.{AreFoundWithinTries, fields_of}
+use Rattle.elasticlunr_search.specs.Standing.{AreFoundWithinTries, fields_of, kept_contents}
 use Rattle.elasticlunr_search.specs.Tries.{FindsAcross}
 use Rattle.elasticlunr_search.specs.declared.searcher.Searcher.{Searcher}
 use Rattle.elasticlunr_search.specs.declared.words.Join.TheVariants as join
@@ -24,8 +24,13 @@ use Rattle.elasticlunr_hits.specs.declared.asked.Needed.TheVariants.{One, EachIn
 
 module _ {P X : Type 0} {O : X → Type 0} {p : _} (leaves : (v : X) × O v → Text → Option Text)
     (s : Searcher AnyLanguage P X O p) (asked : Asked) where
+  -- what stays in the index that it searches
+  abbrev Stays : (reads : ℕ → Bytes → List Text → Type 0) → Needed → (ranking kept : List Told) → Type 0
+  Stays reads needed ranking kept =
+      KeepsNeeded reads (fields_of s) s.printed.tries.items (kept_contents s) asked needed ranking kept
+
   keeps_all : (reads : ℕ → Bytes → List Text → Type 0) (needed : Needed) → needed ≢ Each → (ranking : List Told)
-      → KeepsNeeded reads s asked needed ranking ranking
+      → Stays reads needed ranking ranking
   keeps_all reads One apart ranking = refl
   keeps_all reads EachInOneField apart ranking = refl
   keeps_all reads Each apart ranking = absurd (apart refl)
@@ -38,8 +43,10 @@ module _ {P X : Type 0} {O : X → Type 0} {p : _} (leaves : (v : X) × O v → 
     first_come apart limit is hits best language speaks = let by = best language speaks in record {
       options = options;
       of_asked = of_asked;
+      tokens = by.tokens;
+      of_query = by.of_query;
       ranking = by.are.0;
-      ranked = record { tokens = by.tokens; of_query = by.of_query; are = by.are.1 };
+      ranked = by.are.1;
       kept = by.are.0;
       needed = keeps_all (KeptReads language) asked.needed apart by.are.0;
       are = by.are.2 ∙ sym (ap (λ l. at_most l by.are.0) is);
@@ -49,11 +56,13 @@ module _ {P X : Type 0} {O : X → Type 0} {p : _} (leaves : (v : X) × O v → 
     pub all_come : asked.needed ≢ Each → asked.limit ≡ None → (hits : List Told)
         → AreRankedHits (λ _. words) language_leaves leaves s asked.query.now options hits
         → AreHitsOf leaves s asked hits
-    all_come apart is hits ranked language speaks = record {
+    all_come apart is hits ranked language speaks = let by = ranked language speaks in record {
       options = options;
       of_asked = of_asked;
+      tokens = by.tokens;
+      of_query = by.of_query;
       ranking = hits;
-      ranked = ranked language speaks;
+      ranked = by.are;
       kept = hits;
       needed = keeps_all (KeptReads language) asked.needed apart hits;
       are = sym (ap (λ l. at_most l hits) is);
@@ -70,17 +79,20 @@ module _ {P X : Type 0} {O : X → Type 0} {p : _} (leaves : (v : X) × O v → 
     found_come each ranking ranked names found named has kept stay hits are language speaks =
         let found_by = has language speaks in
         let reads = KeptReads language in
-        let keeps : KeepsFound reads s asked ranking kept = (
+        let by = ranked language speaks in
+        let keeps : KeepsFound reads (fields_of s) s.printed.tries.items (kept_contents s) asked ranking kept = (
           found,
           subst (λ ns. FindsAcross reads (fields_of s) s.printed.tries.items ns asked.query.now found) named found_by,
           stay found_by.are.sorted,
         ) in record {
           options = options;
           of_asked = of_asked;
+          tokens = by.tokens;
+          of_query = by.of_query;
           ranking = ranking;
-          ranked = ranked language speaks;
+          ranked = by.are;
           kept = kept;
-          needed = subst (λ needed. KeepsNeeded reads s asked needed ranking kept) (sym each) keeps;
+          needed = subst (λ needed. Stays reads needed ranking kept) (sym each) keeps;
           are = are;
         }
 

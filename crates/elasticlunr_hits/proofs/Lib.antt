@@ -3,3 +3,4 @@ pub mod Boosts
 pub mod InOrder
 pub mod Kept
 pub mod Texts
+pub mod Unfound

@@ -1,3 +1,4 @@
 pub mod Asked
 pub mod Hits
+pub mod InText
 pub mod Lines

@@ -58,7 +58,7 @@ AllZip-push R [] (b ∷ ys) x y all r = absurd all
 AllZip-push R (a ∷ xs) [] x y all r = absurd all
 AllZip-push R (a ∷ xs) (b ∷ ys) x y all r = (all.0, AllZip-push R xs ys x y all.1 r)
 
-AllZip_more : {X A B : Type 0} (f : X → A) (R : A → B → Type 0) (xs : List X) (ys : List B) (i : ℕ) (x : X) (y : B)
+pub AllZip_more : {X A B : Type 0} (f : X → A) (R : A → B → Type 0) (xs : List X) (ys : List B) (i : ℕ) (x : X) (y : B)
     → i < length xs → x ≡ get_or xs i x → AllZip R (map f (take i xs)) ys → R (f x) y
     → AllZip R (map f (take (i + 1) xs)) (ys ++ y ∷ [])
 AllZip_more f R xs ys i x y lt is so_far r = subst (λ zs. AllZip R zs (ys ++ y ∷ [])) (sym (map_more f xs i x lt is))

@@ -28,7 +28,7 @@ told_print (Ok text) Stands plan pretty text_of same told = λ commands stands.
     (let print = told commands commands stands (inl refl) in (print.0, print.1, print.2 ∙ same print.0))
 told_print (Err e) Stands plan pretty text_of same told = told
 
-zip_more : {A B : Type 0} (P Q : A → B → Type 0) (xs : List A) (ys : List B) → ((x : A) (y : B) → P x y → Q x y)
+pub zip_more : {A B : Type 0} (P Q : A → B → Type 0) (xs : List A) (ys : List B) → ((x : A) (y : B) → P x y → Q x y)
     → AllZip P xs ys → AllZip Q xs ys
 zip_more P Q [] [] f h = tt
 zip_more P Q [] (y ∷ ys) f h = absurd h

@@ -146,8 +146,8 @@ fn index_line(alloc: Global, bytes: Vec<u8>) -> Result<String, JobError>
     job_line(alloc, &job)
 }
 
-/// The line of a refusal.
-fn refusal_line(refusal: Refusal) -> &'static str
+/// The line of a refusal, as a program writes it.
+pub fn refusal_line(refusal: Refusal) -> &'static str
     ensures { result.now ≡ line (refusal_text refusal) }
 {
     match refusal {

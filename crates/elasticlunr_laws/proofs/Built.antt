@@ -1,11 +1,14 @@
 -- The settings of an index that was built, and what it then reads.
-use Rattle.std.proofs.Common.{◌≡◌, ◌↔◌, ℕ, zero, suc, List, [], ◌∷◌, Bool, Option, None, Some, IsTrue, filter_map, subst}
+use Rattle.std.proofs.Common.{◌≡◌, ◌↔◌, ℕ, zero, suc, List, [], ◌∷◌, Bool, true, Option, None, Some, IsTrue, filter_map}
+use Rattle.std.proofs.Common.{codes, refl, subst}
 use Rattle.std.specs.List.{AllByRecursion, AllZip, slice_get}
 use Rattle.std.specs.Str.{all_scalars, chars}
-use Rattle.elasticlunr.specs.Choices.{Choices, IsBuiltBy, IsMadeAt, Reads}
+use Rattle.elasticlunr.specs.Choices.{Choices, beginning, with_field, IsBuiltBy, IsMadeAt, Reads}
 use Rattle.elasticlunr.specs.Documents.{IsDocument}
-use Rattle.elasticlunr.specs.History.{Document}
+use Rattle.elasticlunr.specs.History.{Document, none, ◌▸◌, add}
+use Rattle.elasticlunr.specs.Printed.{IsPrintOf}
 use Rattle.elasticlunr.specs.Reading.{LanguageReads, ReadsOnly}
+use Rattle.elasticlunr.specs.Standing.{Plan}
 use Rattle.elasticlunr.specs.Text.{Text, Bytes}
 use Rattle.elasticlunr.proofs.Calling.{document_more}
 use Rattle.elasticlunr.proofs.Reading.{leaves_as}
@@ -108,3 +111,43 @@ left_as M R same made tokens are ran makes i value is = record {
   each = subst (λ ts. AllZip R ts ran.0) is (leaves_as M R (λ token left t. (same token left t).0) made ran.0 are ran.1);
   are = ran.2;
 }
+
+-- the document of an index of two fields, of which the first has a tokenizer: of what `gives` says of the one and of the
+-- words of the other it has what the language leaves
+pub document_of_titled : {L P T : Type 0} (tokens_of : L → Text → List Text) (answers : T → Bytes → List Text → Type 0)
+    (M : P → Text → Option Text → Type 0) (index : Choices L P T) (r : Bytes) (values : List Bytes) (d : Document)
+    → IsDocument index.fields index.reference_field (Reads tokens_of answers (λ pipeline made tokens.
+    (lefts : List (Option Text)) × AllZip (M pipeline) made lefts × (tokens ≡ filter_map (λ left. left) lefts)) index) r
+    values d → (given : Choices L (Option P) T) → IsBuiltBy given index
+    → (language : L) (own : T) (field other : Bytes)
+    → given ≡ with_field other None (with_field field (Some own) (beginning language))
+    → (gives : Bytes → List Text → Type 0) → ((value : Bytes) (made : List Text) → answers own value made → gives value
+    made) → (R : Text → Option Text → Type 0)
+    → ((token : Text) (left : Option Text) → IsTrue (all_scalars token) → M index.pipeline token left ↔ R token left)
+    → (reads : ℕ → Bytes → List Text → Type 0)
+    → ((value : Bytes) (tokens : List Text) → (made : List Text) × gives value made × LanguageReads (λ _. made) R zero
+    value tokens → reads zero value tokens)
+    → ((value : Bytes) (tokens : List Text) → LanguageReads (tokens_of language) R 1 value tokens → reads 1 value tokens)
+    → IsDocument (field ∷ other ∷ []) (codes "id") reads r values d
+document_of_titled {L} {P} {T} tokens_of answers M index r values d is given by language own field other same gives answered R
+    leaves reads first second =
+    let built = built_with _ index (subst (λ (ch : Choices L (Option P) T). IsBuiltBy ch index) same by) index.pipeline refl
+    in
+    document_of_two tokens_of answers _ index r values d is language index.pipeline own field other (codes "id") true built
+    reads
+    (λ value made tokens are gave ran. first value tokens (
+      made,
+      answered value made gave,
+      left_as (M index.pipeline) R leaves made tokens are ran (λ _. made) zero value refl,
+    ))
+    (λ value made tokens are made_of ran. second value tokens
+    (left_as (M index.pipeline) R leaves made tokens are ran (tokens_of language) 1 value made_of))
+
+-- what is printed of an equal plan is printed of this one; so of one document
+pub print_with : (plan same : Plan) (document : Document) (text : Bytes) (Q : Document → Type 0) → plan ≡ same
+    → IsPrintOf plan (none ▸ add document) text → Q document → (d : Document) × IsPrintOf same (none ▸ add d) text × Q d
+print_with plan same document text Q alike print has = (
+  document,
+  subst (λ (pl : Plan). IsPrintOf pl (none ▸ add document) text) alike print,
+  has,
+)

@@ -1,19 +1,26 @@
 -- What is found after calls, in an index of one field, by the current texts.
 use Rattle.std.proofs.Common.{◌≡◌, ◌≢◌, ◌⊎◌, ◌↔◌, ℕ, zero, suc, List, [], ◌∷◌, ◌++◌, Option, None, Some, IsSomeAnd, refl}
-use Rattle.std.proofs.Common.{subst}
-use Rattle.std.specs.Prelude.{IfSome}
+use Rattle.std.proofs.Common.{inl, sym, subst}
+use Rattle.std.specs.Prelude.{Contains, IfSome}
 use Rattle.std.specs.List.{slice_get}
 use Rattle.elasticlunr.specs.Calls.{Call, adding, AreCommandsOf}
-use Rattle.elasticlunr.specs.Current.{current}
+use Rattle.elasticlunr.specs.Current.{current, IsReadableAfter}
 use Rattle.elasticlunr.specs.Documents.{HoldsReference, IsDocument}
 use Rattle.elasticlunr.specs.Found.{AreExactly}
 use Rattle.elasticlunr.specs.FoundAfter.{CallsAreRead, IsReadOf}
 use Rattle.elasticlunr.specs.History.{Commands}
+use Rattle.elasticlunr.specs.Standing.{Plan}
 use Rattle.elasticlunr.specs.Text.{Text, Bytes}
 use Rattle.elasticlunr_search.specs.AfterCalls.{FindsAfter, IsFoundAfter}
 use Rattle.elasticlunr_search.specs.Words.{Asks}
 use Rattle.elasticlunr_search.specs.declared.words.Join.TheVariants.{Any}
 use Rattle.elasticlunr_laws.proofs.OneMore.{last_is_current, two_have}
+
+-- a text that is equal to a printed one is printed
+pub readable_as : (reads : ℕ → Bytes → List Text → Type 0) (plan : Plan) (calls : List Call) (text printed : Bytes) → text
+    ≡ printed
+    → IsReadableAfter reads plan calls printed → IsReadableAfter reads plan calls text
+readable_as reads plan calls text printed same = subst (IsReadableAfter reads plan calls) (sym same)
 
 -- those of which the one holds are those of which the other does
 pub those_as : (P Q : Bytes → Type 0) (found : List Bytes) → ((r : Bytes) → P r ↔ Q r) → AreExactly P found
@@ -96,3 +103,15 @@ found_of_two reads field reference_field apart s text t value query found finds 
     (λ values. IsSomeAnd (slice_get values 0)
     (λ text. (token : Text) × Asks reads 0 query token × IsReadOf reads 0 text token)))
     (found_by_texts reads field reference_field apart calls query found finds)
+
+-- and the later one is found where each reading of its text has a token that the query has
+pub later_is_found : (reads : ℕ → Bytes → List Text → Type 0) (field reference_field : Bytes) → field ≢ reference_field
+    → (s text t value : Bytes) (query : Bytes) (found : List Bytes) (commands : Commands)
+    → AreExactly (λ r. ((r ≡ t) × ((token : Text) × Asks reads 0 query token × IsReadOf reads 0 value token))
+    ⊎ ((r ≡ s) × (r ≢ t) × ((token : Text) × Asks reads 0 query token × IsReadOf reads 0 text token))) found
+    → CallsAreRead reads → AreCommandsOf (IsDocument (field ∷ []) reference_field reads)
+    (adding s (text ∷ []) ∷ adding t (value ∷ []) ∷ []) commands → (token : Text) → Asks reads 0 query token
+    → ((tokens : List Text) → reads 0 value tokens → Contains tokens token) → Contains found t
+later_is_found reads field reference_field apart s text t value query found commands are read were token asks has =
+    let some = last_was_read reads field reference_field apart (adding s (text ∷ []) ∷ []) read t value commands were in
+    (are.exact t).1 (inl (refl, (token, asks, (some.0, some.1, has some.0 some.1))))

@@ -354,4 +354,37 @@ Index of Korean
 
 Index of Korean: a name that stands twice is refused
 ["Index::with_language","a","a"] -> refused: duplicate field
+
+Index: tokens that come with a value go through the pipeline or not, as the value says
+["Index::new","body"] -> done
+["add_doc_with_tokens","1","Pages","pages","the","Red!",1] -> done
+["get_docs","body","page"] -> {"1":1000000}
+["get_docs","body","Red"] -> {"1":1000000}
+["has_token","body","pages"] -> false
+["has_token","body","the"] -> false
+["add_doc_with_tokens","2","Pages","pages","the","the",2] -> done
+["get_docs","body","pages"] -> {"2":1000000}
+["get_term_frequency","body","2","the"] -> 1414213
+["add_doc_with_tokens","2","red pages","blue",0] -> done
+["get_docs","body","pages"] -> {}
+["get_docs","body","page"] -> {"1":1000000,"2":1000000}
+["has_token","body","blue"] -> false
+["document_store"] -> 2
+
+Index: of tokens that come with a value only the distinct ones that are not empty have postings
+["Index::new","body"] -> done
+["add_doc_with_tokens","1","","a","","a",2] -> done
+["to_value"] -> {"documentStore":{"docInfo":{"1":{"body":3}},"docs":{"1":{"body":"","id":"1"}},"length":1,"save":true},"fields":["body"],"index":{"body":{"root":{"a":{"df":1,"docs":{"1":{"tf":1414213}}},"df":0,"docs":{}}}},"lang":"English","pipeline":["trimmer","stopWordFilter","stemmer"],"ref":"id","version":"0.9.5"}
+
+Index: the field of the reference has no tokens, though some come with its value
+["Index::new","id"] -> done
+["add_doc_with_tokens","1","1","go",2] -> done
+["has_token","id","go"] -> false
+["add_doc_with_tokens","1","1","go",1] -> done
+["has_token","id","go"] -> false
+
+Index: more values with tokens than fields are refused
+["Index::new"] -> done
+["add_doc_with_tokens","1","go","go",2] -> refused: too many values
+["document_store"] -> 0
 "##;

@@ -4,7 +4,7 @@ use crate::call::Call;
 use crate::subject::Subject;
 use elasticlunr::inverted_index::InvertedIndex;
 use elasticlunr::pipeline::Pipeline;
-use elasticlunr::{Index, IndexBuilder, IndexError, Language};
+use elasticlunr::{FieldValue, Index, IndexBuilder, IndexError, Language, TokenSource};
 use std::alloc::Global;
 use std::mem;
 
@@ -98,9 +98,27 @@ impl<L: Language> Subject for Site<L> {
 fn changed<L: Language>(index: &mut Index<L>, call: &Call<'_>) -> Answer {
     match call.name {
         "add_doc" => Answer::done(index.add_doc(call.text(0), call.texts_after_first())),
+        "add_doc_with_tokens" => {
+            Answer::done(index.add_doc_with_tokens(call.text(0), &[value_of(call)]))
+        }
         "remove_doc" => Answer::done(index.remove_doc(call.text(0))),
         "compact" => Answer::done(index.compact()),
         _ => printed(index, call),
+    }
+}
+
+/// The second text, as a value with the texts after it: 1 for those that go through the pipeline, 2
+/// for those that are as they are, and 0 for none.
+fn value_of<'a>(call: &'a Call<'a>) -> FieldValue<'a> {
+    let given = &call.texts[call.texts.len().min(2)..];
+    let tokens = match call.number() {
+        1 => TokenSource::IntoPipeline(given),
+        2 => TokenSource::AsGiven(given),
+        _ => TokenSource::FromText,
+    };
+    FieldValue {
+        text: call.text(1),
+        tokens,
     }
 }
 

@@ -4,7 +4,7 @@ use crate::{content_rows, index_rows, rows, stage_rows};
 use std::io;
 
 /// How many calls the table has, at least.
-const CALLS: u64 = 1_417;
+const CALLS: u64 = 1_442;
 
 /// Makes the calls that standard input lists. Where that is empty, makes those of the table: each
 /// has to answer what its line says.

@@ -1,13 +1,13 @@
 -- Errors that `?` passes on.
-use Rattle.std.proofs.Common.{◌≡◌, ◌⊎◌, inl, inr, List, Result, Ok, Err, IfErr, sym, ap, subst}
+use Rattle.std.proofs.Common.{◌≡◌, List, [], ◌∷◌, Result, Ok, Err, IfErr, ◌⊎◌, inl, inr, true≢false, refl, sym, subst, ◌∙◌}
 use Rattle.std.specs.Prelude.{IsErrAnd}
 use Rattle.elasticlunr.specs.AnyLanguage.{AnyLanguage}
 use Rattle.elasticlunr.specs.Calls.{Call}
 use Rattle.elasticlunr.specs.Standing.{Plan}
-use Rattle.elasticlunr_laws.specs.Depth.{NestsTooDeep}
+use Rattle.elasticlunr.specs.Text.{Bytes}
+use Rattle.elasticlunr_laws.proofs.OneField.{has_only}
 use Rattle.elasticlunr_search.specs.declared.error.SearchError.{SearchError}
-use Rattle.elasticlunr_search.specs.declared.error.SearchError.TheVariants.{Memory, TooDeep}
-use Rattle.elasticlunr_uses.specs.Stops.{ReadsNoText}
+use Rattle.elasticlunr_uses.specs.Stops.{LacksOneOf, ReadsNoText, SearchFails}
 use Rattle.elasticlunr_uses.specs.declared.error.UseError.TheVariants.{Search}
 
 -- what is so of the error that was made of another one
@@ -16,9 +16,10 @@ pub passed : {T E F : Type 0} (r : Result T F) (into : E → F) (e : E) (P : F �
 passed (Ok x) into e P is so = tt
 passed (Err x) into e P is so = subst P (sym is) so
 
--- a text that is refused for its depth alone
-pub not_read : (language : AnyLanguage) (plan : Plan) (calls : List Call) (e : SearchError) → (e ≡ Memory)
-    ⊎ ((e ≡ TooDeep) × NestsTooDeep language plan calls)
-    → ReadsNoText language plan calls (Search e)
-not_read language plan calls e (inl memory) = inl (ap Search memory)
-not_read language plan calls e (inr deep) = inr (ap Search deep.0, deep.1)
+-- a search of the one field fails only where the text is not read
+pub reads_nothing : (language : AnyLanguage) (plan : Plan) (calls : List Call) (field : Bytes) (e : SearchError)
+    → ReadsNoText language plan calls e ⊎ LacksOneOf (field ∷ []) (field ∷ []) e
+    → SearchFails (ReadsNoText language plan calls) (Search e)
+reads_nothing language plan calls field e (inl unread) = (e, refl, unread)
+reads_nothing language plan calls field e (inr lacks) =
+    absurd (true≢false (sym (has_only field lacks.1.0 lacks.1.1) ∙ lacks.1.2))

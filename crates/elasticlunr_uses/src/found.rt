@@ -13,19 +13,15 @@ ghost use Rattle.elasticlunr.specs.Kept.{KeptReads};
 ghost use Rattle.elasticlunr_search.specs.Words.{Asks};
 ghost use Rattle.elasticlunr_uses.specs.Pages.{body_plan};
 ghost use Rattle.elasticlunr_uses.specs.Sharing.{SharesToken};
-ghost use Rattle.elasticlunr_uses.specs.Stops.{BuildsNoIndex, ReadsNoText};
+ghost use Rattle.elasticlunr_uses.specs.Stops.{BuildsNoIndex, ReadsNoText, SearchFails};
 
 use crate::error::UseError;
 use crate::order::in_order;
 use crate::page::Page;
-use elasticlunr::lang::English;
-use elasticlunr::laws::calls::a_kept_language_makes_one_document;
+use crate::query::{Query, found_in_text};
+use elasticlunr::lang::{AnyLanguage, English};
 use elasticlunr::laws::found::calls_tell_tokens;
-use elasticlunr_laws::search::{
-    a_print_is_refused_for_its_depth_alone, a_searcher_has_the_printed_fields,
-};
-use elasticlunr_search::laws::found_after_calls;
-use elasticlunr_search::{Join, Searcher};
+use elasticlunr_search::Join;
 use std::alloc::Global;
 
 /// The references that the query finds among two documents, each a reference and its text.
@@ -45,20 +41,21 @@ pub fn built_printed_found(
         → Asks (KeptReads english) 0 query.now token
         → ((tokens : List Text) → KeptReads english 0 text.now tokens → Contains tokens token)
         → Contains (bytes_of found.items) reference.now) }
-    ensures errors { IfErr result (λ e. BuildsNoIndex e ⊎ ReadsNoText english body_plan
-        (adding other.now (other_text.now ∷ []) ∷ adding reference.now (text.now ∷ []) ∷ []) e) }
+    ensures errors { IfErr result (λ e. BuildsNoIndex e
+        ⊎ SearchFails (ReadsNoText english body_plan (adding other.now (other_text.now ∷ [])
+        ∷ adding reference.now (text.now ∷ []) ∷ [])) e) }
 {
-    a_kept_language_makes_one_document();
-    a_print_is_refused_for_its_depth_alone();
     calls_tell_tokens::<English>();
     let first = Page {
         reference: other,
         text: other_text,
     };
     let printed = in_order(alloc, first, Page { reference, text })?;
-    let searcher = Searcher::read(alloc, English::new(), printed.as_str())?;
-    found_after_calls(&searcher);
-    a_searcher_has_the_printed_fields(&searcher);
-    let found = searcher.find(Join::Any, "body", query)?;
+    let asked = Query {
+        join: Join::Any,
+        fields: &["body"],
+        words: query,
+    };
+    let found = found_in_text(alloc, AnyLanguage::English, printed.as_str(), &asked)?;
     Ok(found)
 }

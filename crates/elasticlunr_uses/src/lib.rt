@@ -9,4 +9,5 @@ pub mod job;
 pub mod order;
 pub mod own;
 pub mod page;
+pub mod query;
 pub mod update;

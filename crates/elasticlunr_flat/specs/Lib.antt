@@ -1,0 +1,4 @@
+pub mod Flat
+pub mod Reading
+pub mod Told
+pub mod OneWay

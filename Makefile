@@ -5,7 +5,7 @@ PROGRAM = crates/elasticlunr_index/out/elasticlunr_index
 COMMAND = crates/elasticlunr_cli/out/elasticlunr_cli
 PORT ?= 8095
 
-.PHONY: run try build command lib script calls demo test compare mdbook install dist dist-test
+.PHONY: run try build command lib lib-test script calls demo test compare mdbook install dist dist-test
 
 # Reads a job from standard input, and takes an example where that is a terminal or empty.
 run: build
@@ -25,6 +25,10 @@ command:
 # The library for C, in out/lib, and its header in out/include.
 lib:
 	@python3 tools/library.py out
+
+# Calls it from C, Python and Rust, built by both compilers of the kit, and tries the archive of a release.
+lib-test: build command
+	@mkdir -p out && python3 tests/checks.py out/lib-test.log library
 
 # The program that prints the script for browsers.
 script:

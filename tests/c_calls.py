@@ -1,14 +1,14 @@
 #!/usr/bin/env python3
 """Builds the library for C by both compilers of the kit, links programs to it, and makes calls.
 
-usage: c_calls.py [--beside] [WORD ..]
+usage: c_calls.py [WORD ..]
 
 Each job of the table is answered as the table says, in a block of malloc and in the caller's bytes, by the archives and by
 the shared library; with each request for memory refused in turn; by four threads at the same time; and under valgrind, where
 it is installed. So are documents in the flat form: those of the table as the table says, and made, refused and damaged ones as
 the model says (flat_model.py); and searches of indexes, as the built command answers them (search_inputs.py). The example of
-examples/c is built as its first line says. With words, only the cases are tried
-that have one of them in their names, such as `LLVM` or `index_documents`. With --beside, the library is built as `tools/library.py --beside` does it.
+examples/c is built as its first line says. With words, only the cases are tried that have one of them in their names, such as
+`LLVM` or `index_documents`.
 
 If FORGED_LIBRARY is set, it is the folder of the one library that is tried, and none is built (tests/forgeries.py).
 """
@@ -252,25 +252,23 @@ def check_library(compiler, made, folder, results):
             check()
 
 
-def libraries(folder, top):
-    """The name of each compiler that is asked for, and the folder of the library that it made of the crates below `top`."""
+def libraries(folder):
+    """The name of each compiler that is asked for, and the folder of the library that it made."""
     if "FORGED_LIBRARY" in os.environ:
         yield "LLVM", os.environ["FORGED_LIBRARY"]
         return
     for compiler, backend, made in [("LLVM", (), os.path.join(TOP, "out")), ("Rattle", ("--backend", "rattle"), folder)]:
         if is_asked(f"{compiler}, {', '.join(PARTS)}"):
-            library.build(made, backend, top)
+            library.build(made, backend)
             yield compiler, made
 
 
 def main():
-    top = library.copied() if "--beside" in sys.argv else TOP
-    sys.argv = [word for word in sys.argv if word != "--beside"]
     results = Results("c", most=SHOWN)
     sys.setrecursionlimit(DEEP)
     try:
         with tempfile.TemporaryDirectory() as folder:
-            for compiler, made in libraries(folder, top):
+            for compiler, made in libraries(folder):
                 check_library(compiler, made, folder, results)
     except (OSError, ValueError, subprocess.SubprocessError) as error:
         results.note(False, f"c: {error!r}")

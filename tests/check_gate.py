@@ -64,7 +64,7 @@ class Repository:
         self.path = self.folder.name
         for name in FOLDERS:
             shutil.copytree(os.path.join(TOP, name), os.path.join(self.path, name), ignore=shutil.ignore_patterns("__pycache__"))
-        for words in sum(checks.GROUPS, []):
+        for words in sum(checks.GROUPS + checks.LIBRARY, []):
             self.write(f"tests/{words.split()[0]}.py", STUB)
         self.write("bench/compare/compare.py", "import sys\nprint(sys.argv[-1])\n")
         self.write("crates.txt", "prog:\n")
@@ -119,6 +119,8 @@ class Gate(NamedTuple):
     is_noted: bool = True
     check: str = STUB  # one of the checks
     is_early: bool = False  # whether the checks begin before `rt ci` ends
+    library: str = STUB  # the check that makes calls from C
+    patience: int = 30  # minutes, after which the library for C is not tried
 
 
 PROVED = "rt: prog proved\nrt: prog: trying its must-fail edits (1)\n"
@@ -162,12 +164,18 @@ GATES = [
     Gate("a program of an earlier run", "1 passed, 0 failed", True, meanwhile="touch -d yesterday crates/prog/out/prog; " + says("prog proved", TESTS_BUILT) + A_WHILE),
     Gate("a program that is not there yet", "1 passed, 0 failed", True, meanwhile="rm crates/prog/out/prog; " + says("prog proved", TESTS_BUILT) + A_WHILE + "; echo program >crates/prog/out/prog"),
     Gate("a crate that fails after the checks began", NOT_PROVED.replace("prog", "other"), False, ("  rt: other NOT PROVED",), status=1, check=HANGS, meanwhile=ALL_BUILT, is_early=True),
+    Gate("a library for C that fails", PROVED + "1 passed, 0 failed", False, ("  c_calls FAILED", "    job 0: status 1"), library=FAILURES),
+    Gate("a library for C that is tried", PROVED + "1 passed, 0 failed", True, ("library: 1000000 passed, 0 failed",), library=STUB.replace("stub", "library")),
+    Gate("a library for C that there is no time for", PROVED + "1 passed, 0 failed", True, ("  the library for C is not tried after 0 minutes: `make lib-test` tries it",), library=FAILURES, patience=-1),
 ]
 
 
 def try_gate(case):
     with Repository() as repository:
         repository.write("tests/check_jobs.py", case.check)
+        repository.write("tests/c_calls.py", case.library)
+        gate = repository.read("tools/gate.py")
+        repository.write("tools/gate.py", re.sub(r"(?m)^PATIENCE = \d+", f"PATIENCE = {case.patience}", gate))
         text, status = repository.run("bash", "tools/test.sh", said=case.said, status=case.status, meanwhile=case.meanwhile)
         lines = text.splitlines()
         counted = re.fullmatch(r"[1-9]\d* passed, 0 failed" if case.passes else r"\d+ passed, [1-9]\d* failed", lines[-1])

@@ -1,11 +1,13 @@
 #!/usr/bin/env python3
 """Runs the checks of this folder on the built programs, several at a time, and says how each ended.
 
-usage: checks.py LOG
+usage: checks.py LOG [library]
 
 As many groups of checks run at a time as there are processors. The checks of one group run one after another, because they
 install packages, need what an earlier one installed, or write the same files. What a check prints is shown once it has ended, with its seconds,
 and goes to the log; that it installs or downloads something is shown at once. What failed is said once more at the end.
+
+With `library`, the checks run that need the library for C; the first of them builds it.
 
 The last line of a check counts what it tried. A check without such a line fails, and so does one that tried fewer than
 LEAST has.
@@ -38,8 +40,8 @@ GROUPS = [
     ["site"],
     ["check_jobs"],
     ["check_gate"],
-    ["c_calls --beside", "rust_crate --built", "dist_files --built", "forgeries c_calls dist_files"],
 ]
+LIBRARY = [["c_calls", "rust_crate --built", "dist_files --built", "forgeries c_calls dist_files"]]
 # How much each check must try, with what it skips. A check that can try nothing here, and says so, is no failure.
 LEAST = {
     "compare_search": 2_900,
@@ -56,12 +58,12 @@ LEAST = {
     "check_docs": 830,
     "command": 210,
     "site": 460,
-    "c_calls --beside": 38_500,
+    "c_calls": 38_500,
     "rust_crate --built": 560,
     "dist_files --built": 440,
     "forgeries c_calls dist_files": 37,
     "check_jobs": 150,
-    "check_gate": 38,
+    "check_gate": 48,
 }
 COUNT = re.compile(r"^(?:[a-z]+: )?(\d+) passed, (\d+) failed(?:, (\d+) skipped)?$")
 AT_ONCE = re.compile(r"^\S+: (installs|downloads) ")
@@ -122,8 +124,9 @@ def check(words, log):
 
 
 def main():
+    asked = LIBRARY if sys.argv[2:] == ["library"] else GROUPS
     with open(sys.argv[1], "a", encoding="utf-8") as log, ThreadPoolExecutor(len(os.sched_getaffinity(0))) as lanes:
-        groups = lanes.map(lambda group: [check(words, log) for words in group], GROUPS)
+        groups = lanes.map(lambda group: [check(words, log) for words in group], asked)
         failures = [it for group in groups for it in group if it]
         if failures:
             show(what_failed(failures), log)

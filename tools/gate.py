@@ -12,6 +12,9 @@ or of a test that failed is shown, too; then the checks are stopped and count fo
 (tests/checks.py) is shown as it comes, and follows in the log. If `rt ci` doesn't say of each program that it is built, the
 checks begin after its end.
 
+The library for C comes last, since `rt lib` proves its crates once more: up to 85 minutes of the processors. It is left out, and a
+line says so, if more than PATIENCE minutes have passed by then. `make lib-test` always tries it.
+
 At the end of `rt ci` a line says how long it took, and how long the processors worked for it.
 
 A mutant that can't be applied, or that is refused only because a proof names what it took away, shows nothing of a
@@ -37,6 +40,7 @@ from tools.crates import crates, folder
 from tools.repository import TOP, read
 
 CALLS = "elasticlunr_test_calls"  # its test makes single calls, and a check runs it
+PATIENCE = 30  # minutes, after which the library for C is not begun
 SHOWN = 30  # lines that rt said before a failure
 GOOD = re.compile(r"rt: \w+(: its tests( are)?)? (proved|passed)$")
 KEPT = re.compile(r"rt: (\w+) is kept: ")
@@ -134,6 +138,7 @@ def main():
         print("gate.py: there is no rt on the path: the Rattle kit has it")
         return 1
     log = sys.argv[1]
+    begun = time.monotonic()
     append(log, "")
     checks = Checks(log)
     proved = prove(log, checks)
@@ -144,6 +149,7 @@ def main():
     show([proved.last])
     status, failed = checks.end()
     show(failed)
+    status = status or try_library(log, (time.monotonic() - begun) / 60)
     empty = [failure for failure in proved.failures if EMPTY.match(failure.title)]
     if not empty:
         return status
@@ -151,6 +157,14 @@ def main():
     append(log, count + "\n")
     show([*what_failed(empty), "These mutants show nothing of a contract. Change a value, and keep the calls and the names.", count])
     return 1
+
+
+def try_library(log, minutes):
+    """Runs the checks of the library for C, unless so many minutes have passed that there is no time for them. Their status."""
+    if minutes > PATIENCE:
+        show([f"  the library for C is not tried after {minutes:.0f} minutes: `make lib-test` tries it"])
+        return 0
+    return subprocess.run([sys.executable, os.path.join(TOP, "tests", "checks.py"), log, "library"]).returncode
 
 
 class Proved(NamedTuple):

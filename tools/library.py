@@ -1,15 +1,11 @@
 #!/usr/bin/env python3
 """Builds the library for C: libelasticlunr.a, libelasticlunr.so, the header and the pkg-config file, in a folder.
 
-usage: library.py FOLDER [--beside] [--backend rattle]
+usage: library.py FOLDER [--backend rattle]
 
 `rt lib` proves and builds the archive of elasticlunr_c. To it come what the kit needs of the C library, and c/elasticlunr.c,
 so that a program links one file. Of the shared library only the functions of the header are seen.
-
-With --beside, `rt lib` works on a copy of the crates, and keeps its work there. So it doesn't wait for an `rt ci` that runs at
-the same time in crates/. The copy is in the user's cache, since `rt ci` refuses a second crates.txt in the repository.
 """
-import hashlib
 import os
 import re
 import shutil
@@ -18,13 +14,10 @@ import sys
 
 sys.path.insert(0, os.path.join(os.path.dirname(__file__), ".."))
 
-from tools import crates
-from tools.repository import TOP, lines_of, read, say, write
+from tools.repository import TOP, read, say, write
 
 CRATE = "elasticlunr_c"
 HEADER = "include/elasticlunr.h"
-CACHE = os.environ.get("XDG_CACHE_HOME") or os.path.expanduser("~/.cache")
-BESIDE = os.path.join(CACHE, "elasticlunr", "beside-" + hashlib.sha256(TOP.encode()).hexdigest()[:16])
 PACKAGE = """prefix={prefix}
 Name: elasticlunr
 Description: builds the search index that elasticlunr.js loads
@@ -61,26 +54,10 @@ def link_shared(folder):
     os.remove(seen)
 
 
-def copied():
-    """The folder of a copy of the crates that the library consists of. A file that is as it was is not written again."""
-    names = [*crates.below(CRATE), CRATE]
-    texts = {path: read(path) for path in ("HANDLES", *(os.path.relpath(path, TOP) for name in names for path in crates.files(name)))}
-    texts["crates.txt"] = "".join(line for line in lines_of("crates.txt") if re.match(r"\w*", line)[0] in names)
-    for name in names:
-        for path in crates.files(name, BESIDE):
-            if os.path.relpath(path, BESIDE) not in texts:
-                os.remove(path)
-    for path, text in texts.items():
-        copy = os.path.join(BESIDE, path)
-        if not os.path.exists(copy) or read(copy) != text:
-            write(copy, text)
-    return BESIDE
-
-
-def build(folder, backend=(), top=TOP):
-    """Builds all of it in the folder, of the crates below `top`."""
-    ran(["rt", "lib", *backend], cwd=os.path.join(top, "crates", CRATE))
-    archive = os.path.join(top, "crates", CRATE, "out", f"lib{CRATE}.a")
+def build(folder, backend=()):
+    """Builds all of it in the folder."""
+    ran(["rt", "lib", *backend], cwd=os.path.join(TOP, "crates", CRATE))
+    archive = os.path.join(TOP, "crates", CRATE, "out", f"lib{CRATE}.a")
     of_kit = os.path.join(os.path.dirname(ran(["rt", "doc"]).split()[0]), "c", "liblibc_c.a")
     lib, include = os.path.join(folder, "lib"), os.path.join(folder, "include")
     shutil.rmtree(lib, ignore_errors=True)
@@ -97,9 +74,9 @@ def build(folder, backend=(), top=TOP):
 
 
 def main():
-    folder, *words = sys.argv[1:]
+    folder, *backend = sys.argv[1:]
     try:
-        build(folder, [word for word in words if word != "--beside"], copied() if "--beside" in words else TOP)
+        build(folder, backend)
     except (KeyError, OSError) as error:
         say(f"library.py: {error}")
         return 1

@@ -1,6 +1,5 @@
 #!/usr/bin/env bash
-# Runs the gate of the crates and, at the same time, the checks of tests/ on the programs that it builds. The library for C
-# is built from the beginning, on a copy of its crates (tools/library.py), for the checks that call it. The last line counts
+# Runs the gate of the crates and, at the same time, the checks of tests/ on the programs that it builds. The last line counts
 # all of them; the lines before it say what failed. out/test.log has everything that is said.
 set -u
 cd "$(dirname "$0")/.."
@@ -10,13 +9,8 @@ log=out/test.log
 echo "Proves every crate, tries the mutants, runs the tests and, as soon as the programs are built, the checks of tests/."
 echo "From nothing this takes 60 to 150 minutes on four cores, by how fast they are. What passed on this machine before,"
 echo "of the same files, is not proved again. Everything that is said goes to $log."
-set -m # a process group of its own
-nice -n 10 python3 tools/library.py out --beside >out/library.log 2>&1 &
-library=$!
-set +m
 python3 tools/gate.py "$log"
 status=$?
-kill -- "-$library" 2>/dev/null
 awk '/^([a-z]+: )?[0-9]+ passed, [0-9]+ failed(, [0-9]+ skipped)?$/ {
          n = /skipped$/ ? NF - 5 : NF - 3; passed += $n; failed += $(n + 2); if (n == NF - 5) skipped += $(n + 4) }
      END { printf "%d passed, %d failed", passed, failed; if (skipped) printf ", %d skipped", skipped; print "" }' "$log"

@@ -1,5 +1,5 @@
-//! Tests of what needs a custom type: stages, languages, tokenizers and functions that a user hands
-//! in to the library, and readers and writers that fail.
+//! Tests of what needs a custom type: stages, languages, tokenizers and functions that a user passes
+//! to the library, and readers and writers that fail; and of what the uses of the library give.
 #![tactic(auto)]
 
 #[cfg(test)]
@@ -18,3 +18,5 @@ mod pipelines;
 mod search;
 #[cfg(test)]
 mod texts;
+#[cfg(test)]
+mod uses;

@@ -19,6 +19,7 @@ sys.path.insert(0, os.path.join(os.path.dirname(__file__), ".."))
 
 from tests import checks, growth
 from tests.report import FAILED, Results, is_asked
+from tools import gate
 from tools.repository import TOP, read, write
 
 FOLDERS = ("bench", "tests", "tools")
@@ -120,6 +121,7 @@ class Gate(NamedTuple):
     check: str = STUB  # one of the checks
     is_early: bool = False  # whether the checks begin before `rt ci` ends
     library: str = STUB  # the check that makes calls from C
+    crates: tuple = ("prog",)
     patience: int = 30  # minutes, after which the library for C is not tried
 
 
@@ -160,6 +162,7 @@ GATES = [
     Gate("programs that are proved", "1 passed, 0 failed", True, meanwhile=ALL_BUILT, is_early=True),
     Gate("programs that are kept and run", "1 passed, 0 failed", True, meanwhile=says(KEPT, RAN, TESTS_KEPT) + WAITS, is_early=True),
     Gate("a program that is kept, and not yet run", f"rt: {RAN}\n1 passed, 0 failed", True, meanwhile=says(KEPT, TESTS_BUILT) + A_WHILE),
+    Gate("a program that no check runs, and that is not there", "1 passed, 0 failed", True, meanwhile=ALL_BUILT, is_early=True, crates=("prog", gate.UNUSED[0])),
     Gate("tests that are not yet proved", "1 passed, 0 failed", True, meanwhile=says("prog proved") + A_WHILE),
     Gate("a program of an earlier run", "1 passed, 0 failed", True, meanwhile="touch -d yesterday crates/prog/out/prog; " + says("prog proved", TESTS_BUILT) + A_WHILE),
     Gate("a program that is not there yet", "1 passed, 0 failed", True, meanwhile="rm crates/prog/out/prog; " + says("prog proved", TESTS_BUILT) + A_WHILE + "; echo program >crates/prog/out/prog"),
@@ -174,8 +177,11 @@ def try_gate(case):
     with Repository() as repository:
         repository.write("tests/check_jobs.py", case.check)
         repository.write("tests/c_calls.py", case.library)
-        gate = repository.read("tools/gate.py")
-        repository.write("tools/gate.py", re.sub(r"(?m)^PATIENCE = \d+", f"PATIENCE = {case.patience}", gate))
+        text = repository.read("tools/gate.py")
+        repository.write("tools/gate.py", re.sub(r"(?m)^PATIENCE = \d+", f"PATIENCE = {case.patience}", text))
+        repository.write("crates.txt", "".join(f"{name}:\n" for name in case.crates))
+        for name in case.crates:
+            repository.write(f"crates/{name}/src/main.rt", "fn main() {}\n")
         text, status = repository.run("bash", "tools/test.sh", said=case.said, status=case.status, meanwhile=case.meanwhile)
         lines = text.splitlines()
         counted = re.fullmatch(r"[1-9]\d* passed, 0 failed" if case.passes else r"\d+ passed, [1-9]\d* failed", lines[-1])
@@ -352,6 +358,13 @@ def try_hosts():
     return None if is_seen and not found else f"{found}, and a forged one is {'' if is_seen else 'not '}seen"
 
 
+def try_unused():
+    """No check runs a program that the gate does not wait for."""
+    folder = os.path.join(TOP, "tests")
+    run = [(name, it) for name in gate.UNUSED for it in os.listdir(folder) if it.endswith(".py") and f'program("{name}"' in read(f"tests/{it}")]
+    return f"{run}" if run else None
+
+
 def cases():
     for case in GATES:
         yield case.name, lambda case=case: try_gate(case)
@@ -369,6 +382,7 @@ def cases():
     yield "crates that cargo can't build", lambda: try_download(compare, ["trixie", "trixie", "trixie", release()], TOO_NEW="trixie")
     yield "elasticlunr.js", lambda: try_download(("tools/fetch_elasticlunr.sh", "out/js"), ["trixie"])
     yield "no file names a host", try_hosts
+    yield "programs that no check runs", try_unused
 
 
 def main():

@@ -1,5 +1,6 @@
 #!/usr/bin/env python3
-"""Runs `rt ci` and, once it has said that each program is built, the checks of tests/ at the same time, and shows the progress.
+"""Runs `rt ci` and, once it has said that the programs are built that the checks of tests/ run, these checks at the same time, and
+shows the progress.
 
 usage: gate.py LOG
 
@@ -9,8 +10,8 @@ A crate of which that is so has a line that says so. Tests and programs run each
 
 Everything that `rt ci` says goes to the log. What it says of a crate that is not proved, of a mutant that was not refused
 or of a test that failed is shown, too; then the checks are stopped and count for nothing. What the checks say
-(tests/checks.py) is shown as it comes, and follows in the log. If `rt ci` doesn't say of each program that it is built, the
-checks begin after its end.
+(tests/checks.py) is shown as it comes, and follows in the log. If `rt ci` doesn't say of each of these programs that it is built,
+the checks begin after its end.
 
 The library for C comes last, since `rt lib` proves its crates once more: up to 85 minutes of the processors. It is left out, and a
 line says so, if more than PATIENCE minutes have passed by then. `make lib-test` always tries it.
@@ -40,6 +41,7 @@ from tools.crates import crates, folder
 from tools.repository import TOP, read
 
 CALLS = "elasticlunr_test_calls"  # its test makes single calls, and a check runs it
+UNUSED = ("elasticlunr_bench", "elasticlunr_vectors")  # programs that no check runs
 PATIENCE = 30  # minutes, after which the library for C is not begun
 SHOWN = 30  # lines that rt said before a failure
 GOOD = re.compile(r"rt: \w+(: its tests( are)?)? (proved|passed)$")
@@ -60,8 +62,8 @@ def names_of_programs():
 
 
 def programs():
-    """What the checks run, by the name that `rt ci` has for it: each program, and the test that makes single calls."""
-    paths = {name: build.built(name) for name in names_of_programs()}
+    """What the checks run, by the name that `rt ci` has for it: programs, and the test that makes single calls."""
+    paths = {name: build.built(name) for name in names_of_programs() if name not in UNUSED}
     return {**paths, f"{CALLS}: its tests": os.path.join(folder(CALLS), "out", f"{CALLS}_tests")}
 
 
@@ -73,7 +75,7 @@ def note_programs(sources):
 
 
 class Checks:
-    """The checks of tests/. They begin once `rt ci` has said of each program that it is built, or after its end."""
+    """The checks of tests/. They begin once `rt ci` has said of each program that they run that it is built, or after its end."""
 
     def __init__(self, log):
         self.log = log

@@ -122,7 +122,7 @@ class Gate(NamedTuple):
     is_early: bool = False  # whether the checks begin before `rt ci` ends
     library: str = STUB  # the check that makes calls from C
     crates: tuple = ("prog",)
-    patience: int = 30  # minutes, after which the library for C is not tried
+    patience: int = 75  # minutes, after which the library for C is not tried
 
 
 PROVED = "rt: prog proved\nrt: prog: trying its must-fail edits (1)\n"

@@ -4,9 +4,9 @@ shows the progress.
 
 usage: gate.py LOG
 
-A crate has a line once it is proved, with the seconds since the beginning. `rt ci` keeps next to the kit what it passed on
-this machine: what an earlier run proved of the very same files is not proved again, and such a mutant is not tried again.
-A crate of which that is so has a line that says so. Tests and programs run each time.
+A crate has a line once it is proved, with the seconds since the beginning. Some kits keep what `rt ci` passed on a
+machine: then what an earlier run proved of the very same files is not proved again, and such a mutant is not tried again. A crate
+of which that is so has a line that says so. Tests and programs run each time.
 
 Everything that `rt ci` says goes to the log. What it says of a crate that is not proved, of a mutant that was not refused
 or of a test that failed is shown, too; then the checks are stopped and count for nothing. What the checks say
@@ -42,7 +42,7 @@ from tools.repository import TOP, read
 
 CALLS = "elasticlunr_test_calls"  # its test makes single calls, and a check runs it
 UNUSED = ("elasticlunr_bench", "elasticlunr_vectors")  # programs that no check runs
-PATIENCE = 30  # minutes, after which the library for C is not begun
+PATIENCE = 75  # minutes, after which the library for C is not begun
 SHOWN = 30  # lines that rt said before a failure
 GOOD = re.compile(r"rt: \w+(: its tests( are)?)? (proved|passed)$")
 KEPT = re.compile(r"rt: (\w+) is kept: ")

@@ -7,8 +7,7 @@ mkdir -p out
 log=out/test.log
 : >"$log"
 echo "Proves every crate, tries the mutants, runs the tests and, as soon as the programs are built, the checks of tests/."
-echo "From nothing this takes 60 to 150 minutes on four cores, by how fast they are. What passed on this machine before,"
-echo "of the same files, is not proved again. Everything that is said goes to $log."
+echo "This takes one to three hours on four cores, by how fast they are. Everything that is said goes to $log."
 python3 tools/gate.py "$log"
 status=$?
 awk '/^([a-z]+: )?[0-9]+ passed, [0-9]+ failed(, [0-9]+ skipped)?$/ {

@@ -66,7 +66,7 @@ size_t elasticlunr_answer_into(const uint8_t *job, size_t job_length, uint8_t *o
  * and a list of texts, tokens that go through the stages of the language; or the number 2 and a list of texts, tokens that are
  * indexed as they are. The text is always stored.
  *
- * Refused are, in this order, a name that no built-in language has ("refused: unknown language"), a field that stands twice
+ * Refused are, in this order, a name that no built-in language has ("refused: unknown language"), a field that is listed twice
  * ("refused: duplicate field"), and a document with more values than there are fields ("refused: too many values").
  */
 uint32_t elasticlunr_index_documents(const uint8_t *input, size_t input_length, uint8_t **text, size_t *length);

@@ -384,9 +384,9 @@ LIBRARIES = {
     "a library that takes a byte too many": (
         KEPT + "return status == 3 && size ? kept(input, size - 1, text, length) : status;", r"input \d+: status [02] instead of 3",
     ),
-    "a library that takes all for malformed": ("return 3;", r"input \d+: status 3 instead of 0"),
+    "a library that says of all input that it is malformed": ("return 3;", r"input \d+: status 3 instead of 0"),
     "a library that writes where it has no text": ("*length = 0; return kept(input, size, text, length);", "no answer, and a length is written"),
-    "a library that hands out a text of malformed bytes": (
+    "a library that answers malformed bytes with a text": (
         KEPT + "if (status == 3) *text = malloc(1); return status;", "a text without an answer, or an answer without a text",
     ),
     "a library that ends each text with a line feed": (
@@ -395,7 +395,7 @@ LIBRARIES = {
     "a library that keeps a block": (
         "void *volatile block = malloc(8); return block ? kept(input, size, text, length) : 1;", "a block is not given back",
     ),
-    "a library that takes refused memory for malformed": (KEPT + "return status == 1 ? 3 : status;", "another answer after a refused request"),
+    "a library that says malformed where memory is refused": (KEPT + "return status == 1 ? 3 : status;", "another answer after a refused request"),
     "a library that takes room for each number": (
         KEPT + "if (status == 3) { void *volatile block = malloc(99999); free(block); } return status;", "take more memory than they have items",
     ),

@@ -5,7 +5,7 @@ page, and what completes the command in shells.
 usage: dist.py [FOLDER]
 
 The archive is elasticlunr-VERSION-x86_64-linux.tar.gz, in FOLDER or in out/dist. The programs are those that `make build` and
-`make command` left, the library is that of `make lib`, and the other files are those that the repository has, as they stand.
+`make command` left, the library is that of `make lib`, and the other files are those of the repository, unchanged.
 The same files give the same bytes: each file has the time of the last commit.
 
 A program or a library that needs a newer glibc than NEWEST has, or another library, is refused.

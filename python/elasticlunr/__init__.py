@@ -152,7 +152,7 @@ def build_index(
     `tokens` is called with the name of the field and the text, for each text of each field that isn't the reference's. The tokens
     that it returns are indexed as they are; for None the language makes them of the text. The text is always stored.
 
-    Raises a TypeError for a member or a token that is not a text, a RefusedError for an unknown language, a field that stands twice,
+    Raises a TypeError for a member or a token that is not a text, a RefusedError for an unknown language, a field that is listed twice,
     or texts that are no Unicode, and a ValueError for `pretty` with `tokens`.
     """
     if pretty and tokens is not None:

@@ -118,7 +118,7 @@ fn put(line: &[u8], out: &mut [u8]) -> usize
     length
 }
 
-/// Hands out an answer in a block of its own, and the length of the block.
+/// Puts an answer into a block of its own, for the caller, and says how long the block is.
 pub fn hand_out(answer: String, text: &mut *mut u8, length: &mut usize)
     ensures { length.new ≡ string_len answer }
 {

@@ -50,7 +50,7 @@ pub enum GivenTokens<'a> {
 pub struct Search<'a> {
     pub query: &'a str,
     pub needed: Needed,
-    /// Whether tokens that go on count, too.
+    /// Whether tokens that begin with a token of the query count, too.
     pub expand: bool,
     /// The fields that are searched; none is all.
     pub fields: Vec<&'a str>,

@@ -69,7 +69,7 @@ fn add_found(
     Ok(())
 }
 
-/// The text of an index of titles as they stand.
+/// The text of an index of whole titles.
 fn text_of_whole_titles(alloc: Global) -> Result<String, IndexError> {
     let builder = IndexBuilder::<English>::new(alloc)?;
     index_with_tokenizer(builder, Box::new(alloc, whole)?)

@@ -31,7 +31,7 @@ pub(crate) fn index_documents(input: &[u8]) -> String {
             "the library refuses its input: {}",
             taken(text, length).trim_end()
         ),
-        _ => panic!("the library takes its input for malformed"),
+        _ => panic!("the library says that its input is malformed"),
     }
 }
 

@@ -19,7 +19,7 @@ extern "C" {
 
 /* What a call answers. */
 enum {
-    ELASTICLUNR_DONE = 0,      /* the text of an index, or the lines of hits */
+    ELASTICLUNR_DONE = 0,      /* the text of an index, its head and its pieces, or the lines of hits */
     ELASTICLUNR_MEMORY = 1,    /* out of memory: nothing is written */
     ELASTICLUNR_REFUSED = 2,   /* the line of a refusal, such as "refused: not a job" */
     ELASTICLUNR_MALFORMED = 3  /* documents or a search that are not in the flat form: nothing is written */
@@ -54,7 +54,7 @@ size_t elasticlunr_answer_into(const uint8_t *job, size_t job_length, uint8_t *o
  *
  *   language   the number 0, and as a text the name of a built-in language, such as "German"; or the number 1, a name as a text,
  *              and a list of texts: the name of a custom language and the names of its stages. It makes words of a text, and
- *              its stages leave each token unchanged.
+ *              its stages keep each token unchanged.
  *   reference  as a text, the name under which an index has the reference of a document, such as "id"; a field of this name is
  *              stored and not indexed
  *   save       the number 1 if the index has the texts of the documents, or 0
@@ -70,6 +70,27 @@ size_t elasticlunr_answer_into(const uint8_t *job, size_t job_length, uint8_t *o
  * ("refused: duplicate field"), and a document with more values than there are fields ("refused: too many values").
  */
 uint32_t elasticlunr_index_documents(const uint8_t *input, size_t input_length, uint8_t **text, size_t *length);
+
+/* The head and the pieces of the index of documents, as `elasticlunr build --pieces` writes them to a folder. The input is in the
+ * flat form, `input_length` bytes at `input`: one after the other and with nothing after it
+ *
+ *   title      as a text, the field of the titles, such as "title"
+ *   size       the number of bytes that a piece of the tries may have, such as 8192; one of the texts may have an eighth of it, and
+ *              one of the titles a 32nd. A piece that has more has one entry alone.
+ *   input      the documents, as elasticlunr_index_documents takes them
+ *
+ * The answer is in the flat form, too: one after the other and with nothing after it
+ *
+ *   folder     as a text, the name of the folder of the pieces, such as "pieces-0123456789abcdef"
+ *   head       as a text, the text of the file search.json, which stands next to this folder
+ *   pieces     a list of the files of the folder, each its name as a text, such as "t0.json", and its text
+ *
+ * It stands in a block of its own, which `*text` points to and which elasticlunr_free frees; `*length` is its length. Returns the
+ * status. At ELASTICLUNR_MEMORY and ELASTICLUNR_MALFORMED `*text` and `*length` are as they were. At ELASTICLUNR_REFUSED the answer
+ * is a line, as of elasticlunr_index_documents, or "refused: too large for the flat form": then four bytes can't count the bytes of
+ * the head or of a piece, or the pieces.
+ */
+uint32_t elasticlunr_index_pieces(const uint8_t *input, size_t input_length, uint8_t **text, size_t *length);
 
 /* What a search finds in the text of an index, `index_length` bytes at `index`. The answer is a line of JSON for each hit, the
  * best first, as `elasticlunr search --json` prints it: an object with the reference `ref`, the score `score` and the stored
@@ -97,7 +118,7 @@ uint32_t elasticlunr_index_documents(const uint8_t *input, size_t input_length, 
 uint32_t elasticlunr_search(const uint8_t *index, size_t index_length, const uint8_t *search, size_t search_length, uint8_t **text,
                             size_t *length);
 
-/* Frees a text of elasticlunr_answer, elasticlunr_index_documents or elasticlunr_search. */
+/* Frees a text of elasticlunr_answer, elasticlunr_index_documents, elasticlunr_index_pieces or elasticlunr_search. */
 void elasticlunr_free(uint8_t *text);
 
 /* The version of this library, as "0.1.0". */

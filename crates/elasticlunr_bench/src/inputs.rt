@@ -93,6 +93,7 @@ fn take_lines(alloc: Global, lines: &str, digest: &mut Digest) -> Result<(), Fai
         language: None,
         drops_texts: false,
         pretty: false,
+        rules: None,
     };
     let mut notes = Notes::new(alloc);
     let mut reader = lines.as_bytes();

@@ -3,9 +3,11 @@
 #![tactic(auto)]
 
 ghost use Rattle.elasticlunr_c_calls.specs.Calls.{IsAnsweredBy, IsAnsweredInto, IsIndexedBy};
-ghost use Rattle.elasticlunr_c_calls.specs.Calls.{IsSearchedBy};
+ghost use Rattle.elasticlunr_c_calls.specs.Calls.{IsCutBy, IsSearchedBy};
 
-use elasticlunr_c_calls::{answer_into, answer_text, hand_out, index_answer, search_answer};
+use elasticlunr_c_calls::{
+    answer_into, answer_text, hand_out, hand_out_bytes, index_answer, pieces_answer, search_answer,
+};
 use std::alloc::Global;
 
 /// Writes the answer to a job to the beginning of `out`, and returns its length. If `out` is
@@ -58,6 +60,27 @@ pub extern "C" fn elasticlunr_index_documents(
     match index_answer(alloc, input) {
         Ok((status, answer)) => {
             hand_out(answer, text, length);
+            status
+        }
+        Err(status) => status,
+    }
+}
+
+/// The head and the pieces of the index of documents in the flat form, in a block of `malloc`. The
+/// status is 0 for their flat form, 2 for the line of a refusal, 1 where memory ran out, and 3 where
+/// the bytes are not in the flat form. At 1 and 3 both stay as they were.
+#[unsafe(no_mangle)]
+pub extern "C" fn elasticlunr_index_pieces(
+    alloc: Global,
+    input: &[u8],
+    text: &mut *mut u8,
+    length: &mut usize,
+) -> u32
+    ensures cut { IsCutBy input.now length.old length.new result }
+{
+    match pieces_answer(alloc, input) {
+        Ok((status, answer)) => {
+            hand_out_bytes(answer, text, length);
             status
         }
         Err(status) => status,

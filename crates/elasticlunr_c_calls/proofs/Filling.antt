@@ -1,17 +1,11 @@
 -- An index to which the documents of an input are added.
 -- `made` relates a reference and values to the document that the index makes of them; `old` and `new` are what it stood
 -- for before, and what it represents now.
-use Rattle.std.proofs.Common.{◌≡◌, ◌<◌, ◌≤◌, ◌+◌, ℕ, List, [], ◌∷◌, ◌++◌, length, map, take, get_or, Any, Option, inl, inr, refl}
-use Rattle.std.proofs.Common.{sym, ap, subst, ◌∙◌, arith, Result, ◌⊎◌}
+use Rattle.std.proofs.Common.{◌≡◌, ◌<◌, ◌≤◌, ◌+◌, ℕ, List, [], ◌∷◌, ◌++◌, length, map, take, get_or, Option, inl, inr, refl}
+use Rattle.std.proofs.Common.{sym, ap, subst, ◌∙◌, arith}
 use Rattle.std.proofs.lemmas.Bool.{cases_lt}
 use Rattle.std.proofs.lemmas.List.{map-append, length-map, take_all}
-use Rattle.std.proofs.lemmas.Result.{err_from_is_err_and}
 use Rattle.std.specs.List.{AllZip}
-use Rattle.std.specs.Prelude.{IfErr}
-use Rattle.std.specs.Result.{IsErrAnd}
-use Rattle.serde_json.specs.Written.{compact_text}
-use Rattle.elasticlunr_text.specs.IndexError.{IndexError}
-use Rattle.elasticlunr_text.specs.IndexError.TheVariants as index
 use Rattle.elasticlunr_text.specs.Stages.{IsRunBy}
 use Rattle.elasticlunr_text.specs.Text.{Text, Bytes}
 use Rattle.elasticlunr.specs.Calls.{followed_by}
@@ -20,24 +14,18 @@ use Rattle.elasticlunr.specs.Documents as documents
 use Rattle.elasticlunr.specs.GivenTokens.{MayHaveAt, value_texts}
 use Rattle.elasticlunr.specs.History.{Commands, Document, add, none, ◌▸◌}
 use Rattle.elasticlunr.specs.Index.{choices_of, fields_of, IsDocumentWithTokens}
-use Rattle.elasticlunr.specs.Printed.{IsTextAfter}
 use Rattle.elasticlunr.specs.Standing.{Plan}
 use Rattle.elasticlunr.specs.Tokenizers.{MayAnswer}
 use Rattle.elasticlunr.specs.declared.index.Index.{Index}
 use Rattle.elasticlunr.specs.declared.values.FieldValue.{FieldValue}
 use Rattle.elasticlunr_flat.specs.Flat as flat
-use Rattle.elasticlunr_flat.specs.Told.{document_told, value_told}
+use Rattle.elasticlunr_flat.specs.Told.{document_told}
 use Rattle.elasticlunr_flat.specs.declared.form.Document as held
-use Rattle.elasticlunr_flat.specs.declared.form.Value as held_value
 use Rattle.elasticlunr_job.proofs.Filling.{AllZip_more, Follows-append}
 use Rattle.elasticlunr_job.proofs.Printing.{zip_more}
 use Rattle.elasticlunr_job.proofs.Taken.{Follows, Standing}
-use Rattle.elasticlunr_job_format.specs.IndexJobError.{job_error_of}
-use Rattle.elasticlunr_job_format.specs.JobError.{StopsOnlyBy}
-use Rattle.elasticlunr_job_format.specs.declared.outcome.JobError.{JobError}
-use Rattle.elasticlunr_job_format.specs.declared.outcome.Refusal.{Refusal}
 use Rattle.elasticlunr_c_calls.specs.Carried.{field_told}
-use Rattle.elasticlunr_c_calls.specs.Indexes.{HasTooMany, IsAdded, IsBuiltFor, IsTextIn, plan_in}
+use Rattle.elasticlunr_c_calls.specs.Indexes.{HasTooMany, IsAdded, IsBuiltFor, IsMadeIn, OfIndex}
 use Rattle.elasticlunr_c_calls.specs.declared.language.InputLanguage.{InputLanguage}
 
 abbrev pub Makes : Type 1
@@ -80,13 +68,12 @@ pub all_taken : (made : Makes) (old new : Standing) (docs whole : List held.Docu
 all_taken made old new docs whole i same past took = subst (λ ds. HasTaken made old new (map document_told ds))
     (take_all i docs past ∙ same) took
 
--- the text of an index that took all documents
-pub text_in : (input : flat.Input) (language : InputLanguage) (made : Makes) (old new : Standing) (before after : Plan)
-    (text : Bytes) → after ≡ before → IsBuiltFor field_told input language before made old
-    → HasTaken made old new input.documents
-    → ((commands : Commands) → new commands → IsTextAfter compact_text after commands text)
-    → IsTextIn input language text
-text_in input language made old new before after text same built took prints =
+-- what is made of an index that took all documents
+pub made_in : (input : flat.Input) (language : InputLanguage) (made : Makes) (old new : Standing) (before after : Plan)
+    (Is : OfIndex) → after ≡ before → IsBuiltFor field_told input language before made old
+    → HasTaken made old new input.documents → ((commands : Commands) → new commands → Is after commands)
+    → IsMadeIn input language Is
+made_in input language made old new before after Is same built took holds =
     let commands = followed_by none (map add took.documents) in
     record {
       commands = commands;
@@ -96,20 +83,9 @@ text_in input language made old new before after text same built took prints =
             (λ given document one. built.adds given one.values document one.are one.is) took.each;
         whole = refl;
       };
-      printed = subst (λ plan. IsTextAfter compact_text plan commands text) (same ∙ built.its_plan)
-          (prints commands (took.follows.stands none built.empty));
+      is = subst (λ plan. Is plan commands) (same ∙ built.its_plan)
+          (holds commands (took.follows.stands none built.empty));
     }
-
--- the exit of the print: of all errors it is out of memory, or the index had failed
-pub print_exit : {T : Type 0} (r : Result T JobError) (P : JobError → Type 0) (e : IndexError)
-    → IsErrAnd r (λ y. y ≡ job_error_of e)
-    → (e ≡ index.Failed) ⊎ (e ≡ index.Memory) → ((stop : JobError) → stop ≡ JobError.Memory → P stop) → IfErr r P
-print_exit r P e is h f =
-    let p = err_from_is_err_and r is in
-    rw (p.1) (elim h [
-      | inl failed ↦ f p.0 (p.2 ∙ ap job_error_of failed)
-      | inr memory ↦ f p.0 (p.2 ∙ ap job_error_of memory)
-    ])
 
 module _ {L P X Y : Type 0} {O : X → Type 0} {F : Y → Type 0} {p : _} {g : _} where
   -- indexes of the same settings make the same documents

@@ -1,3 +1,4 @@
 pub mod Stages
 pub mod Filling
 pub mod Building
+pub mod Cutting

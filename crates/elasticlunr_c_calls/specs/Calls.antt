@@ -7,7 +7,10 @@ use Rattle.elasticlunr_job.specs.Answer.{IsAnswer}
 use Rattle.elasticlunr_job.specs.declared.outcome.Outcome.{Outcome}
 use Rattle.elasticlunr_job.specs.declared.outcome.Outcome.TheVariants.{Printed, Refused}
 use Rattle.elasticlunr_c_calls.specs.Indexes.{IsIndexed, IsMalformed}
+use Rattle.elasticlunr_c_calls.specs.Pieces.{IsCutInto, IsNoCutting}
 use Rattle.elasticlunr_c_calls.specs.Searches.{IsNoSearch, IsSearched}
+use Rattle.elasticlunr_c_calls.specs.declared.pieces.PiecesOutcome.{PiecesOutcome}
+use Rattle.elasticlunr_c_calls.specs.declared.pieces.PiecesOutcome.TheVariants as pieces
 use Rattle.elasticlunr_c_calls.specs.declared.search.SearchOutcome.{SearchOutcome}
 use Rattle.elasticlunr_c_calls.specs.declared.search.SearchOutcome.TheVariants.{Found}
 use Rattle.elasticlunr_c_calls.specs.declared.search.SearchOutcome.TheVariants as search
@@ -56,6 +59,24 @@ abbrev pub IsIndexedBy : (input : Bytes) → (old new status : ℕ) → Type 0
 IsIndexedBy input old new status = ((status ≡ 1) × (new ≡ old))
     ⊎ (((status ≡ 3) × IsMalformed input × (new ≡ old))
     ⊎ ((text : Bytes) × HasIndex input status text × (new ≡ length text)))
+
+-- the status of pieces: 0 where there are some, 2 for a refusal
+abbrev pub HasPiecesStatus : PiecesOutcome → ℕ → Type 0
+HasPiecesStatus pieces.Made status = status ≡ 0
+HasPiecesStatus (pieces.Refused _) status = status ≡ 2
+HasPiecesStatus pieces.TooLarge status = status ≡ 2
+
+-- this answers documents in the flat form whose index is cut into pieces, and this is its status
+abbrev pub HasPieces : (input : Bytes) → (status : ℕ) → (answer : Bytes) → Type 0
+HasPieces input status answer = (outcome : PiecesOutcome) × HasPiecesStatus outcome status
+    × IsCutInto input outcome answer
+
+-- memory ran out or the documents are not in the flat form, and the length is as it was; or it is
+-- that of the answer
+abbrev pub IsCutBy : (input : Bytes) → (old new status : ℕ) → Type 0
+IsCutBy input old new status = ((status ≡ 1) × (new ≡ old))
+    ⊎ (((status ≡ 3) × IsNoCutting input × (new ≡ old))
+    ⊎ ((answer : Bytes) × HasPieces input status answer × (new ≡ length answer)))
 
 -- the status of a search: 0 for lines, 2 for a refusal
 abbrev pub HasSearchStatus : SearchOutcome → ℕ → Type 0

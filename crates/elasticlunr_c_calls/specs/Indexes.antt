@@ -64,11 +64,19 @@ pub record AreCommandsOf (input : flat.Input) (language : InputLanguage) (comman
   pub each : AllZip (IsAdded input language) input.documents documents
   pub whole : commands ≡ followed_by none (map add documents)
 
--- this is the text of the index in this language
-pub record IsTextIn (input : flat.Input) (language : InputLanguage) (text : Bytes) : Type 0 where
+-- what can be said of an index of this plan that represents these commands
+abbrev pub OfIndex : Type 1
+OfIndex = Plan → Commands → Type 0
+
+-- this is its text
+abbrev pub IsTextOfIndex : Bytes → OfIndex
+IsTextOfIndex text plan commands = IsTextAfter compact_text plan commands text
+
+-- of the index that the input asks for, in this language, this holds
+pub record IsMadeIn (input : flat.Input) (language : InputLanguage) (Is : OfIndex) : Type 0 where
   pub commands : Commands
   pub are_commands : AreCommandsOf input language commands
-  pub printed : IsTextAfter compact_text (plan_in input language) commands text
+  pub is : Is (plan_in input language) commands
 
 abbrev pub HasTooMany : List Bytes → flat.Document → Type 0
 HasTooMany fields document = length fields < length document.values
@@ -83,10 +91,14 @@ pub record Passes (input : flat.Input) (language : InputLanguage) : Type 0 where
   pub distinct : all_differ input.fields ≡ true
   pub fits : Fits input.fields input.documents
 
+-- the input passes all checks, and this holds of its index
+abbrev pub IsMadeOf : flat.Input → OfIndex → Type 0
+IsMadeOf input Is = (language : InputLanguage) × Passes input language
+    × IsMadeIn input language Is
+
 -- the input passes all checks, and this is the text of its index
 abbrev pub IsTextOf : flat.Input → Bytes → Type 0
-IsTextOf input text = (language : InputLanguage) × Passes input language
-    × IsTextIn input language text
+IsTextOf input text = IsMadeOf input (IsTextOfIndex text)
 
 -- there is such a language
 abbrev pub NamesAny : flat.Language → Type 0

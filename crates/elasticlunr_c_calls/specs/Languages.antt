@@ -1,6 +1,5 @@
 -- The language of an input.
-use Rattle.std.specs.Prelude.{◌≡◌, List, [], Option, Some, string_bytes, codes}
-use Rattle.elasticlunr.specs.AnyLanguage.{AnyLanguage}
+use Rattle.std.specs.Prelude.{◌≡◌, List, Option, Some, string_bytes, codes}
 use Rattle.elasticlunr.specs.Known.{language_code, language_leaves, language_name, language_stages}
 use Rattle.elasticlunr.specs.Text.{Text, Bytes, bytes_of}
 use Rattle.elasticlunr_flat.specs.Flat as flat

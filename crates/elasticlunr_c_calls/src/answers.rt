@@ -1,12 +1,15 @@
 //! Answers and their statuses.
-ghost use Rattle.std.specs.Prelude.{◌≡◌, ◌⊎◌, IfErr, IfOk, length, string_bytes, string_len};
+ghost use Rattle.std.specs.Prelude.{◌≡◌, ◌⊎◌, IfErr, IfOk, length, string_bytes, string_len, vec_len};
 ghost use Rattle.elasticlunr_c_calls.specs.Calls.{HasIndex, HasStatus, IsAnswered, IsAnsweredInto};
-ghost use Rattle.elasticlunr_c_calls.specs.Calls.{HasFaultStatus, HasHits, IsPut};
+ghost use Rattle.elasticlunr_c_calls.specs.Calls.{HasFaultStatus, HasHits, HasPieces, IsPut};
+ghost use Rattle.elasticlunr_c_calls.specs.Calls.{HasPiecesStatus};
 ghost use Rattle.elasticlunr_c_calls.specs.Indexes.{IsMalformed};
+ghost use Rattle.elasticlunr_c_calls.specs.Pieces.{IsNoCutting};
 ghost use Rattle.elasticlunr_c_calls.specs.Searches.{IsNoSearch};
 ghost use Rattle.elasticlunr_job.specs.Answer.{IsAnswer};
 
 use crate::documents::index_documents;
+use crate::pieces::{PiecesOutcome, index_pieces};
 use crate::search::{SearchOutcome, search_index};
 use elasticlunr_flat::FlatError;
 use elasticlunr_job::answer::answer;
@@ -64,6 +67,18 @@ pub fn index_answer(alloc: Global, input: &[u8]) -> Result<(u32, String), u32>
     }
 }
 
+/// The same for documents whose index is cut into pieces: the flat form of its head and its pieces.
+pub fn pieces_answer(alloc: Global, input: &[u8]) -> Result<(u32, Vec<u8>), u32>
+    ensures ok { IfOk result (λ a. HasPieces input.now a.0 a.1.items) }
+    ensures err { IfErr result (λ status. (status ≡ 1)
+        ⊎ ((status ≡ 3) × IsNoCutting input.now)) }
+{
+    match index_pieces(alloc, input) {
+        Ok((outcome, answer)) => Ok((status_of_pieces(outcome), answer)),
+        Err(fault) => Err(status_of_fault(fault)),
+    }
+}
+
 /// The same for a search in the flat form: a line of JSON for each hit in the text of an index. Where
 /// the search is not in this form, there is the status 3 alone.
 pub fn search_answer(alloc: Global, index: &[u8], search: &[u8]) -> Result<(u32, String), u32>
@@ -96,6 +111,16 @@ fn status_of(outcome: Outcome) -> u32
     }
 }
 
+/// The status of an outcome of pieces.
+fn status_of_pieces(outcome: PiecesOutcome) -> u32
+    ensures { HasPiecesStatus outcome result }
+{
+    match outcome {
+        PiecesOutcome::Made => DONE,
+        PiecesOutcome::Refused(_) | PiecesOutcome::TooLarge => REFUSED,
+    }
+}
+
 /// The status of an input that is not read.
 fn status_of_fault(fault: FlatError) -> u32
     ensures { HasFaultStatus fault result }
@@ -122,7 +147,14 @@ fn put(line: &[u8], out: &mut [u8]) -> usize
 pub fn hand_out(answer: String, text: &mut *mut u8, length: &mut usize)
     ensures { length.new ≡ string_len answer }
 {
-    let mut bytes = answer.into_bytes();
+    hand_out_bytes(answer.into_bytes(), text, length);
+}
+
+/// The same for an answer that is no text.
+pub fn hand_out_bytes(answer: Vec<u8>, text: &mut *mut u8, length: &mut usize)
+    ensures { length.new ≡ vec_len answer }
+{
+    let mut bytes = answer;
     *length = bytes.len();
     *text = bytes.as_mut_ptr();
     bytes.leak();

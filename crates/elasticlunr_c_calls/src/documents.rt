@@ -1,12 +1,13 @@
 //! The index of an input in the flat form.
 ghost use Rattle.std.specs.Prelude.{◌≡◌, Any, Err, map, string_bytes, IfErr, IfOk, OnOk};
+ghost use Rattle.elasticlunr.specs.History.{Commands};
 ghost use Rattle.elasticlunr.specs.Index.{choices_of, fields_of, plan_of, IsFailed, StandsFor};
 ghost use Rattle.elasticlunr.specs.Index.{IsDocumentWithTokens};
 ghost use Rattle.elasticlunr.specs.Words.{words};
 ghost use Rattle.elasticlunr_c_calls.specs.Carried.{field_told, source_told};
 ghost use Rattle.elasticlunr_c_calls.specs.Indexes.{FailsAt, Fits, HasTooMany, IsBuiltFor};
-ghost use Rattle.elasticlunr_c_calls.specs.Indexes.{IsIndexed, IsMalformed, IsTextIn, IsTextOf};
-ghost use Rattle.elasticlunr_c_calls.specs.Indexes.{NamesAny};
+ghost use Rattle.elasticlunr_c_calls.specs.Indexes.{IsIndexed, IsMadeIn, IsMadeOf, IsMalformed};
+ghost use Rattle.elasticlunr_c_calls.specs.Indexes.{IsTextOf, NamesAny};
 ghost use Rattle.elasticlunr_c_calls.specs.Languages.{name_in, IsNamed};
 ghost use Rattle.elasticlunr_c_calls.specs.declared.language.InputLanguage.{InputLanguage};
 ghost use Rattle.elasticlunr_flat.specs.Flat.{own};
@@ -18,6 +19,7 @@ ghost use Rattle.elasticlunr_job_format.specs.declared.outcome.Refusal.TheVarian
 ghost use Rattle.elasticlunr_job_format.specs.declared.outcome.Refusal.TheVariants.{UnknownLanguage};
 
 use crate::language::InputLanguage;
+use crate::make::{CompactText, Make};
 use elasticlunr::lang::from_name;
 use elasticlunr::laws::given::values_with_tokens_make_what_a_language_makes;
 use elasticlunr::{FieldValue, Index, IndexBuilder, TokenSource};
@@ -83,17 +85,35 @@ fn own_language(alloc: Global, name: &str, stages: &[&str]) -> Result<InputLangu
     })
 }
 
-/// Adds all documents to a new index: its text then.
-fn fill_and_print(
+/// What is made of an index.
+fn made_by<M: Make>(
+    alloc: Global,
+    maker: &M,
+    index: &Index<InputLanguage>,
+) -> Result<M::Made, JobError>
+    ensures ok { IfOk result (λ made. (commands : Commands)
+        → StandsFor name_in name_text index.now commands
+        → M.makes maker.now made (plan_of name_in name_text index.now) commands) }
+    ensures err { IfErr result (λ stop. stop ≡ JobError.Memory) }
+{
+    match maker.make(alloc, index) {
+        Ok(made) => Ok(made),
+        Err(_) => Err(JobError::Memory),
+    }
+}
+
+/// Adds all documents to a new index: what is made of it then.
+fn fill_and_make<M: Make>(
     alloc: Global,
     mut index: Index<InputLanguage>,
     input: &Input<'_>,
-) -> Result<String, JobError>
+    maker: &M,
+) -> Result<M::Made, JobError>
     ensures fits { OnOk result (Fits (fields_of index) (input_told input.now).documents) }
-    ensures ok { IfOk result (λ text. (language : InputLanguage)
+    ensures ok { IfOk result (λ made. (language : InputLanguage)
         → IsBuiltFor field_told (input_told input.now) language (plan_of name_in name_text index)
         (IsDocumentWithTokens (λ _. words) leaves index) (StandsFor name_in name_text index)
-        → IsTextIn (input_told input.now) language (string_bytes text)) }
+        → IsMadeIn (input_told input.now) language (M.makes maker.now made)) }
     ensures err { IfErr result (λ stop. ¬ IsFailed index
         → StopsOnlyBy TooManyValues
         (Any (HasTooMany (fields_of index)) (input_told input.now).documents) stop) }
@@ -102,12 +122,16 @@ fn fill_and_print(
         let values = values_of(alloc, &document.values)?;
         index.add_doc_with_tokens(document.reference, &values)?;
     }
-    Ok(index.to_json()?)
+    made_by(alloc, maker, &index)
 }
 
-/// The text of the index that an input asks for.
-pub fn index_text(alloc: Global, input: &Input<'_>) -> Result<String, JobError>
-    ensures ok { IfOk result (λ text. IsTextOf (input_told input.now) (string_bytes text)) }
+/// What is made of the index that an input asks for.
+pub(crate) fn made_of<M: Make>(
+    alloc: Global,
+    input: &Input<'_>,
+    maker: &M,
+) -> Result<M::Made, JobError>
+    ensures ok { IfOk result (λ made. IsMadeOf (input_told input.now) (M.makes maker.now made)) }
     ensures err { IfErr result (StopsWithReason (FailsAt (input_told input.now))) }
 {
     let language = language_of(alloc, &input.language)?;
@@ -117,7 +141,15 @@ pub fn index_text(alloc: Global, input: &Input<'_>) -> Result<String, JobError>
         .add_fields(&input.fields)?
         .build()?;
     values_with_tokens_make_what_a_language_makes(&index);
-    fill_and_print(alloc, index, input)
+    fill_and_make(alloc, index, input, maker)
+}
+
+/// The text of the index that an input asks for.
+pub fn index_text(alloc: Global, input: &Input<'_>) -> Result<String, JobError>
+    ensures ok { IfOk result (λ text. IsTextOf (input_told input.now) (string_bytes text)) }
+    ensures err { IfErr result (StopsWithReason (FailsAt (input_told input.now))) }
+{
+    made_of(alloc, input, &CompactText)
 }
 
 /// The outcome for bytes in the flat form, and what answers them: the text of the index, without a

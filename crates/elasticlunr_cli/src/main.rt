@@ -3,23 +3,12 @@
 //! was refused, 1 where a file failed or memory ran out, and 64 where the command line is wrong.
 #![tactic(auto)]
 
-mod asked;
-mod build;
-mod files;
-mod given;
-mod languages;
-mod pieces;
-mod search;
-mod show;
-mod tell;
-mod words;
-
-use crate::build::{Use, build};
-use crate::languages::list_languages;
-use crate::search::search;
-use crate::words::command_line;
 use clap::ArgMatches;
 use clap::error::ErrorKind;
+use elasticlunr_cli_build::build::{Use, build};
+use elasticlunr_cli_search::search::search;
+use elasticlunr_cli_words::languages::list_languages;
+use elasticlunr_cli_words::words::command_line;
 use elasticlunr_diagnostics::outcome::{Outcome, status};
 use std::process::ExitCode;
 use std::{env, io};

@@ -41,16 +41,17 @@ taken_one made old mid new docs doc so_far document makes follow =
           (record { stands = follow }));
     }
 
-texts_long : (d : Data) (fields texts : List Bytes) → HasTexts d fields texts → length texts ≡ length fields
-texts_long d [] [] has = refl
-texts_long d [] (text ∷ texts) has = absurd has
-texts_long d (field ∷ fields) [] has = absurd has
-texts_long d (field ∷ fields) (text ∷ texts) has = ap (λ n. suc n) (texts_long d fields texts has.1)
+texts_long : (options : Options) (d : Data) (fields texts : List Bytes) → HasTexts options d fields texts
+    → length texts ≡ length fields
+texts_long options d [] [] has = refl
+texts_long options d [] (text ∷ texts) has = absurd has
+texts_long options d (field ∷ fields) [] has = absurd has
+texts_long options d (field ∷ fields) (text ∷ texts) has = ap (λ n. suc n) (texts_long options d fields texts has.1)
 
 -- a document has as many values as there are fields
 pub values_long : (options : Options) (d : Data) (doc : Document) → IsDocumentOf options d doc → length doc.values
     ≡ length options.fields
-values_long options d doc is = texts_long d options.fields doc.values is.values
+values_long options d doc is = texts_long options d options.fields doc.values is.values
 
 -- no document has more
 pub documents_fit : (options : Options) (items : List Data) (docs : List Document) → AreDocumentsOf options items docs

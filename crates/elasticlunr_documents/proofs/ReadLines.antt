@@ -167,8 +167,8 @@ feeds_next text line none =
 -- all lines were added
 pub all_filled : (options : Options) (language : AnyLanguage) (left : Option Bytes) (text : Bytes) (number : ℕ)
     (made : Makes) (old new : Standing) (before after : Plan) (Is : OfIndex) → AreAll left text
-    → Added options text number made old new → after ≡ before → IsBuiltFor (job_of options []) language before made
-    old
+    → Added options text number made old new → after ≡ before
+    → IsBuiltFor options.rules (job_of options []) language before made old
     → ((commands : Commands) → new commands → Is options.pretty after commands) → (all : Bytes) × AreAll left all
     × IsFilledBy options language all Is
 all_filled options language left text number made old new before after Is all added same built holds =
@@ -183,7 +183,7 @@ all_filled options language left text number made old new before after Is all ad
         documents = added.documents;
         are_values = added.are_values;
         are_documents = added.are_documents;
-        made = carried job language made old new before after Is same
+        made = carried options.rules job language made old new before after Is same
             (record { its_plan = built.its_plan; adds = built.adds; empty = built.empty })
             (record {
               documents = entered;

@@ -7,7 +7,7 @@ use Rattle.elasticlunr_text.specs.Text.{Bytes}
 use Rattle.elasticlunr_text.specs.IndexError.{IndexError}
 use Rattle.elasticlunr_text.specs.IndexError.TheVariants.{DuplicateField}
 use Rattle.elasticlunr_lang.specs.declared.any.AnyLanguage.{AnyLanguage}
-use Rattle.elasticlunr_job.specs.Answer.{IsMadeIn, OfIndex}
+use Rattle.elasticlunr_job.specs.Answer.{IsMadeInBy, OfIndex}
 use Rattle.elasticlunr_job_format.specs.Job.{Document}
 use Rattle.elasticlunr_job_format.specs.LineRead.{AreAll, HasNoFeed, fed}
 use Rattle.elasticlunr_job_format.specs.Lines.{AreLineValues, is_blank}
@@ -72,7 +72,7 @@ pub record IsFilledBy (options : Options) (language : AnyLanguage) (input : Byte
   pub documents : List Document
   pub are_values : AreLineValues input items
   pub are_documents : AreDocumentsOf options items documents
-  pub made : IsMadeIn (job_of options documents) language Is
+  pub made : IsMadeInBy options.rules (job_of options documents) language Is
 
 -- how a refusal of the builder ends the work on lines; the others are out of memory
 abbrev pub index_error_of : IndexError → LinesError

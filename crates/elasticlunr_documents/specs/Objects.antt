@@ -2,7 +2,7 @@
 use Rattle.std.specs.Prelude.{List, [], ⊤, false}
 use Rattle.serde_json.specs.Data.{Data}
 use Rattle.elasticlunr_text.specs.Text.{Bytes}
-use Rattle.elasticlunr_job.specs.Answer.{FailsAt, IsMadeOf, IsPrintedLine, OfIndex}
+use Rattle.elasticlunr_job.specs.Answer.{FailsAt, IsMadeBy, IsPrintedLine, OfIndex}
 use Rattle.elasticlunr_job_format.specs.Job.{Document, Job}
 use Rattle.elasticlunr_job_format.specs.Objects.{Options, AreDocumentsOf, IsFirstProblem}
 use Rattle.elasticlunr_documents.specs.declared.objects.ObjectsError.{ObjectsError}
@@ -13,7 +13,7 @@ abbrev pub job_of : Options → List Document → Job
 job_of options docs = record {
   fields = options.fields;
   docs = docs;
-  reference_field = options.reference_key;
+  reference_field = options.reference_field;
   save = options.save;
   language = options.language;
   pretty = options.pretty;
@@ -21,10 +21,10 @@ job_of options docs = record {
   compact = false;
 }
 
--- this holds of the index of the documents that the values are
+-- this holds of the index of the documents that the values are, under the rules of the options
 abbrev pub IsMadeOfObjects : Options → List Data → OfIndex → Type 0
 IsMadeOfObjects options items Is = (docs : List Document) × AreDocumentsOf options items docs
-    × IsMadeOf (job_of options docs) Is
+    × IsMadeBy options.rules (job_of options docs) Is
 
 -- the text of the index of the documents that the values are, and a line feed
 abbrev pub IsLineOfObjects : Options → List Data → Bytes → Type 0

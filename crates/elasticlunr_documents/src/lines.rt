@@ -5,12 +5,12 @@
 
 ghost use Rattle.std.specs.Prelude.{◌≡◌, [], true, Some, None, option_map, string_bytes, IfOk};
 ghost use Rattle.std.specs.Prelude.{IfErr};
-ghost use Rattle.elasticlunr.specs.Index.{plan_of, IsDocument, StandsFor};
+ghost use Rattle.elasticlunr.specs.Index.{plan_of, StandsFor};
 ghost use Rattle.elasticlunr.specs.History.{Commands};
 ghost use Rattle.elasticlunr_lang.specs.Known.{language_name};
 ghost use Rattle.elasticlunr_text.specs.Text.{Bytes};
 ghost use Rattle.elasticlunr_job.specs.Commands.{language_tokens};
-ghost use Rattle.elasticlunr_job.specs.Filled.{IsBuiltFor};
+ghost use Rattle.elasticlunr_job.specs.Filled.{IsBuiltFor, IsMadeUnder};
 ghost use Rattle.elasticlunr_documents.specs.Lines.{FailsLines, IfDevice, IsLineOfLines};
 ghost use Rattle.elasticlunr_documents.specs.Lines.{IsMadeOfLines};
 ghost use Rattle.elasticlunr_documents.specs.LinesTold.{IsFilledBy, IsTaken, IsUnread};
@@ -26,8 +26,9 @@ ghost use Rattle.serde_json.specs.View.{view};
 use crate::marked::MarkedRead;
 use crate::objects::{AddError, Object, ObjectFault, Options, object_of};
 use elasticlunr::lang::{AnyLanguage, from_name};
-use elasticlunr::laws::calls::an_index_makes_what_its_language_makes;
+use elasticlunr::laws::given::values_with_tokens_make_what_a_language_makes;
 use elasticlunr::{Index, IndexBuilder, IndexError};
+use elasticlunr_job::kept::{all_words, kept_lists, values_with};
 use elasticlunr_job::make::{Line, Make};
 use elasticlunr_job::outcome::{JobError, Refusal};
 pub use elasticlunr_job_format::lines::is_blank;
@@ -203,9 +204,10 @@ fn fill_and_make<R: MarkedRead, W: Watch, M: Make>(
     mut index: Index<AnyLanguage>,
 ) -> Result<M::Made, LinesError>
     ensures ok { IfOk result (λ made. (language : AnyLanguage)
-        → IsBuiltFor (job_of (options_told options.now) []) language
-        (plan_of language_name name_text index)
-        (IsDocument language_tokens leaves index) (StandsFor language_name name_text index)
+        → IsBuiltFor (options_told options.now).rules (job_of (options_told options.now) [])
+        language (plan_of language_name name_text index)
+        (IsMadeUnder (options_told options.now).rules (options_told options.now).fields
+        language_tokens leaves index) (StandsFor language_name name_text index)
         → (text : Bytes) × AreAll (R.remaining reader.old) text
         × IsFilledBy (options_told options.now) language text (M.makes maker.now made)) }
     ensures err { IfErr result (StopsFilling (options_told options.now) (R.remaining reader.old)
@@ -224,7 +226,11 @@ fn fill_and_make<R: MarkedRead, W: Watch, M: Make>(
         };
         number += 1;
         let object = object_on(alloc, options, &value, number, watch)?;
-        let Ok(()) = index.add_doc(object.reference.as_str(), &object.values) else {
+        let texts = object.values(alloc)?;
+        let kept = kept_lists(alloc, &options.rules, &options.fields, &texts)?;
+        let words = all_words(alloc, &kept)?;
+        let values = values_with(alloc, &texts, &words, &kept)?;
+        let Ok(()) = index.add_doc_with_tokens(object.reference.as_str(), &values) else {
             // It has a value for each field, so it is not refused: memory runs out.
             return Err(LinesError::Memory);
         };
@@ -257,10 +263,10 @@ pub fn lines_made<R: MarkedRead, W: Watch, M: Make>(
     };
     let index = IndexBuilder::with_language(alloc, language)?
         .save_docs(options.save)
-        .set_ref(options.reference_key)?
+        .set_ref(options.reference_field)?
         .add_fields(&options.fields)?
         .build()?;
-    an_index_makes_what_its_language_makes(&index);
+    values_with_tokens_make_what_a_language_makes(&index);
     fill_and_make(alloc, options, reader, last, watch, maker, index)
 }
 

@@ -10,7 +10,7 @@ ghost use Rattle.elasticlunr_documents.specs.Objects.{FailsObjects, IsLineOfObje
 ghost use Rattle.elasticlunr_documents.specs.Objects.{IsMadeOfObjects, job_of};
 ghost use Rattle.elasticlunr_documents.specs.ObjectsTold.{stop_at};
 
-use elasticlunr_job::answer::job_made;
+use elasticlunr_job::answer::job_made_by;
 use elasticlunr_job::make::{Line, Make};
 use elasticlunr_job::outcome::{JobError, Refusal};
 use elasticlunr_job_format::job::{Document, Job};
@@ -86,7 +86,7 @@ fn document_of<'a>(alloc: Global, object: &'a Object<'a>) -> Result<Document<'a>
 {
     Ok(Document {
         reference: object.reference.as_str(),
-        values: Vec::from_slice(alloc, &object.values)?,
+        values: object.values(alloc)?,
     })
 }
 
@@ -106,7 +106,7 @@ fn job_of<'a>(
     Ok(Job {
         fields: Vec::from_slice(alloc, &options.fields)?,
         docs,
-        reference_field: options.reference_key,
+        reference_field: options.reference_field,
         save: options.save,
         language: options.language,
         pretty: options.pretty,
@@ -129,7 +129,7 @@ pub fn objects_made<M: Make>(
 {
     let objects = objects_of(alloc, options, items)?;
     let job = job_of(alloc, options, &objects)?;
-    match job_made(alloc, &job, maker) {
+    match job_made_by(alloc, &job, &options.rules, maker) {
         Ok(made) => Ok(made),
         Err(JobError::Refused(refusal)) => Err(ObjectsError::Refused(refusal)),
         Err(JobError::Memory) => Err(ObjectsError::Memory),

@@ -7,7 +7,7 @@ use Rattle.elasticlunr_flat.specs.Flat.{flat_number, flat_text, flat_list, flat_
 use Rattle.elasticlunr_flat.specs.Flat.{flat_tokens, flat_value, flat_document, flat_input, IsNumber, IsText, IsList}
 use Rattle.elasticlunr_flat.specs.Flat.{AreTexts, IsLanguage, AreTokens, IsValue, IsDocument, IsInput}
 use Rattle.elasticlunr_flat.specs.Flat.{Needed, one, each_in_one_field, each, needed_number, flat_pair, flat_needed}
-use Rattle.elasticlunr_flat.specs.Flat.{flat_search, IsPair, IsByte, IsSearch}
+use Rattle.elasticlunr_flat.specs.Flat.{flat_cutting, flat_search, IsCutting, IsPair, IsByte, IsSearch}
 use Rattle.elasticlunr_flat.specs.Reading.{IsRead, BeginsWithNone, IsReadOneWay, IsAnyTruth, IsAnyNeeded, IsOfNone}
 use Rattle.elasticlunr_flat.specs.OneWay.{number_one_way, text_one_way, texts_one_way, truth_one_way}
 use Rattle.elasticlunr_flat.specs.OneWay.{language_one_way, own_in_order, input_in_order}
@@ -146,6 +146,15 @@ pub no_second : {A B : Type 0} (FirstFits : A → Type 0) (flat_first : A → By
 no_second FirstFits flat_first one_way SecondFits flat_second bytes rest x read none =
     others_missing (IsPair FirstFits SecondFits) FirstFits flat_first (λ y. y.0) (λ y. flat_second y.1) one_way
     (λ y fits. fits.0) bytes rest x read (λ y more fits is. none y.1 more fits.1 is)
+
+-- ---- documents whose index is cut into pieces
+
+-- where there are no parts, there are none
+pub no_cutting : (bytes : Bytes)
+    → IsOfNone (IsPair IsText (IsPair IsNumber IsInput)) (flat_pair flat_text (flat_pair flat_number flat_input)) bytes
+    → IsOfNone IsCutting flat_cutting bytes
+no_cutting bytes none = λ cutting fits is.
+    none (cutting.title, (cutting.size, cutting.input)) (fits.title, (fits.size, fits.input)) is
 
 -- ---- a search
 

@@ -33,6 +33,13 @@ pub record Input : Type 0 where
   pub fields : List Bytes
   pub documents : List Document
 
+-- documents whose index is cut into pieces: the field of the titles, how many bytes a piece may
+-- have, and the documents
+pub record Cutting : Type 0 where
+  pub title : Bytes
+  pub size : ℕ
+  pub input : Input
+
 -- ---- what is searched for
 
 -- which words of the query a document must have: one of them, each in one field, or each in some
@@ -95,6 +102,10 @@ flat_input input = flat_language input.language ++ flat_text input.reference_fie
     ++ flat_truth input.save ++ flat_texts input.fields
     ++ flat_list flat_document input.documents
 
+abbrev pub flat_cutting : Cutting → Bytes
+flat_cutting cutting = flat_text cutting.title ++ (flat_number cutting.size
+    ++ flat_input cutting.input)
+
 -- the first, and then the second
 abbrev pub flat_pair : {A B : Type 0} → (A → Bytes) → (B → Bytes) → A × B → Bytes
 flat_pair flat_first flat_second pair = flat_first pair.0 ++ flat_second pair.1
@@ -152,6 +163,11 @@ pub record IsInput (input : Input) : Type 0 where
   pub reference_field : IsText input.reference_field
   pub fields : AreTexts input.fields
   pub documents : IsList IsDocument input.documents
+
+pub record IsCutting (cutting : Cutting) : Type 0 where
+  pub title : IsText cutting.title
+  pub size : IsNumber cutting.size
+  pub input : IsInput cutting.input
 
 abbrev pub IsByte : ℕ → Type 0
 IsByte n = n < 2 ^ 8

@@ -8,7 +8,7 @@ use Rattle.std.proofs.lemmas.List.{take_at, drop_at}
 use Rattle.std.proofs.lemmas.List.Elements.{All-head, All-tail}
 use Rattle.std.proofs.lemmas.Nat.{from_le_bytes-to_le_bytes_4}
 use Rattle.elasticlunr_error.specs.Text.{Bytes}
-use Rattle.elasticlunr_flat.specs.Flat.{built_in, own, Input, Needed, Search}
+use Rattle.elasticlunr_flat.specs.Flat.{built_in, own, Cutting, Input, Needed, Search}
 use Rattle.elasticlunr_flat.specs.Flat.{one, each_in_one_field, each, needed_number}
 use Rattle.elasticlunr_flat.specs.Flat.{from_text, into_pipeline, as_given}
 use Rattle.elasticlunr_flat.specs.Flat.{flat_number, flat_text, flat_list, flat_texts, flat_truth}
@@ -16,7 +16,7 @@ use Rattle.elasticlunr_flat.specs.Flat.{flat_language, flat_tokens, flat_value, 
 use Rattle.elasticlunr_flat.specs.Flat.{flat_input, IsNumber, IsText, IsList, AreTexts, IsLanguage}
 use Rattle.elasticlunr_flat.specs.Flat.{AreTokens, IsValue, IsDocument, IsInput}
 use Rattle.elasticlunr_flat.specs.Flat.{flat_pair, flat_needed, flat_boost, flat_search, IsPair}
-use Rattle.elasticlunr_flat.specs.Flat.{IsByte, IsBoost, IsSearch}
+use Rattle.elasticlunr_flat.specs.Flat.{IsByte, IsBoost, IsSearch, flat_cutting, IsCutting}
 use Rattle.elasticlunr_flat.specs.Reading.{IsReadOneWay, IsAnyTruth, IsAnyNeeded}
 
 -- ---- beginnings of bytes
@@ -255,6 +255,28 @@ input_one_way x y a b fits_x fits_y same =
     let documents = documents_one_way x.documents y.documents a b fits_x.documents
     fits_y.documents fields.1 in
     (same_input x y language.0 reference.0 save.0 fields.0 documents.0, documents.1)
+
+-- ---- documents whose index is cut into pieces
+
+same_cutting : (x y : Cutting) → x.title ≡ y.title → x.size ≡ y.size → x.input ≡ y.input → x ≡ y
+same_cutting x y title size input = λ i. record {
+  title = title i;
+  size = size i;
+  input = input i;
+}
+
+pub cutting_one_way : IsReadOneWay IsCutting flat_cutting
+cutting_one_way x y a b fits_x fits_y same =
+    let after_title = λ (c : Cutting). flat_number c.size ++ flat_input c.input in
+    let title = text_one_way x.title y.title (after_title x ++ a) (after_title y ++ b) fits_x.title
+    fits_y.title
+    (regrouped (flat_text x.title) (after_title x) a (flat_text y.title) (after_title y) b same) in
+    let size = number_one_way x.size y.size (flat_input x.input ++ a) (flat_input y.input ++ b)
+    fits_x.size fits_y.size
+    (regrouped (flat_number x.size) (flat_input x.input) a (flat_number y.size) (flat_input y.input)
+    b title.1) in
+    let input = input_one_way x.input y.input a b fits_x.input fits_y.input size.1 in
+    (same_cutting x y title.0 size.0 input.0, input.1)
 
 -- ---- searches
 

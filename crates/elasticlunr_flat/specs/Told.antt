@@ -3,6 +3,7 @@ use Rattle.std.specs.Prelude.{List, map}
 use Rattle.std.specs.Borrow.{Bor}
 use Rattle.elasticlunr_error.specs.Text.{Bytes}
 use Rattle.elasticlunr_flat.specs.Flat as spec
+use Rattle.elasticlunr_flat.specs.declared.form.Cutting.{Cutting}
 use Rattle.elasticlunr_flat.specs.declared.form.Document.{Document}
 use Rattle.elasticlunr_flat.specs.declared.form.GivenTokens.{GivenTokens}
 use Rattle.elasticlunr_flat.specs.declared.form.GivenTokens.TheVariants.{FromText, IntoPipeline}
@@ -43,6 +44,13 @@ input_told input = record {
   save = input.save;
   fields = texts_told input.fields.items;
   documents = map document_told input.documents.items;
+}
+
+abbrev pub cutting_told : Cutting → spec.Cutting
+cutting_told cutting = record {
+  title = cutting.title.now;
+  size = cutting.size;
+  input = input_told cutting.input;
 }
 
 abbrev pub needed_told : Needed → spec.Needed

@@ -12,6 +12,16 @@ pub struct Input<'a> {
     pub documents: Vec<Document<'a>>,
 }
 
+/// Documents whose index is cut into pieces.
+#[derive(Drop)]
+pub struct Cutting<'a> {
+    /// The field of the titles.
+    pub title: &'a str,
+    /// How many bytes a piece may have.
+    pub size: u32,
+    pub input: Input<'a>,
+}
+
 /// A language: a built-in one by its name, or a custom one.
 #[derive(Drop)]
 pub enum LanguageName<'a> {

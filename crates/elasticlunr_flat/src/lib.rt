@@ -12,5 +12,5 @@ mod reader;
 mod search;
 
 pub use fault::FlatError;
-pub use form::{Document, GivenTokens, Input, LanguageName, Needed, Search, Value};
-pub use read::{read_input, read_search};
+pub use form::{Cutting, Document, GivenTokens, Input, LanguageName, Needed, Search, Value};
+pub use read::{read_cutting, read_input, read_search};

@@ -1,12 +1,13 @@
 //! What is indexed, and what is searched for, read of bytes.
 
 ghost use Rattle.std.specs.Prelude.{◌≡◌, ◌≢◌, IfOk, IfErr};
-ghost use Rattle.elasticlunr_flat.specs.Flat.{flat_input, flat_search, IsInput, IsSearch};
+ghost use Rattle.elasticlunr_flat.specs.Flat.{flat_cutting, flat_input, flat_search};
+ghost use Rattle.elasticlunr_flat.specs.Flat.{IsCutting, IsInput, IsSearch};
 ghost use Rattle.elasticlunr_flat.specs.Reading.{IsMemoryOr, IsOfNone};
-ghost use Rattle.elasticlunr_flat.specs.Told.{input_told, search_told};
+ghost use Rattle.elasticlunr_flat.specs.Told.{cutting_told, input_told, search_told};
 
 use crate::fault::FlatError;
-use crate::form::{Input, Search};
+use crate::form::{Cutting, Input, Search};
 use crate::items::Item;
 use crate::reader::Reader;
 use std::alloc::Global;
@@ -20,6 +21,16 @@ pub fn read_input<'a>(alloc: Global, bytes: &'a [u8]) -> Result<Input<'a>, FlatE
     ensures malformed { IfErr result (IsMemoryOr (IsOfNone IsInput flat_input bytes.now)) }
 {
     read_whole(alloc, bytes)
+}
+
+/// The documents that all of the bytes are, with how their index is cut into pieces.
+pub fn read_cutting<'a>(alloc: Global, bytes: &'a [u8]) -> Result<Cutting<'a>, FlatError>
+    ensures fits { IfOk result (λ cutting. IsCutting (cutting_told cutting)) }
+    ensures ok { IfOk result (λ cutting. bytes.now ≡ flat_cutting (cutting_told cutting)) }
+    ensures malformed { IfErr result (IsMemoryOr (IsOfNone IsCutting flat_cutting bytes.now)) }
+{
+    let (title, (size, input)) = read_whole(alloc, bytes)?;
+    Ok(Cutting { title, size, input })
 }
 
 /// The search that all of the bytes are.

@@ -20,7 +20,7 @@ use Rattle.elasticlunr_input.specs.Asked.{options_of, reference_key_of}
 use Rattle.elasticlunr_input.specs.Fields.{fields_of_first, text_keys}
 use Rattle.elasticlunr_input.specs.Lines.{IsLinesMadeWith}
 use Rattle.elasticlunr_input.specs.Refused.{FailLines, FailObjects, HasUnreadLine}
-use Rattle.elasticlunr_input.specs.Settled.{Settings}
+use Rattle.elasticlunr_input.specs.Settled.{Settings, with_stored}
 use Rattle.elasticlunr_input.proofs.LinesBy.{FailLinesOf}
 
 -- the values of a text begin with those that were read, and the next
@@ -74,7 +74,7 @@ module _ (settings : Settings) (text : Bytes) (options : objects.Options) (first
     ≡ take 1 (readings text)) (told : options ≡ options_of settings first) where
   pub first_options : (items : List Data) → AreLineValues text items → options ≡ options_of settings items
   first_options items are = told ∙ ap (λ fs. record (options_of settings first)
-      { fields = unwrap_or settings.fields fs })
+      { fields = with_stored settings.rules (reference_key_of settings) (unwrap_or settings.fields fs) })
       (first_alike (reference_key_of settings) first items (begins ∙ ap (take 1) (sym are)))
 
   pub made_with : (Is : OfIndex) → IsMadeOfLines options text Is → IsLinesMadeWith settings text Is
@@ -91,7 +91,8 @@ module _ (settings : Settings) (text : Bytes) (options : objects.Options) (first
         let key = reference_key_of settings in
         let one : map Some first ≡ take 1 (map Some (d ∷ before)) = begins ∙ ap (take 1) (sym lines) in
         let same : options ≡ options_of settings (d ∷ before) = told
-        ∙ ap (λ fs. record (options_of settings first) { fields = unwrap_or settings.fields fs })
+        ∙ ap (λ fs. record (options_of settings first)
+        { fields = with_stored settings.rules (reference_key_of settings) (unwrap_or settings.fields fs) })
         (first_alike key first (d ∷ before) one) in
         subst (λ (o : objects.Options). AreDocumentsOf o (d ∷ before) docs) same are
 

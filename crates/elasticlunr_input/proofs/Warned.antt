@@ -1,13 +1,13 @@
 -- On warnings that are added.
-use Rattle.std.proofs.Common.{◌≡◌, ◌∷◌, ◌++◌, ◌||◌, ℕ, suc, Bool, true, false, List, [], length, map, String, Global}
-use Rattle.std.proofs.Common.{string_bytes, bytes_eq, codes, decimal, if◌then◌else◌, refl, sym, ap, ◌∙◌, append_assoc}
+use Rattle.std.proofs.Common.{◌≡◌, ◌∷◌, ◌++◌, ℕ, suc, Bool, true, false, List, [], length, map, String, Global}
+use Rattle.std.proofs.Common.{string_bytes, if◌then◌else◌, refl, sym, ap, ◌∙◌, append_assoc}
 use Rattle.std.proofs.Common.{append-nil, Bor, ◌+◌, ◌<◌, take, get_or, subst, arith}
 use Rattle.std.proofs.lemmas.List.{length-map, get_or-map, length-take-le, take_more}
 use Rattle.std.proofs.lemmas.List.{map-append}
 use Rattle.elasticlunr_text.specs.Text.{Bytes, bytes_of}
 use Rattle.elasticlunr_job_format.specs.ObjectsTold.{texts_told}
-use Rattle.elasticlunr_input.specs.Warnings.{fields_warnings, property_text, property_warnings, textless_text}
-use Rattle.elasticlunr_input.specs.Warnings.{textless_warnings, wordless_text, is_property}
+use Rattle.elasticlunr_input.specs.Warnings.{fields_warnings, property_warnings}
+use Rattle.elasticlunr_input.specs.Warnings.{textless_warnings, wordless_text}
 
 -- a string more
 pub one_more : (warnings : List (String Global)) (said : String Global) (text : Bytes) → string_bytes said ≡ text

@@ -1,6 +1,12 @@
 -- What is said of documents and fields that are fine, but suspicious.
-use Rattle.std.specs.Prelude.{◌≡◌, ◌++◌, ◌∷◌, ◌==◌, ℕ, suc, Bool, false, List, [], map, codes}
-use Rattle.std.specs.Prelude.{decimal, slice_get, unwrap_or, if◌then◌else◌}
+use Rattle.std.specs.Prelude.{◌≡◌, ◌++◌, ◌∷◌, ◌==◌, ℕ, suc, Bool, true, false, List, [], map}
+use Rattle.std.specs.Prelude.{codes}
+use Rattle.std.specs.Prelude.{Option, Some, None, decimal, slice_get, unwrap_or, if◌then◌else◌}
+use Rattle.std.specs.BTreeMap.{get_by_text}
+use Rattle.std.specs.BTreeSet.{contains_text}
+use Rattle.std.specs.List.{list_any}
+use Rattle.std.specs.Option.{option_map_or}
+use Rattle.std.specs.Str.{bytes_eq}
 use Rattle.std.specs.List.Sorted.{IsPermutation}
 use Rattle.elasticlunr_text.specs.Text.{Bytes, bytes_of, is_listed}
 use Rattle.elasticlunr_trie.specs.Table.{Table}
@@ -55,6 +61,66 @@ abbrev pub end_warnings : Notes → List Bytes → List Bytes
 end_warnings notes fields = if notes.taken == 0
     then codes "the index is empty: there is no document" ∷ []
     else fields_warnings (has_text notes) fields
+
+-- the number of the last document of the reference that was seen
+abbrev pub last_number : Notes → Bytes → Option ℕ
+last_number notes reference = get_by_text notes.references reference
+
+-- the warning that the document of this number takes the place of an earlier one
+abbrev pub replacing_text : (number : ℕ) (reference : Bytes) (before : ℕ) → Bytes
+replacing_text number reference before = codes "document " ++ (decimal number ++ (codes " (\""
+    ++ (reference ++ (codes "\") replaces document " ++ (decimal before
+    ++ codes ", which has the same reference")))))
+
+-- that of a reference with a line feed
+abbrev pub line_feed_text : (number : ℕ) (reference : Bytes) → Bytes
+line_feed_text number reference = codes "document " ++ (decimal number ++ (codes " (\""
+    ++ (reference ++ codes
+    "\"): its reference has a line feed, so `search` prints it as several lines")))
+
+-- that of a reference with the name of a property
+abbrev pub property_document_text : (number : ℕ) (reference : Bytes) → Bytes
+property_document_text number reference = codes "document " ++ (decimal number ++ (codes " (\""
+    ++ (reference ++ (codes "\"): " ++ codes
+    "every JavaScript object has a property of this name, so elasticlunr.js fails on it"))))
+
+abbrev pub replacing_warnings : ℕ → Bytes → (before : Option ℕ) → List Bytes
+replacing_warnings number reference None = []
+replacing_warnings number reference (Some before) = replacing_text number reference before ∷ []
+
+abbrev pub line_feed_warnings : ℕ → Bytes → List Bytes
+line_feed_warnings number reference = if list_any (λ c. c == 10) reference
+    then line_feed_text number reference ∷ [] else []
+
+abbrev pub property_document_warnings : ℕ → Bytes → List Bytes
+property_document_warnings number reference = if is_property reference
+    then property_document_text number reference ∷ [] else []
+
+-- those of a document of this number and this reference, where the reference had the document of
+-- the number before, if there is one
+abbrev pub reference_warnings : ℕ → Bytes → (before : Option ℕ) → List Bytes
+reference_warnings number reference before = replacing_warnings number reference before
+    ++ line_feed_warnings number reference ++ property_document_warnings number reference
+
+-- the reference has this number, and each other one the number that it had
+abbrev pub NumbersReference : (old new : Notes) → Bytes → ℕ → Type 0
+NumbersReference old new reference number = (r : Bytes) → last_number new r
+    ≡ (if bytes_eq reference r then Some number else last_number old r)
+
+-- no warning is due for a text under this key: the fields were named, or the key is known
+abbrev pub is_known : Notes → Bytes → Bool
+is_known notes key = option_map_or (λ known. contains_text known key) notes.known true
+
+-- the warning that a document has a text under a key that is no field
+abbrev pub unindexed_text : (number : ℕ) (reference key : Bytes) → Bytes
+unindexed_text number reference key = codes "document " ++ (decimal number ++ (codes " (\""
+    ++ (reference ++ (codes "\"): the member \"" ++ (key ++ (codes "\" is not indexed: " ++ codes
+    "the first document has no string there, so it is not a field; `--fields` names fields"))))))
+
+abbrev pub unindexed_warnings : (is_known : Bool) (number : ℕ) (reference key : Bytes)
+    → List Bytes
+unindexed_warnings is_known number reference key = if is_known then []
+    else unindexed_text number reference key ∷ []
 
 -- the warning that a document has no token; it names the number and the reference
 abbrev pub wordless_text : ℕ × Bytes → Bytes

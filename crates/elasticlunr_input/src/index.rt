@@ -29,7 +29,7 @@ use crate::jobs::{job_made_of, job_refused, note_job};
 use crate::lines::{check_first, first_value, lines_made_of, read_head};
 use crate::mark::{read_start, without_mark};
 use crate::notes::Notes;
-use crate::settings::{Settings, text_or, texts_of};
+use crate::settings::{Settings, rules_of, text_or, texts_of, with_stored};
 use elasticlunr_diagnostics::form::{Form, asked_or_told, read_value};
 use elasticlunr_diagnostics::message::{InputError, wants};
 use elasticlunr_documents::lines::LastLine;
@@ -68,6 +68,7 @@ pub fn made_from<R: MarkedRead, M: Make>(
     let counted = Counted { alloc, maker };
     match made_of_input(alloc, reader, asked, settings, notes, &counted) {
         Ok((made, counts)) => {
+            notes.long_words()?;
             notes.count(&counts)?;
             Ok(made)
         }
@@ -281,10 +282,12 @@ fn options_of<'a>(
     let fields = fields_or_first(alloc, settings, items, reference_key)?;
     Ok(Options {
         reference_key,
-        fields,
+        reference_field: reference_key,
+        fields: with_stored(alloc, &settings.rules, reference_key, fields)?,
         language: text_or(&settings.language, "English"),
         save: !settings.drops_texts,
         pretty: settings.pretty,
+        rules: rules_of(alloc, &settings.rules)?,
     })
 }
 

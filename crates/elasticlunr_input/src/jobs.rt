@@ -12,11 +12,11 @@ ghost use Rattle.elasticlunr_input.specs.Settled.{IsMadeWith, IsRefusedWith, set
 ghost use Rattle.serde_json.specs.View.{view};
 
 use crate::notes::Notes;
-use crate::settings::{Settings, settle};
+use crate::settings::{Settings, rules_of, settle};
 use elasticlunr_diagnostics::job_fault::fault_message;
 use elasticlunr_diagnostics::language::unknown_language;
 use elasticlunr_diagnostics::message::{InputError, Message, counted, message_at, unplaced};
-use elasticlunr_job::answer::job_made;
+use elasticlunr_job::answer::job_made_by;
 use elasticlunr_job::fault::first_fault;
 use elasticlunr_job::job::{Document, Job, parse};
 use elasticlunr_job::make::Make;
@@ -38,7 +38,8 @@ pub(crate) fn job_made_of<'a, M: Make>(
         (IsRefusedWith (settings_told settings.now) (view value.now))) }
 {
     let job = settle(alloc, parse(alloc, value)?, settings)?;
-    job_made(alloc, &job, maker)
+    let rules = rules_of(alloc, &settings.rules)?;
+    job_made_by(alloc, &job, &rules, maker)
 }
 
 /// The message of a refusal of a job, with the settings instead of its members.
@@ -191,6 +192,7 @@ pub(crate) fn note_job(
         Err(JobError::Refused(_)) => return Ok(()),
     };
     let job = settle(alloc, job, settings)?;
+    notes.rules(&job.fields, settings)?;
     for doc in &job.docs {
         notes.document(doc.reference, &doc.values)?;
     }

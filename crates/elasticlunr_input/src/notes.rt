@@ -1,15 +1,24 @@
 //! What is suspicious in documents that are fine.
-ghost use Rattle.std.specs.Prelude.{◌≡◌, ◌++◌, map, OnOk};
-ghost use Rattle.elasticlunr_text.specs.Text.{bytes_of};
+ghost use Rattle.std.specs.Prelude.{◌≡◌, ◌+◌, ◌++◌, ◌||◌, filter, length, map, min, nat_lt};
+ghost use Rattle.std.specs.Prelude.{IfOk, OnOk};
+ghost use Rattle.std.specs.Str.{bytes_eq, chars};
+ghost use Rattle.elasticlunr_lang.specs.Words.{words};
+ghost use Rattle.elasticlunr_text.specs.Text.{Bytes, bytes_of};
 ghost use Rattle.elasticlunr_job_format.specs.ObjectsTold.{texts_told};
 ghost use Rattle.elasticlunr_input.specs.Counts.{token_count};
-ghost use Rattle.elasticlunr_input.specs.Warnings.{end_warnings, has_text, is_property};
+ghost use Rattle.elasticlunr_input.specs.Warnings.{end_warnings, has_text, is_known};
+ghost use Rattle.elasticlunr_input.specs.Warnings.{is_property, unindexed_warnings};
+ghost use Rattle.elasticlunr_input.specs.Warnings.{last_number, line_feed_warnings};
+ghost use Rattle.elasticlunr_input.specs.Warnings.{NumbersReference, property_document_warnings};
+ghost use Rattle.elasticlunr_input.specs.Warnings.{reference_warnings, replacing_warnings};
 ghost use Rattle.elasticlunr_input.specs.Warnings.{property_names, property_warnings};
 ghost use Rattle.elasticlunr_input.specs.Warnings.{textless_warnings, warnings_of, WarnOfWordless};
 
 use crate::counts::Counts;
 use crate::settings::Settings;
+use elasticlunr_diagnostics::message::counted;
 use elasticlunr_documents::objects::{Object, Options};
+use elasticlunr_lang::tokenize_whitespace;
 use std::alloc::{AllocError, Global};
 use std::collections::{BTreeMap, BTreeSet};
 
@@ -45,6 +54,23 @@ fn is_property(name: &str) -> bool
     property_names().contains(&name)
 }
 
+/// Whether a word has more characters than this.
+fn is_longer(word: &str, longest: usize) -> bool
+    ensures { result ≡ nat_lt longest (length (chars word.now)) }
+{
+    word.chars().count() > longest
+}
+
+/// How many words of a text have more characters than this.
+fn longer_words(alloc: Global, longest: usize, text: &str) -> Result<usize, AllocError>
+    ensures { IfOk result (λ count. count
+        ≡ length (filter (λ word. nat_lt longest (length word)) (words (chars text.now)))) }
+{
+    let mut words = tokenize_whitespace(alloc, text)?;
+    words.retain(|word| is_longer(word.as_str(), longest));
+    Ok(words.len())
+}
+
 /// What was seen of documents, and what is suspicious in them.
 #[derive(Drop)]
 pub struct Notes {
@@ -55,6 +81,12 @@ pub struct Notes {
     has_text: Vec<bool>,
     /// The keys that are not warned of, where the fields are those of the first object.
     known: Option<BTreeSet<String>>,
+    /// How many characters a word may have, where the settings say it.
+    longest: Option<usize>,
+    /// Whether a field is only stored, by its number, where words have a longest.
+    is_stored: Vec<bool>,
+    /// How many words are longer.
+    longer: usize,
     /// How many documents were taken.
     taken: usize,
     /// How many documents the index has.
@@ -74,6 +106,9 @@ impl Notes {
             references: BTreeMap::new(alloc),
             has_text: Vec::new(alloc),
             known: None,
+            longest: None,
+            is_stored: Vec::new(alloc),
+            longer: 0,
             taken: 0,
             documents: 0,
             tokens: 0,
@@ -94,6 +129,7 @@ impl Notes {
         options: &Options<'_>,
         settings: &Settings,
     ) -> Result<(), AllocError> {
+        self.rules(&options.fields, settings)?;
         if settings.fields.is_some() {
             return Ok(());
         }
@@ -106,10 +142,24 @@ impl Notes {
         Ok(())
     }
 
+    /// Takes which words are indexed of these fields, before the first document.
+    pub(crate) fn rules(&mut self, fields: &[&str], settings: &Settings) -> Result<(), AllocError> {
+        let Some(rules) = &settings.rules else {
+            return Ok(());
+        };
+        self.longest = rules.longest;
+        for field in fields {
+            let is_stored = rules.stored.iter().any(|name| name.as_str() == *field);
+            self.is_stored.push(is_stored)?;
+        }
+        Ok(())
+    }
+
     /// Takes the next document, as read of an object.
     pub(crate) fn object(&mut self, object: &Object<'_>) -> Result<(), AllocError> {
         let reference = object.reference.as_str();
-        self.document(reference, &object.values)?;
+        let values = object.values(self.alloc)?;
+        self.document(reference, &values)?;
         let Some(members) = object.value.as_object() else {
             return Ok(());
         };
@@ -122,7 +172,13 @@ impl Notes {
     }
 
     /// Takes the key of a text of the document that was taken last.
-    fn text_under(&mut self, reference: &str, key: &str) -> Result<(), AllocError> {
+    fn text_under(&mut self, reference: &str, key: &str) -> Result<(), AllocError>
+        ensures warnings { OnOk result (warnings_of self.new ≡ warnings_of self.old
+            ++ unindexed_warnings (is_known self.old key.now) self.old.taken reference.now key.now) }
+        ensures known { OnOk result ((k : Bytes)
+            → is_known self.new k ≡ (is_known self.old k || bytes_eq key.now k)) }
+        ensures taken { self.new.taken ≡ self.old.taken }
+    {
         let number = self.taken;
         let Some(known) = &mut self.known else {
             return Ok(());
@@ -141,45 +197,134 @@ impl Notes {
     }
 
     /// Takes the next document.
-    pub(crate) fn document(&mut self, reference: &str, values: &[&str]) -> Result<(), AllocError> {
+    pub(crate) fn document(&mut self, reference: &str, values: &[&str]) -> Result<(), AllocError>
+        ensures taken { self.new.taken ≡ min (self.old.taken + 1) usize.MAX }
+        ensures warnings { OnOk result (warnings_of self.new ≡ warnings_of self.old
+            ++ reference_warnings self.new.taken reference.now (last_number self.old reference.now)) }
+        ensures number { OnOk result
+            (NumbersReference self.old self.new reference.now self.new.taken) }
+    {
         self.taken = self.taken.saturating_add(1);
         self.reference(reference)?;
         self.values(values)
     }
 
-    /// Takes the reference of a document.
-    fn reference(&mut self, reference: &str) -> Result<(), AllocError> {
+    /// Takes the reference of the document of the last number.
+    fn reference(&mut self, reference: &str) -> Result<(), AllocError>
+        ensures warnings { OnOk result (warnings_of self.new ≡ warnings_of self.old
+            ++ reference_warnings self.old.taken reference.now (last_number self.old reference.now)) }
+        ensures number { OnOk result
+            (NumbersReference self.old self.new reference.now self.old.taken) }
+        ensures taken { self.new.taken ≡ self.old.taken }
+        ensures seen { self.new.has_text ≡ self.old.has_text }
+    {
+        self.replacing(reference)?;
+        self.line_feed(reference)?;
+        self.property(reference)
+    }
+
+    /// Takes whether the document takes the place of an earlier one.
+    fn replacing(&mut self, reference: &str) -> Result<(), AllocError>
+        ensures warnings { OnOk result (warnings_of self.new ≡ warnings_of self.old
+            ++ replacing_warnings self.old.taken reference.now (last_number self.old reference.now)) }
+        ensures number { OnOk result
+            (NumbersReference self.old self.new reference.now self.old.taken) }
+        ensures taken { self.new.taken ≡ self.old.taken }
+        ensures seen { self.new.has_text ≡ self.old.has_text }
+    {
         let number = self.taken;
         let key = String::from_str(self.alloc, reference)?;
-        if let Some(before) = self.references.insert(key, number)? {
-            let said = format!(in self.alloc;
-                "document {number} (\"{reference}\") replaces document {before}, which has the same reference"
-            )?;
-            self.warnings.push(said)?;
+        let Some(before) = self.references.insert(key, number)? else {
+            return Ok(());
+        };
+        let said = format!(in self.alloc;
+            "document {number} (\"{reference}\") replaces document {before}, which has the same reference"
+        )?;
+        self.warnings.push(said)?;
+        Ok(())
+    }
+
+    /// Takes whether the reference has a line feed.
+    fn line_feed(&mut self, reference: &str) -> Result<(), AllocError>
+        ensures warnings { OnOk result (warnings_of self.new
+            ≡ warnings_of self.old ++ line_feed_warnings self.old.taken reference.now) }
+        ensures references { self.new.references ≡ self.old.references }
+        ensures taken { self.new.taken ≡ self.old.taken }
+        ensures seen { self.new.has_text ≡ self.old.has_text }
+    {
+        if !reference.as_bytes().contains(&b'\n') {
+            return Ok(());
         }
-        if reference.contains('\n') {
-            let said = format!(in self.alloc;
-                "document {number} (\"{reference}\"): its reference has a line feed, so `search` prints it as several lines"
-            )?;
-            self.warnings.push(said)?;
+        let number = self.taken;
+        let said = format!(in self.alloc;
+            "document {number} (\"{reference}\"): its reference has a line feed, so `search` prints it as several lines"
+        )?;
+        self.warnings.push(said)?;
+        Ok(())
+    }
+
+    /// Takes whether the reference has the name of a property.
+    fn property(&mut self, reference: &str) -> Result<(), AllocError>
+        ensures warnings { OnOk result (warnings_of self.new
+            ≡ warnings_of self.old ++ property_document_warnings self.old.taken reference.now) }
+        ensures references { self.new.references ≡ self.old.references }
+        ensures taken { self.new.taken ≡ self.old.taken }
+        ensures seen { self.new.has_text ≡ self.old.has_text }
+    {
+        if !is_property(reference) {
+            return Ok(());
         }
-        if is_property(reference) {
-            let why = OF_EVERY_OBJECT;
-            let said = format!(in self.alloc; "document {number} (\"{reference}\"): {why}")?;
-            self.warnings.push(said)?;
-        }
+        let (number, why) = (self.taken, OF_EVERY_OBJECT);
+        let said = format!(in self.alloc; "document {number} (\"{reference}\"): {why}")?;
+        self.warnings.push(said)?;
         Ok(())
     }
 
     /// Takes the values of a document.
-    fn values(&mut self, values: &[&str]) -> Result<(), AllocError> {
+    fn values(&mut self, values: &[&str]) -> Result<(), AllocError>
+        ensures warnings { self.new.warnings ≡ self.old.warnings }
+        ensures references { self.new.references ≡ self.old.references }
+        ensures taken { self.new.taken ≡ self.old.taken }
+    {
         for (field, value) in values.iter().enumerate() {
             let is_filled = !value.is_empty();
             match self.has_text.get_mut(field) {
                 Some(seen) => *seen = *seen || is_filled,
                 None => self.has_text.push(is_filled)?,
             }
+            self.value(field, value)?;
         }
+        Ok(())
+    }
+
+    /// Takes how many words of a value are too long, where the field of this number is indexed.
+    fn value(&mut self, field: usize, value: &str) -> Result<(), AllocError>
+        ensures warnings { self.new.warnings ≡ self.old.warnings }
+        ensures references { self.new.references ≡ self.old.references }
+        ensures taken { self.new.taken ≡ self.old.taken }
+        ensures seen { self.new.has_text ≡ self.old.has_text }
+    {
+        let Some(longest) = self.longest else {
+            return Ok(());
+        };
+        if self.is_stored.get(field) != Some(&true) {
+            let longer = longer_words(self.alloc, longest, value)?;
+            self.longer = self.longer.saturating_add(longer);
+        }
+        Ok(())
+    }
+
+    /// Takes the end of all words.
+    pub(crate) fn long_words(&mut self) -> Result<(), AllocError> {
+        let (Some(longest), true) = (self.longest, self.longer > 0) else {
+            return Ok(());
+        };
+        let words = counted(self.alloc, self.longer, "word")?;
+        let most = counted(self.alloc, longest, "character")?;
+        let said = format!(in self.alloc;
+            "{words} of more than {most}: no search finds such a word"
+        )?;
+        self.warnings.push(said)?;
         Ok(())
     }
 

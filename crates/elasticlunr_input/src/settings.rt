@@ -1,11 +1,24 @@
 //! Settings of an index that do not come from its input.
-ghost use Rattle.std.specs.Prelude.{◌≡◌, map, option_map, string_bytes, unwrap_or, IfOk};
+ghost use Rattle.std.specs.Prelude.{◌≡◌, ◌∷◌, map, not, option_map, string_bytes, unwrap_or, IfOk};
+ghost use Rattle.elasticlunr.specs.Fields.{borrowed, has_name};
 ghost use Rattle.elasticlunr_text.specs.Text.{bytes_of};
 ghost use Rattle.elasticlunr_job_format.specs.JobTold.{job_told};
-ghost use Rattle.elasticlunr_input.specs.Settled.{settled, settings_told};
+ghost use Rattle.elasticlunr_job_format.specs.Rules.{given_rules};
+ghost use Rattle.elasticlunr_input.specs.Settled.{own_rules, settled, settings_told, with_stored};
 
 use elasticlunr_job::job::Job;
+use elasticlunr_job::kept::has_name;
+use elasticlunr_job::rules::WordRules;
 use std::alloc::{AllocError, Global};
+
+/// Which words are indexed, as the settings hold it.
+#[derive(Drop)]
+pub struct Rules {
+    /// The members that are stored, and of which no word is indexed.
+    pub stored: Vec<String>,
+    /// How many characters a word may have; a longer one is left out.
+    pub longest: Option<usize>,
+}
 
 /// The settings of an index that do not come from its input: each replaces the input's.
 #[derive(Drop)]
@@ -20,6 +33,8 @@ pub struct Settings {
     pub drops_texts: bool,
     /// Whether it is printed with a line for each member.
     pub pretty: bool,
+    /// Which words are indexed: all, where there are no rules.
+    pub rules: Option<Rules>,
 }
 
 /// The texts of strings.
@@ -59,6 +74,49 @@ pub(crate) fn text_or<'a>(given: &'a Option<String>, own: &'a str) -> &'a str
     }
 }
 
+/// The rules of the settings, as a reader of documents takes them.
+pub(crate) fn rules_of<'a>(
+    alloc: Global,
+    rules: &'a Option<Rules>,
+) -> Result<Option<WordRules<'a>>, AllocError>
+    ensures { IfOk result (λ told. given_rules told ≡ own_rules rules.now) }
+{
+    match rules {
+        Some(rules) => Ok(Some(WordRules {
+            stored: texts_of(alloc, &rules.stored)?,
+            longest: rules.longest,
+        })),
+        None => Ok(None),
+    }
+}
+
+/// Whether a name is neither that of the reference field nor that of one of these.
+fn is_new(name: &str, reference_field: &str, fields: &[&str]) -> bool
+    ensures { result ≡ not (has_name name.now (reference_field.now ∷ borrowed fields.now)) }
+{
+    reference_field != name && !has_name(name, fields)
+}
+
+/// The fields, and after them those that are only stored and not among them.
+pub(crate) fn with_stored<'a>(
+    alloc: Global,
+    rules: &'a Option<Rules>,
+    reference_field: &str,
+    fields: Vec<&'a str>,
+) -> Result<Vec<&'a str>, AllocError>
+    ensures { IfOk result (λ all. borrowed all.items
+        ≡ with_stored (own_rules rules.now) reference_field.now (borrowed fields.entry.items)) }
+{
+    let Some(rules) = rules else {
+        return Ok(fields);
+    };
+    let mut more = texts_of(alloc, &rules.stored)?;
+    more.retain(|name| is_new(*name, reference_field, &fields));
+    let mut all = fields;
+    all.extend_from_slice(&more)?;
+    Ok(all)
+}
+
 /// The job with the settings instead of what it says itself.
 pub(crate) fn settle<'a>(
     alloc: Global,
@@ -68,10 +126,12 @@ pub(crate) fn settle<'a>(
     ensures { IfOk result (λ settled_job.
         job_told settled_job ≡ settled (settings_told settings.now) (job_told job.entry)) }
 {
+    let reference_field = text_or(&settings.reference, job.reference_field);
+    let fields = texts_or(alloc, &settings.fields, job.fields)?;
     Ok(Job {
-        fields: texts_or(alloc, &settings.fields, job.fields)?,
+        fields: with_stored(alloc, &settings.rules, reference_field, fields)?,
         docs: job.docs,
-        reference_field: text_or(&settings.reference, job.reference_field),
+        reference_field,
         save: job.save && !settings.drops_texts,
         language: text_or(&settings.language, job.language),
         pretty: job.pretty || settings.pretty,

@@ -1,6 +1,6 @@
 -- Indexes of the same settings.
 use Rattle.std.proofs.Common.{◌≡◌, ◌⊎◌, ◌<◌, ◌≤◌, List, Bool, true, false, Option, None, Some, Result, Ok, Err, IsNone}
-use Rattle.std.proofs.Common.{IsSomeAnd, ◌↔◌, Bor, true≢false, inl, inr, sym, ap, subst, ◌∙◌, length, arith}
+use Rattle.std.proofs.Common.{IsSomeAnd, ◌↔◌, true≢false, inl, inr, sym, ap, subst, ◌∙◌, length, arith}
 use Rattle.std.proofs.lemmas.Bool.{cases_lt}
 use Rattle.std.proofs.lemmas.List.{length-map}
 use Rattle.elasticlunr_text.specs.Stages.{names_of, IsRun}
@@ -11,7 +11,13 @@ use Rattle.elasticlunr.specs.History.{Commands, Document, ◌▸◌, compact}
 use Rattle.elasticlunr.specs.Index.{choices_of, fields_of, plan_of, IsDocument, IsFailed, StandsFor}
 use Rattle.elasticlunr.specs.Tokenizers.{MayAnswer}
 use Rattle.elasticlunr.specs.declared.index.Index.{Index}
+use Rattle.elasticlunr.specs.GivenTokens.{MayHaveAt, value_texts}
+use Rattle.elasticlunr.specs.declared.values.FieldValue.{FieldValue}
+use Rattle.elasticlunr_text.specs.Stages.{IsRunBy}
 use Rattle.elasticlunr_job.specs.Answer.{HasTooMany}
+use Rattle.elasticlunr_job.specs.Filled.{IsMadeUnder}
+use Rattle.elasticlunr_job.specs.Given.{AreGiven}
+use Rattle.elasticlunr_job_format.specs.Rules.{WordRules}
 use Rattle.elasticlunr.specs.Calls.{followed_by}
 use Rattle.elasticlunr_job.specs.Commands.{compacted}
 use Rattle.elasticlunr_job.proofs.Taken.{Follows}
@@ -31,6 +37,11 @@ pub still_works : {T E : Type 0} (r : Result T E) (ok : T) (failed memory : E) (
 still_works r ok failed memory F is f failing = elim (f.0 failing)
     [ inl a ↦ (let e : r ≡ Err failed = a in cc) | inr b ↦ (let e : r ≡ Err memory = b in cc) ]
 
+-- as many values are given as there are texts
+pub as_long : (texts : List Bytes) (lists : List (List Text)) (given : List FieldValue) → AreGiven texts lists given
+    → length texts ≡ length given
+as_long texts lists given are = sym (ap length are.texts_are) ∙ length-map given _
+
 some_not_none : {A : Type 0} (o : Option A) (Q : A → Type 0) → IsSomeAnd o Q → IsNone o → ⊥
 some_not_none None Q some none = absurd some
 some_not_none (Some x) Q some none = true≢false none
@@ -46,6 +57,20 @@ module _ {L P X Y : Type 0} {O : X → Type 0} {F : Y → Type 0} {p : _} {g : _
       subst (λ c. documents.IsDocument c.fields c.reference_field
       (Reads tokens_of MayAnswer (IsRun (λ step. leaves (step.vtable, step.value))) c) reference values document)
       same made
+
+  -- they make the same documents of values that are given with words
+  pub given_alike : (rules : Option WordRules) (fields : List Bytes) (tokens_of : L → Text → List Text)
+      (leaves : (v : X) × O v → Text → Option Text) (old new : Index L P X Y O F p g) → choices_of new ≡ choices_of old
+      → (reference : Bytes) (values : List Bytes) (document : Document)
+      → IsMadeUnder rules fields tokens_of leaves new reference values document
+      → IsMadeUnder rules fields tokens_of leaves old reference values document
+  given_alike rules fields tokens_of leaves old new same reference values document made = (
+    made.0,
+    made.1,
+    subst (λ c. documents.IsDocument c.fields c.reference_field
+        (MayHaveAt (Reads tokens_of MayAnswer (IsRunBy leaves) c) (IsRunBy leaves c.pipeline) made.0) reference
+        (value_texts made.0) document) same made.2,
+  )
 
   -- they are printed alike
   pub plan_alike : (name_of : L → Bytes) (name_text : (v : X) × O v → Bytes) (old new : Index L P X Y O F p g)
@@ -89,25 +114,23 @@ module _ {L P X Y : Type 0} {O : X → Type 0} {F : Y → Type 0} {p : _} {g : _
   }
 
   -- the values of a document are not too many
-  pub fits_told : (old new : Index L P X Y O F p g) (doc : held.Document) (values : List (Bor Bytes)) → choices_of new
-      ≡ choices_of old → values ≡ doc.values.items → ¬ (length (fields_of new) < length values)
-      → length (document_told doc).values ≤ length (fields_of old)
-  fits_told old new doc values same are fits =
-      let values_long : length (document_told doc).values ≡ length values = length-map doc.values.items (λ s. s.now)
-      ∙ sym (ap length are) in
+  pub fits_told : (old new : Index L P X Y O F p g) (doc : held.Document) (lists : List (List Text))
+      (given : List FieldValue) → choices_of new ≡ choices_of old → AreGiven (document_told doc).values lists given
+      → ¬ (length (fields_of new) < length given) → length (document_told doc).values ≤ length (fields_of old)
+  fits_told old new doc lists given same are fits =
+      let long = as_long (document_told doc).values lists given are in
       let fields_long : length (fields_of new) ≡ length (fields_of old) = ap (λ c. length c.fields) same in
-      elim (cases_lt (length (fields_of new)) (length values)) [
+      elim (cases_lt (length (fields_of new)) (length given)) [
         | inl over ↦ absurd (fits over)
         | inr within ↦
             omega arith
       ]
 
   -- they are too many
-  pub too_many_told : (old new : Index L P X Y O F p g) (doc : held.Document) (values : List (Bor Bytes))
-      → choices_of new ≡ choices_of old → values ≡ doc.values.items → length (fields_of new) < length values
-      → HasTooMany (fields_of old) (document_told doc)
-  too_many_told old new doc values same are many =
-      let values_long : length (document_told doc).values ≡ length values = length-map doc.values.items (λ s. s.now)
-      ∙ sym (ap length are) in
+  pub too_many_told : (old new : Index L P X Y O F p g) (doc : held.Document) (lists : List (List Text))
+      (given : List FieldValue) → choices_of new ≡ choices_of old → AreGiven (document_told doc).values lists given
+      → length (fields_of new) < length given → HasTooMany (fields_of old) (document_told doc)
+  too_many_told old new doc lists given same are many =
+      let long = as_long (document_told doc).values lists given are in
       let fields_long : length (fields_of new) ≡ length (fields_of old) = ap (λ c. length c.fields) same in
       omega arith

@@ -8,12 +8,17 @@ use Rattle.elasticlunr.specs.Choices.{Choices, beginning, with_fields, language_
 use Rattle.elasticlunr.specs.Documents as documents
 use Rattle.elasticlunr.specs.History.{Commands, Document, none}
 use Rattle.elasticlunr.specs.Standing.{Plan}
-use Rattle.elasticlunr.specs.Reading.{LanguageReads, ReadsOnly}
-use Rattle.elasticlunr_job.specs.Commands.{language_tokens}
+use Rattle.elasticlunr.specs.GivenTokens.{MayHaveAt, value_texts}
+use Rattle.elasticlunr.specs.Reading.{LanguageLeaves, LanguageReads, ReadsOnly}
+use Rattle.elasticlunr.specs.Words.{words}
+use Rattle.elasticlunr.specs.declared.values.FieldValue.{FieldValue}
 use Rattle.elasticlunr_job.specs.Filled.{IsBuiltFor}
+use Rattle.elasticlunr_job.specs.Given.{AreGiven, kept_lists}
+use Rattle.elasticlunr_job.proofs.Under.{added_under}
 use Rattle.elasticlunr_job_format.specs.JobTold.{job_told}
 use Rattle.elasticlunr_job_format.specs.declared.job.Job as held
 use Rattle.elasticlunr_job_format.specs.Job.{Job}
+use Rattle.elasticlunr_job_format.specs.Rules.{WordRules}
 
 nothing_there : {T : Type 0} (names : List Bytes) (i : ℕ) (tokenizer : T)
     → slice_get (map {A = Bytes} {B = Option T} (λ _. None) names) i ≢ Some (Some tokenizer)
@@ -66,40 +71,45 @@ module _ {L P T : Type 0} where
   uses_language job language = record { no_pipeline = refl; no_tokenizer = nothing_there job.fields }
 
 module _ {P T : Type 0} where
-  -- what `build` makes of what was given
-  pub built_for : (job : Job) (language : AnyLanguage) (given : Choices AnyLanguage (Option P) T)
-      (built : Choices AnyLanguage P T) (plan : Plan) (reads : ℕ → Bytes → List Text → Type 0) (stands : Commands
-      → Type 0) → given ≡ with_fields job.fields (begun job language)
+  -- what `build` makes of what was given; values are given with the words that rules keep
+  pub built_for : (rules : Option WordRules) (job : Job) (language : AnyLanguage)
+      (given : Choices AnyLanguage (Option P) T) (built : Choices AnyLanguage P T) (plan : Plan)
+      (reads : ℕ → Bytes → List Text → Type 0) (Leaves : AnyLanguage → Type 0)
+      (made : Bytes → List FieldValue → Document → Type 0) (stands : Commands → Type 0)
+      → ((lang : AnyLanguage) (reference : Bytes) (values : List FieldValue) (document : Document)
+      → ReadsOnly reads (LanguageReads words (language_leaves lang)) → Leaves lang → made reference values document
+      → documents.IsDocument built.fields built.reference_field
+      (MayHaveAt (LanguageReads words (language_leaves lang)) (LanguageLeaves (language_leaves lang)) values) reference
+      (value_texts values) document)
+      → given ≡ with_fields job.fields (begun job language)
       → stands none → IsBuiltBy given built → IfNone given.pipeline
       (plan ≡ language_plan language_name language_stages given)
-      → (UsesLanguage given → ReadsOnly reads
-      (LanguageReads (language_tokens given.language) (language_leaves given.language)))
-      → (ReadsOnly reads (LanguageReads (language_tokens language) (language_leaves language))
-      → (reference : Bytes) (values : List Bytes) (document : Document)
-      → documents.IsDocument built.fields built.reference_field reads reference values document
-      → documents.IsDocument built.fields built.reference_field
-      (LanguageReads (language_tokens language) (language_leaves language)) reference values document)
-      → IsBuiltFor job language plan (documents.IsDocument built.fields built.reference_field reads) stands
-  built_for job language given built plan reads stands same empty has its_plan uses makes =
+      → IfNone given.pipeline (Leaves given.language)
+      → (UsesLanguage given → ReadsOnly reads (LanguageReads words (language_leaves given.language)))
+      → IsBuiltFor rules job language plan
+      (λ reference values document. (handed : List FieldValue)
+      × AreGiven values (kept_lists rules job.fields values) handed × made reference handed document) stands
+  built_for rules job language given built plan reads Leaves made stands makes same empty has its_plan leaves uses =
       let fields : built.fields ≡ job.fields = has.fields ∙ ap (λ (c : Choices AnyLanguage (Option P) T). c.fields) same
       in
       let reference_field : built.reference_field ≡ job.reference_field = has.reference_field
       ∙ ap (λ (c : Choices AnyLanguage (Option P) T). c.reference_field) same in
-      let only : ReadsOnly reads (LanguageReads (language_tokens language) (language_leaves language)) =
+      let only : ReadsOnly reads (LanguageReads words (language_leaves language)) =
       subst (λ (c : Choices AnyLanguage (Option P) T). UsesLanguage c
-      → ReadsOnly reads (LanguageReads (language_tokens c.language) (language_leaves c.language))) same uses
-      (uses_language job language) in
+      → ReadsOnly reads (LanguageReads words (language_leaves c.language))) same uses (uses_language job language) in
+      let left : Leaves language =
+      subst (λ (c : Choices AnyLanguage (Option P) T). IfNone c.pipeline (Leaves c.language)) same leaves in
       record {
         its_plan = subst (λ (c : Choices AnyLanguage (Option P) T). IfNone c.pipeline
             (plan ≡ language_plan language_name language_stages c)) same its_plan;
-        adds = λ doc document made.
-            subst (λ names. documents.IsDocument names job.reference_field
-            (LanguageReads (language_tokens language) (language_leaves language)) doc.reference doc.values
-            document) fields
+        adds = λ doc document is. added_under language rules job doc is.0 document is.1
+            (subst (λ names. documents.IsDocument names job.reference_field
+            (MayHaveAt (LanguageReads words (language_leaves language)) (LanguageLeaves (language_leaves language)) is.0)
+            doc.reference (value_texts is.0) document) fields
             (subst (λ name. documents.IsDocument built.fields name
-            (LanguageReads (language_tokens language) (language_leaves language)) doc.reference doc.values
-            document) reference_field
-            (makes only doc.reference doc.values document made));
+            (MayHaveAt (LanguageReads words (language_leaves language)) (LanguageLeaves (language_leaves language)) is.0)
+            doc.reference (value_texts is.0) document) reference_field
+            (makes language doc.reference is.0 document only left is.2)));
         empty = empty;
       }
 

@@ -1,13 +1,16 @@
 -- One command more, or several, of what an index represents.
-use Rattle.std.proofs.Common.{◌≡◌, ◌<◌, ◌≤◌, ◌+◌, ℕ, List, [], ◌∷◌, ◌++◌, length, map, take, get_or, All, Any, Bor}
+use Rattle.std.proofs.Common.{◌≡◌, ◌<◌, ◌≤◌, ◌+◌, ℕ, List, [], ◌∷◌, ◌++◌, length, map, take, get_or, All, Any, Bor, Option}
 use Rattle.std.proofs.Common.{refl, sym, ap, subst, ◌∙◌}
 use Rattle.std.proofs.lemmas.List.{take_more, map-append, get_or-map, take_all, length-map}
 use Rattle.std.proofs.lemmas.List.Elements.{All-push}
 use Rattle.std.specs.List.{AllZip}
-use Rattle.elasticlunr_text.specs.Text.{Bytes}
+use Rattle.elasticlunr_text.specs.Text.{Bytes, Text}
+use Rattle.elasticlunr.specs.declared.values.FieldValue.{FieldValue}
 use Rattle.elasticlunr.specs.History.{Command, Commands, Document, add, remove, ◌▸◌}
 use Rattle.elasticlunr.specs.Calls.{followed_by}
 use Rattle.elasticlunr_job.specs.Commands.{compacted}
+use Rattle.elasticlunr_job.specs.Given.{AreGiven, kept_lists}
+use Rattle.elasticlunr_job_format.specs.Rules.{WordRules}
 use Rattle.elasticlunr_job_format.specs.JobTold.{document_told, job_told}
 use Rattle.elasticlunr_job_format.specs.declared.job.Document as held
 use Rattle.elasticlunr_job_format.specs.declared.job.Job as held_job
@@ -79,6 +82,13 @@ next_removed old mid new references i d lt so_far then =
     ∙ map-append remove (map (λ s. s.now) (take i references)) (reference.now ∷ [])) in
     subst (Follows old new) (sym more) (Follows-append old mid new before (remove reference.now ∷ []) so_far
     (record { stands = then }))
+
+-- values as an index is given them, where they come with the words that rules keep
+pub are_given : (rules : Option WordRules) (fields texts : List Bytes) (lists : List (List Text))
+    (given handed : List FieldValue) → lists ≡ kept_lists rules fields texts → handed ≡ given
+    → AreGiven texts lists given → AreGiven texts (kept_lists rules fields texts) handed
+are_given rules fields texts lists given handed kept same are =
+    subst (λ ls. AreGiven texts ls handed) kept (subst (AreGiven texts lists) (sym same) are)
 
 -- one document more is taken
 pub next_taken : (made : Makes) (old mid new : Standing) (docs : List held.Document) (i : ℕ) (doc : held.Document)

@@ -2,6 +2,8 @@ pub mod Stops
 pub mod Taken
 pub mod Alike
 pub mod Filling
+pub mod KeptWords
+pub mod Under
 pub mod Printing
 pub mod Building
 pub mod OneJob

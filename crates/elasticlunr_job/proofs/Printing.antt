@@ -1,5 +1,5 @@
 -- What is printed of an index.
-use Rattle.std.proofs.Common.{◌≡◌, Bool, List, [], ◌∷◌, Result, Ok, Err, String, string_bytes, inl, refl, ap, subst}
+use Rattle.std.proofs.Common.{◌≡◌, Bool, Option, List, [], ◌∷◌, Result, Ok, Err, String, string_bytes, inl, refl, subst}
 use Rattle.std.proofs.Common.{◌∙◌}
 use Rattle.std.specs.List.{AllZip}
 use Rattle.std.specs.Result.{IfOk}
@@ -10,12 +10,13 @@ use Rattle.elasticlunr_lang.specs.declared.any.AnyLanguage.{AnyLanguage}
 use Rattle.elasticlunr.specs.History.{Agree, Commands, Document, none}
 use Rattle.elasticlunr.specs.Printed.{IsValue, IsTextAfter}
 use Rattle.elasticlunr.specs.Standing.{Plan}
-use Rattle.elasticlunr_job.specs.Answer.{IsMadeIn, OfIndex, printed_text}
+use Rattle.elasticlunr_job.specs.Answer.{IsMadeInBy, OfIndex, printed_text}
 use Rattle.elasticlunr.specs.Calls.{followed_by}
-use Rattle.elasticlunr_job.specs.Commands.{IsAdded, in_order}
+use Rattle.elasticlunr_job.specs.Commands.{IsAddedBy, in_order}
 use Rattle.elasticlunr_job.specs.Filled.{IsBuiltFor}
 use Rattle.elasticlunr_job.proofs.Taken.{HasDone}
 use Rattle.elasticlunr_job_format.specs.Job.{Job}
+use Rattle.elasticlunr_job_format.specs.Rules.{WordRules}
 
 -- its text, of the commands that it represents
 pub told_print : {E : Type 0} (r : Result (String Global) E) (Stands : Commands → Type 0) (plan : Plan) (pretty : Bool)
@@ -36,11 +37,11 @@ zip_more P Q (x ∷ xs) [] f h = absurd h
 zip_more P Q (x ∷ xs) (y ∷ ys) f h = (f x y h.0, zip_more P Q xs ys f h.1)
 
 -- what holds of an index that was built for the job, and to which all was done
-pub carried : (job : Job) (language : AnyLanguage) (made : Bytes → List Bytes → Document → Type 0)
+pub carried : (rules : Option WordRules) (job : Job) (language : AnyLanguage) (made : Bytes → List Bytes → Document → Type 0)
     (old new : Commands → Type 0) (before after : Plan) (Is : OfIndex) → after ≡ before
-    → IsBuiltFor job language before made old → HasDone made old new job
-    → ((commands : Commands) → new commands → Is job.pretty after commands) → IsMadeIn job language Is
-carried job language made old new before after Is same built done holds =
+    → IsBuiltFor rules job language before made old → HasDone made old new job
+    → ((commands : Commands) → new commands → Is job.pretty after commands) → IsMadeInBy rules job language Is
+carried rules job language made old new before after Is same built done holds =
     let documents = done.documents in
     let commands = followed_by none (in_order job documents) in
     record {
@@ -48,7 +49,7 @@ carried job language made old new before after Is same built done holds =
       are_commands = record {
         documents = documents;
         each =
-            zip_more (λ doc document. made doc.reference doc.values document) (IsAdded job language) job.docs documents
+            zip_more (λ doc document. made doc.reference doc.values document) (IsAddedBy rules job language) job.docs documents
             built.adds done.each;
         whole = refl;
       };

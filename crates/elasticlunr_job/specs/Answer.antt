@@ -1,6 +1,6 @@
 -- The answer to an input: the outcome, and what is written.
 use Rattle.std.specs.Prelude.{◌≡◌, ◌<◌, ◌≤◌, List, [], ◌∷◌, ◌++◌, Bool, length, All, Any, codes}
-use Rattle.std.specs.Prelude.{Some, None, true, false, if◌then◌else◌}
+use Rattle.std.specs.Prelude.{Option, Some, None, true, false, if◌then◌else◌}
 use Rattle.serde_json.specs.Data.{Data}
 use Rattle.serde_json.specs.Written.{compact_text}
 use Rattle.elasticlunr_text.specs.Text.{Bytes}
@@ -13,9 +13,10 @@ use Rattle.elasticlunr.specs.Kept.{KeptReads}
 use Rattle.elasticlunr.specs.Printed.{IsPrintOf, IsValue, pretty_text}
 use Rattle.elasticlunr.specs.Standing.{Plan}
 use Rattle.elasticlunr_job.specs.Calls.{job_calls}
-use Rattle.elasticlunr_job.specs.Commands.{AreCommandsOf, job_plan}
+use Rattle.elasticlunr_job.specs.Commands.{AreCommandsBy, job_plan}
 use Rattle.elasticlunr_job_format.specs.Job.{Document, Job, IsJob, IsNoJob}
 use Rattle.elasticlunr_job_format.specs.Reading.{reading}
+use Rattle.elasticlunr_job_format.specs.Rules.{WordRules}
 use Rattle.elasticlunr_job.specs.declared.outcome.Outcome.{Outcome}
 use Rattle.elasticlunr_job.specs.declared.outcome.Outcome.TheVariants.{Printed, Refused}
 use Rattle.elasticlunr_job_format.specs.declared.outcome.Refusal.{Refusal}
@@ -85,15 +86,24 @@ abbrev pub IsReadableLine : Bytes → OfIndex
 IsReadableLine text pretty plan commands = IsPrintedLine text pretty plan commands
     × IsPrintOf plan commands text
 
--- of the index that the job asks for, in this language, this holds
-pub record IsMadeIn (job : Job) (language : AnyLanguage) (Is : OfIndex) : Type 0 where
+-- of the index that the job asks for under these rules, in this language, this holds
+pub record IsMadeInBy (rules : Option WordRules) (job : Job) (language : AnyLanguage) (Is : OfIndex)
+    : Type 0 where
   pub commands : Commands
-  pub are_commands : AreCommandsOf job language commands
+  pub are_commands : AreCommandsBy rules job language commands
   pub is : Is job.pretty (job_plan job language) commands
 
--- the job passes all checks, and this holds of its index in its language
+-- the job passes all checks, and this holds of its index under these rules, in its language
+abbrev pub IsMadeBy : Option WordRules → Job → OfIndex → Type 0
+IsMadeBy rules job Is = (language : AnyLanguage) × Passes job language
+    × IsMadeInBy rules job language Is
+
+-- the same without rules
+abbrev pub IsMadeIn : Job → AnyLanguage → OfIndex → Type 0
+IsMadeIn = IsMadeInBy None
+
 abbrev pub IsMadeOf : Job → OfIndex → Type 0
-IsMadeOf job Is = (language : AnyLanguage) × Passes job language × IsMadeIn job language Is
+IsMadeOf = IsMadeBy None
 
 -- the job passes all checks, and this is the text of its index in its language, and a line feed
 abbrev pub IsLineOf : Job → Bytes → Type 0

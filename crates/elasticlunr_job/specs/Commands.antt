@@ -1,17 +1,23 @@
--- The index that a job asks for: how it is built, and what is done to it.
-use Rattle.std.specs.Prelude.{◌≡◌, List, [], ◌∷◌, ◌++◌, Bool, map, if◌then◌else◌}
+-- The index that a job asks for: how it is built, and what is done to it. Rules may choose which
+-- words of the documents are indexed; a job itself has none.
+use Rattle.std.specs.Prelude.{◌≡◌, ℕ, List, [], ◌∷◌, ◌++◌, Bool, true, map, filter, nat_le, length}
+use Rattle.std.specs.Prelude.{Option, None, Some, slice_get, if◌then◌else◌}
 use Rattle.std.specs.List.{AllZip}
-use Rattle.elasticlunr_text.specs.Text.{Text}
+use Rattle.std.specs.Option.{option_map_or}
+use Rattle.std.specs.Str.{chars}
+use Rattle.elasticlunr_text.specs.Text.{Text, Bytes}
 use Rattle.elasticlunr_lang.specs.declared.any.AnyLanguage.{AnyLanguage}
 use Rattle.elasticlunr_lang.specs.Known.{language_name, language_stages, language_leaves}
 use Rattle.elasticlunr_lang.specs.Words.{words}
 use Rattle.elasticlunr.specs.Calls.{followed_by}
 use Rattle.elasticlunr.specs.Documents.{IsDocument}
+use Rattle.elasticlunr.specs.Fields.{has_name}
 use Rattle.elasticlunr.specs.History.{Document, Command, add, remove, compact, Commands, none}
-use Rattle.elasticlunr.specs.Reading.{LanguageReads}
+use Rattle.elasticlunr.specs.Reading.{LanguageLeaves, LanguageReads}
 use Rattle.elasticlunr.specs.Standing.{Plan}
 use Rattle.elasticlunr_job_format.specs.Job as asked
 use Rattle.elasticlunr_job_format.specs.Job.{Job}
+use Rattle.elasticlunr_job_format.specs.Rules.{WordRules}
 
 -- how the index of the job is built
 abbrev pub job_plan : Job → AnyLanguage → Plan
@@ -27,12 +33,33 @@ job_plan job language = record {
 abbrev pub language_tokens : AnyLanguage → Text → List Text
 language_tokens language = words
 
--- the document that is added for one of the job: its tokens are those that the language reads of
--- the values
-abbrev pub IsAdded : Job → AnyLanguage → asked.Document → Document → Type 0
-IsAdded job language doc document = IsDocument job.fields job.reference_field
-    (LanguageReads (language_tokens language) (language_leaves language)) doc.reference doc.values
-    document
+-- the word has no more characters than this
+abbrev pub is_short : Option ℕ → Text → Bool
+is_short None word = true
+is_short (Some most) word = nat_le (length word) most
+
+-- the words of a value of this field that are indexed: none of a field that is only stored, and
+-- else those that are not too long
+abbrev pub kept_words : WordRules → (field value : Bytes) → List Text
+kept_words rules field value = if has_name field rules.stored then [] else filter
+    (is_short rules.longest) (words (chars value))
+
+-- the same of the field of this number
+abbrev pub kept_at : WordRules → List Bytes → ℕ → (value : Bytes) → List Text
+kept_at rules fields i value = option_map_or (λ field. kept_words rules field value)
+    (slice_get fields i) (words (chars value))
+
+-- the tokens that may be read of a value: what the language reads of it, or, where there are rules,
+-- what the language leaves of the words that they keep
+abbrev pub ReadsBy : Option WordRules → List Bytes → AnyLanguage → ℕ → Bytes → List Text → Type 0
+ReadsBy None fields language = LanguageReads (language_tokens language) (language_leaves language)
+ReadsBy (Some rules) fields language = λ i value tokens. LanguageLeaves (language_leaves language)
+    (kept_at rules fields i value) tokens
+
+-- the document that is added for one of the job
+abbrev pub IsAddedBy : Option WordRules → Job → AnyLanguage → asked.Document → Document → Type 0
+IsAddedBy rules job language doc document = IsDocument job.fields job.reference_field
+    (ReadsBy rules job.fields language) doc.reference doc.values document
 
 abbrev pub compacted : Bool → List Command
 compacted wanted = if wanted then compact ∷ [] else []
@@ -42,8 +69,16 @@ compacted wanted = if wanted then compact ∷ [] else []
 abbrev pub in_order : Job → List Document → List Command
 in_order job documents = map add documents ++ map remove job.remove ++ compacted job.compact
 
--- the job commands this
-pub record AreCommandsOf (job : Job) (language : AnyLanguage) (commands : Commands) : Type 0 where
+-- the job commands this under these rules
+pub record AreCommandsBy (rules : Option WordRules) (job : Job) (language : AnyLanguage)
+    (commands : Commands) : Type 0 where
   pub documents : List Document
-  pub each : AllZip (IsAdded job language) job.docs documents
+  pub each : AllZip (IsAddedBy rules job language) job.docs documents
   pub whole : commands ≡ followed_by none (in_order job documents)
+
+-- without rules: the tokens of a document are those that the language reads of its values
+abbrev pub IsAdded : Job → AnyLanguage → asked.Document → Document → Type 0
+IsAdded = IsAddedBy None
+
+abbrev pub AreCommandsOf : Job → AnyLanguage → Commands → Type 0
+AreCommandsOf = AreCommandsBy None

@@ -3,28 +3,32 @@
 ghost use Rattle.std.specs.Prelude.{◌≡◌, ◌↔◌, ◌⊎◌, Any, Err, Some, string_bytes, IfOk, IfErr};
 ghost use Rattle.std.specs.Prelude.{OnOk};
 ghost use Rattle.elasticlunr.specs.History.{Commands};
-ghost use Rattle.elasticlunr.specs.Index.{fields_of, plan_of, IsDocument, IsFailed, StandsFor};
+ghost use Rattle.elasticlunr.specs.Index.{fields_of, plan_of, IsFailed, StandsFor};
 ghost use Rattle.elasticlunr.specs.Printed.{IsPrintOf, IsTextAfter};
 ghost use Rattle.elasticlunr_lang.specs.Known.{language_name};
 ghost use Rattle.elasticlunr_text.specs.Text.{Bytes};
-ghost use Rattle.elasticlunr_job.specs.Answer.{FailsAt, HasTooMany, IsLineOf, IsMadeIn};
-ghost use Rattle.elasticlunr_job.specs.Answer.{IsAnswer, IsMadeOf, IsPrintedLine, IsRefused};
+ghost use Rattle.elasticlunr_job.specs.Answer.{FailsAt, HasTooMany, IsLineOf, IsMadeBy};
+ghost use Rattle.elasticlunr_job.specs.Answer.{IsAnswer, IsMadeInBy, IsMadeOf, IsPrintedLine};
+ghost use Rattle.elasticlunr_job.specs.Answer.{IsRefused};
 ghost use Rattle.elasticlunr_job.specs.Answer.{IsReadableOf, line, printed_text, refusal_text};
 ghost use Rattle.elasticlunr_job.specs.Commands.{language_tokens};
-ghost use Rattle.elasticlunr_job.specs.Filled.{Fits, IsBuiltFor};
+ghost use Rattle.elasticlunr_job.specs.Filled.{Fits, IsBuiltFor, IsMadeUnder};
 ghost use Rattle.elasticlunr_job_format.specs.JobTold.{job_told};
+ghost use Rattle.elasticlunr_job_format.specs.Rules.{given_rules};
 ghost use Rattle.elasticlunr_job_format.specs.JobError.{StopsOnlyBy, StopsWithReason};
 ghost use Rattle.elasticlunr_job.specs.declared.outcome.Outcome.TheVariants.{Printed};
 ghost use Rattle.elasticlunr_job_format.specs.declared.outcome.Refusal.TheVariants.{TooManyValues};
 ghost use Rattle.elasticlunr_job_format.specs.declared.outcome.Refusal.TheVariants.{NotJson};
 
+use crate::kept::{all_words, kept_lists, values_with};
 use crate::make::{Make, ReadableLine};
 use crate::outcome::{JobError, Outcome, Refusal};
 use elasticlunr::lang::{AnyLanguage, from_name};
-use elasticlunr::laws::calls::an_index_makes_what_its_language_makes;
+use elasticlunr::laws::given::values_with_tokens_make_what_a_language_makes;
 use elasticlunr::{Index, IndexBuilder, IndexError};
 use elasticlunr_job_format::job::{Job, parse};
 use elasticlunr_job_format::read::read_json;
+use elasticlunr_job_format::rules::WordRules;
 use std::alloc::{AllocError, Global};
 
 /// The text of an index.
@@ -81,23 +85,30 @@ fn made_of<M: Make>(
     }
 }
 
-/// Does to a new index all that the job commands: what is made of it then.
+/// Does to a new index all that the job commands under rules: what is made of it then.
 fn fill_and_make<M: Make>(
+    alloc: Global,
     mut index: Index<AnyLanguage>,
     job: &Job<'_>,
+    rules: &Option<WordRules<'_>>,
     maker: &M,
 ) -> Result<M::Made, JobError>
     ensures fits { OnOk result (Fits (fields_of index) (job_told job.now).docs) }
     ensures ok { IfOk result (λ made. (language : AnyLanguage)
-        → IsBuiltFor (job_told job.now) language (plan_of language_name name_text index)
-        (IsDocument language_tokens leaves index) (StandsFor language_name name_text index)
-        → IsMadeIn (job_told job.now) language (M.makes maker.now made)) }
+        → IsBuiltFor (given_rules rules.now) (job_told job.now) language
+        (plan_of language_name name_text index)
+        (IsMadeUnder (given_rules rules.now) (job_told job.now).fields language_tokens leaves index)
+        (StandsFor language_name name_text index)
+        → IsMadeInBy (given_rules rules.now) (job_told job.now) language (M.makes maker.now made)) }
     ensures err { IfErr result (λ stop. ¬ IsFailed index
         → StopsOnlyBy TooManyValues (Any (HasTooMany (fields_of index)) (job_told job.now).docs)
         stop) }
 {
     for doc in &job.docs {
-        index.add_doc(doc.reference, &doc.values)?;
+        let kept = kept_lists(alloc, rules, &job.fields, &doc.values)?;
+        let words = all_words(alloc, &kept)?;
+        let values = values_with(alloc, &doc.values, &words, &kept)?;
+        index.add_doc_with_tokens(doc.reference, &values)?;
     }
     for reference in &job.remove {
         index.remove_doc(*reference)?;
@@ -108,9 +119,16 @@ fn fill_and_make<M: Make>(
     made_of(maker, &index, job.pretty)
 }
 
-/// What is made of a job's index. Its texts are not copied, but into the index.
-pub fn job_made<M: Make>(alloc: Global, job: &Job<'_>, maker: &M) -> Result<M::Made, JobError>
-    ensures ok { IfOk result (λ made. IsMadeOf (job_told job.now) (M.makes maker.now made)) }
+/// What is made of a job's index, of which rules choose the words. Its texts are not copied, but
+/// into the index; with rules, each word is.
+pub fn job_made_by<M: Make>(
+    alloc: Global,
+    job: &Job<'_>,
+    rules: &Option<WordRules<'_>>,
+    maker: &M,
+) -> Result<M::Made, JobError>
+    ensures ok { IfOk result (λ made.
+        IsMadeBy (given_rules rules.now) (job_told job.now) (M.makes maker.now made)) }
     ensures err { IfErr result (StopsWithReason (FailsAt (job_told job.now))) }
 {
     let Some(language) = from_name(job.language) else {
@@ -121,8 +139,16 @@ pub fn job_made<M: Make>(alloc: Global, job: &Job<'_>, maker: &M) -> Result<M::M
         .set_ref(job.reference_field)?
         .add_fields(&job.fields)?
         .build()?;
-    an_index_makes_what_its_language_makes(&index);
-    fill_and_make(index, job, maker)
+    values_with_tokens_make_what_a_language_makes(&index);
+    fill_and_make(alloc, index, job, rules, maker)
+}
+
+/// What is made of a job's index. Its texts are not copied, but into the index.
+pub fn job_made<M: Make>(alloc: Global, job: &Job<'_>, maker: &M) -> Result<M::Made, JobError>
+    ensures ok { IfOk result (λ made. IsMadeOf (job_told job.now) (M.makes maker.now made)) }
+    ensures err { IfErr result (StopsWithReason (FailsAt (job_told job.now))) }
+{
+    job_made_by(alloc, job, &None, maker)
 }
 
 /// The text of a job's index, and a line feed. Its texts are not copied, but into the index.

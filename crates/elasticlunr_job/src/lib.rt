@@ -6,9 +6,10 @@
 #![tactic(auto)]
 
 pub mod answer;
+pub mod kept;
 pub mod laws;
 pub mod make;
 pub mod outcome;
 pub mod run;
 
-pub use elasticlunr_job_format::{fault, job, key, kind};
+pub use elasticlunr_job_format::{fault, job, key, kind, rules};

@@ -12,3 +12,4 @@ pub mod Objects
 pub mod ObjectsTold
 pub mod Lines
 pub mod LineRead
+pub mod Rules

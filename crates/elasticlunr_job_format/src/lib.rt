@@ -12,3 +12,4 @@ pub mod objects;
 pub mod outcome;
 pub mod read;
 pub mod reader;
+pub mod rules;

@@ -1,16 +1,21 @@
 //! Documents as JSON objects, in the form that `addDoc` of elasticlunr.js takes.
 //!
 //! The member under the reference key is the reference, a text or a whole number. The member under
-//! a field's name is its text, the empty text where it is absent. Other members are passed over.
+//! a field's name is its text, the empty text where it is absent. Where the reference is a field,
+//! its text is the reference. Other members are passed over.
 
-ghost use Rattle.std.specs.Prelude.{◌≡◌, IfOk, IfErr, option_map, string_bytes};
+ghost use Rattle.std.specs.Prelude.{◌≡◌, ◌&&◌, not, IfOk, IfErr, option_map, string_bytes};
+ghost use Rattle.std.specs.Prelude.{bytes_eq};
 ghost use Rattle.serde_json.specs.View.{view};
-ghost use Rattle.elasticlunr_job_format.specs.Objects.{HasNoText, HasProblem, HasText, HasTexts};
-ghost use Rattle.elasticlunr_job_format.specs.Objects.{IsDocumentOf, reference_of};
-ghost use Rattle.elasticlunr_job_format.specs.ObjectsTold.{HasFieldProblem, IsMemoryOr};
+ghost use Rattle.elasticlunr_job_format.specs.Objects.{HasNoText, HasProblem};
+ghost use Rattle.elasticlunr_job_format.specs.Objects.{IsDocumentOf, is_reference, reference_of};
+ghost use Rattle.elasticlunr_job_format.specs.ObjectsTold.{HasFieldProblem, HasTextOr};
+ghost use Rattle.elasticlunr_job_format.specs.ObjectsTold.{HaveTextsOr, IsMemoryOr, IsNoTextUnder};
+ghost use Rattle.elasticlunr_job_format.specs.ObjectsTold.{IsUnder};
 ghost use Rattle.elasticlunr_job_format.specs.ObjectsTold.{object_told, options_told, texts_told};
 
 use crate::kind::{Kind, kind_of};
+use crate::rules::WordRules;
 use serde_json::Value;
 use std::alloc::{AllocError, AllocFailed, Global};
 
@@ -18,11 +23,25 @@ use std::alloc::{AllocError, AllocFailed, Global};
 /// by its name, as `German`.
 #[derive(Drop)]
 pub struct Options<'a> {
+    /// The key under which an object has its reference.
     pub reference_key: &'a str,
+    /// The name under which the index has it: that key, unless the reference is a field.
+    pub reference_field: &'a str,
     pub fields: Vec<&'a str>,
     pub language: &'a str,
     pub save: bool,
     pub pretty: bool,
+    /// Which words are indexed.
+    pub rules: Option<WordRules<'a>>,
+}
+
+impl Options<'_> {
+    /// Whether the reference is a field, this one.
+    fn is_reference(&self, field: &str) -> bool
+        ensures { result ≡ is_reference (options_told self.now) field.now }
+    {
+        self.reference_key == field && self.reference_key != self.reference_field
+    }
 }
 
 /// What is wrong with a document: the first check that it fails.
@@ -74,8 +93,22 @@ impl<T: Drop> From<AllocFailed<T>> for AddError {
 #[derive(Drop)]
 pub struct Object<'a> {
     pub reference: String,
-    pub values: Vec<&'a str>,
+    /// The text of each field; none where it is the reference.
+    texts: Vec<Option<&'a str>>,
     pub value: &'a Value,
+}
+
+impl Object<'_> {
+    /// The texts of the fields, in order.
+    pub fn values(&self, alloc: Global) -> Result<Vec<&str>, AllocError>
+        ensures { IfOk result (λ values. texts_told values.items ≡ (object_told self.now).values) }
+    {
+        let mut values = Vec::with_capacity(alloc, self.texts.len())?;
+        for text in &self.texts {
+            values.push((*text).unwrap_or(self.reference.as_str()))?;
+        }
+        Ok(values)
+    }
 }
 
 /// The reference that a member is, if it is one.
@@ -93,8 +126,8 @@ fn reference_of(alloc: Global, member: &Value) -> Result<Option<String>, AllocEr
 
 /// The text under the key of a field, or the kind of what is there.
 fn text_under<'a>(value: &'a Value, field: &str) -> Result<&'a str, Kind>
-    ensures ok { IfOk result (λ text. HasText (view value.now) field.now text.now) }
-    ensures err { IfErr result (HasNoText (view value.now) field.now) }
+    ensures ok { IfOk result (λ text. IsUnder (view value.now) field.now text.now) }
+    ensures err { IfErr result (IsNoTextUnder (view value.now) field.now) }
 {
     match value.get(field) {
         Some(member) => member.as_str().ok_or(kind_of(member)),
@@ -102,16 +135,38 @@ fn text_under<'a>(value: &'a Value, field: &str) -> Result<&'a str, Kind>
     }
 }
 
-/// The texts of the fields, in order.
-fn values_of<'a>(alloc: Global, fields: &[&str], value: &'a Value) -> Result<Vec<&'a str>, AddError>
-    ensures ok { IfOk result (λ found.
-        HasTexts (view value.now) (texts_told fields.now) (texts_told found.items)) }
-    ensures err { IfErr result (IsMemoryOr
-        (HasFieldProblem (view value.now) (texts_told fields.now))) }
+/// The text of a field, none where it is the reference; or the kind of what is there.
+fn text_of<'a>(
+    options: &Options<'_>,
+    value: &'a Value,
+    field: &str,
+) -> Result<Option<&'a str>, Kind>
+    ensures ok { IfOk result (HasTextOr (options_told options.now) (view value.now) field.now) }
+    ensures err { IfErr result (HasNoText (options_told options.now) (view value.now) field.now) }
 {
-    let mut found = Vec::with_capacity(alloc, fields.len())?;
-    for (i, field) in fields.iter().enumerate() {
-        match text_under(value, *field) {
+    if options.is_reference(field) {
+        return Ok(None);
+    }
+    match text_under(value, field) {
+        Ok(text) => Ok(Some(text)),
+        Err(kind) => Err(kind),
+    }
+}
+
+/// The texts of the fields, in order; none where the field is the reference.
+fn texts_of<'a>(
+    alloc: Global,
+    options: &Options<'_>,
+    value: &'a Value,
+) -> Result<Vec<Option<&'a str>>, AddError>
+    ensures ok { IfOk result (λ found. HaveTextsOr (options_told options.now) (view value.now)
+        (options_told options.now).fields found.items) }
+    ensures err { IfErr result (IsMemoryOr (HasFieldProblem (options_told options.now)
+        (view value.now) (options_told options.now).fields)) }
+{
+    let mut found = Vec::with_capacity(alloc, options.fields.len())?;
+    for (i, field) in options.fields.iter().enumerate() {
+        match text_of(options, value, *field) {
             Ok(text) => found.push(text)?,
             Err(kind) => return Err(AddError::ObjectFault(ObjectFault::NotAText(i, kind))),
         }
@@ -140,10 +195,10 @@ pub fn object_of<'a>(
     let Some(reference) = reference_of(alloc, member)? else {
         return Err(AddError::ObjectFault(ObjectFault::NotAReference(kind_of(member))));
     };
-    let values = values_of(alloc, &options.fields, value)?;
+    let texts = texts_of(alloc, options, value)?;
     Ok(Object {
         reference,
-        values,
+        texts,
         value,
     })
 }

@@ -13,7 +13,7 @@ pub use pretty_text::PrettyText;
 use std::alloc::AllocError;
 
 /// A token of a JSON text that is no number.
-#[derive(Clone, Copy, Debug)]
+#[derive(Clone, Copy)]
 pub enum Token<'a> {
     BeginObject,
     EndObject,

@@ -12,7 +12,9 @@ use Rattle.elasticlunr_store.specs.Contents.{TextMap}
 use Rattle.elasticlunr_trie.specs.Table.{Table}
 use Rattle.elasticlunr_pieces.specs.Cut.{IsGroup, IsCutTo}
 use Rattle.elasticlunr_pieces.specs.Entries.{field_values, token_members, tries_text, documents_items, documents_text}
-use Rattle.elasticlunr_pieces.specs.EntryTexts.{token_texts, document_texts}
+use Rattle.elasticlunr_pieces.specs.Entries.{titles_text}
+use Rattle.elasticlunr_print.specs.Printed.{texts}
+use Rattle.elasticlunr_pieces.specs.EntryTexts.{token_texts, document_texts, title_texts}
 use Rattle.elasticlunr_pieces.specs.Steps.{after_commas, joined, in_brackets, IsCutAt}
 use Rattle.elasticlunr_pieces.specs.declared.cut.Form.{Form}
 use Rattle.elasticlunr_pieces.specs.declared.cut.Cut.{Cut}
@@ -49,6 +51,19 @@ documents_in_brackets [] = refl
 documents_in_brackets (d ∷ ds) = let value = compact_text (keyed string d) in
     ap (λ r. 91 ∷ r) (ap (λ r. value ++ r) (items_behind ds)
     ∙ sym (append_assoc value (after_commas (document_texts ds)) (93 ∷ [])))
+
+titles_behind : (titles : List Bytes) → items_text true (texts titles) ≡ after_commas (title_texts titles) ++ 93 ∷ []
+titles_behind [] = refl
+titles_behind (t ∷ ts) = let value = compact_text (string t) in
+    ap (λ r. 44 ∷ r) (ap (λ r. value ++ r) (titles_behind ts)
+    ∙ sym (append_assoc value (after_commas (title_texts ts)) (93 ∷ [])))
+
+pub titles_in_brackets : (titles : List Bytes)
+    → titles_text titles ≡ 91 ∷ (joined (title_texts titles) ++ 93 ∷ [])
+titles_in_brackets [] = refl
+titles_in_brackets (t ∷ ts) = let value = compact_text (string t) in
+    ap (λ r. 91 ∷ r) (ap (λ r. value ++ r) (titles_behind ts)
+    ∙ sym (append_assoc value (after_commas (title_texts ts)) (93 ∷ [])))
 
 taken : {A B : Type 0} (f : A → B) (xs : List A) (ys zs : List B) → map f xs ≡ ys ++ zs
     → map f (take (length ys) xs) ≡ ys

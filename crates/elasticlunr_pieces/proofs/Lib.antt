@@ -1,8 +1,11 @@
-pub mod Growing
+pub mod FieldNames
 pub mod Groups
+pub mod Growing
 pub mod Listed
 pub mod Made
 pub mod Numbering
 pub mod OneCut
+pub mod Standing
 pub mod Stored
+pub mod Telling
 pub mod Writing

@@ -1,18 +1,15 @@
 -- Tokens that are listed, by their characters and by their bytes.
-use Rattle.std.proofs.Common.{◌≡◌, ◌↔◌, ◌⊎◌, inl, inr, Bool, true, false, true≢false, ◌||◌, cond, List, [], ◌∷◌}
+use Rattle.std.proofs.Common.{◌≡◌, ◌↔◌, ◌⊎◌, inl, inr, Bool, true, false, true≢false, ◌||◌, cond, List, [], ◌∷◌, ◌++◌}
 use Rattle.std.proofs.Common.{String, Global, string_bytes, string_cmp, refl, sym, ap, subst, ◌∙◌, bytes_eq}
 use Rattle.std.proofs.Common.{encode_utf8_all}
 use Rattle.std.specs.Prelude.{IsTrue}
 use Rattle.std.proofs.lemmas.Slice.Eq.{bytes_eq-Decides}
 use Rattle.std.proofs.lemmas.Str.{IsUtf8-string_bytes, encodes-chars}
-use Rattle.std.proofs.lemmas.Map.Text.{is_eq-slice_cmp, btree_set_updates_text}
 use Rattle.std.specs.Str.{chars, IsUtf8}
-use Rattle.std.specs.BTreeSet.{BTreeSet, UpdatesBy}
-use Rattle.std.specs.BTreeMap.{is_at}
-use Rattle.std.specs.Ordering.{nat_cmp}
-use Rattle.std.specs.Cmp.Lexicographic.{slice_cmp}
-use Rattle.std.specs.List.{list_any, AllByRecursion}
-use Rattle.std.specs.List.Sorted.{IsStrictlySortedBy}
+use Rattle.std.specs.List.{list_any, AllByRecursion, dedup, dedup_from}
+use Rattle.std.specs.List.Sorted.{IsStrictlySortedBy, IsPermutation}
+use Rattle.std.specs.String.{string_eq}
+use Rattle.std.proofs.lemmas.List.Sorted.{list_any-IsPermutation}
 use Rattle.std.proofs.Common.{Less}
 use Rattle.elasticlunr_error.specs.Text.{Text, Bytes, bytes_of, is_listed, text_cmp, texts_of}
 use Rattle.elasticlunr_trie.specs.Table.{Table}
@@ -109,46 +106,57 @@ all_so_far found tables so_far b = (
   λ is. elim ((so_far b).1 is) [ inl h ↦ h | inr none ↦ absurd none.1 ],
 )
 
--- a text is in a set where it is listed
-contained : (keys : List (String Global)) (b : Bytes) → list_any (is_at (λ k. slice_cmp nat_cmp b (string_bytes k)))
-    keys
-    ≡ is_listed b (bytes_of keys)
-contained [] b = refl
-contained (k ∷ keys) b = λ i. is_eq-slice_cmp b (string_bytes k) i || contained keys b i
-
-or : (a b : Bool) → cond a true b ≡ (a || b)
-or true b = refl
-or false b = refl
-
-same_both_ways : (a b : Bytes) → bytes_eq a b ≡ bytes_eq b a
-same_both_ways a b = by (bytes_eq a b) (bytes_eq b a) refl refl
+-- what is listed in the one or in the other
+pub listed_append : (b : Bytes) (xs ys : List (String Global))
+    → is_listed b (bytes_of (xs ++ ys)) ≡ (is_listed b (bytes_of xs) || is_listed b (bytes_of ys))
+listed_append b [] ys = refl
+listed_append b (x ∷ xs) ys = ap (λ r. bytes_eq b (string_bytes x) || r) (listed_append b xs ys)
+    ∙ regrouped (bytes_eq b (string_bytes x)) (is_listed b (bytes_of xs)) (is_listed b (bytes_of ys))
   where
-    by : (x y : Bool) → bytes_eq a b ≡ x → bytes_eq b a ≡ y → bytes_eq a b ≡ bytes_eq b a
-    by true true e f = e ∙ sym f
-    by false false e f = e ∙ sym f
-    by true false e f = let is : a ≡ b = (bytes_eq-Decides a b).0 e in absurd
-        (true≢false (sym ((bytes_eq-Decides b a).1 (sym is)) ∙ f))
-    by false true e f = let is : b ≡ a = (bytes_eq-Decides b a).0 f in absurd
-        (true≢false (sym ((bytes_eq-Decides a b).1 (sym is)) ∙ e))
+    regrouped : (a c d : Bool) → (a || (c || d)) ≡ ((a || c) || d)
+    regrouped true c d = refl
+    regrouped false c d = refl
 
-turned : (x a r : Bool) → ((x || a) || r) ≡ (a || (x || r))
-turned true true r = refl
-turned true false r = refl
-turned false true r = refl
-turned false false r = refl
+by_any : (b : Bytes) (xs : List (String Global))
+    → list_any (λ s. bytes_eq b (string_bytes s)) xs ≡ is_listed b (bytes_of xs)
+by_any b [] = refl
+by_any b (x ∷ xs) = ap (λ r. bytes_eq b (string_bytes x) || r) (by_any b xs)
 
--- one token more is in the set, and one less is left
-pub token_put : (old new : BTreeSet (String Global)) (name b : Bytes) (rest total : Bool)
-    → UpdatesBy string_cmp (λ k. slice_cmp nat_cmp name (string_bytes k)) old new true
-    → (is_listed b (bytes_of old.keys) || (bytes_eq b name || rest)) ≡ total
-    → (is_listed b (bytes_of new.keys) || rest) ≡ total
-token_put old new name b rest total updates is =
-    let put : is_listed b (bytes_of new.keys) ≡ (bytes_eq b name || is_listed b (bytes_of old.keys)) =
-    sym (contained new.keys b) ∙ btree_set_updates_text name old new true updates b
-    ∙ ap (cond (bytes_eq name b) true) (contained old.keys b)
-    ∙ or (bytes_eq name b) (is_listed b (bytes_of old.keys))
-    ∙ ap (λ x. x || is_listed b (bytes_of old.keys)) (same_both_ways name b) in
-    ap (λ x. x || rest) put ∙ turned (bytes_eq b name) (is_listed b (bytes_of old.keys)) rest ∙ is
+-- the same is listed in another order
+pub listed_moved : (b : Bytes) (xs ys : List (String Global)) → IsPermutation xs ys
+    → is_listed b (bytes_of ys) ≡ is_listed b (bytes_of xs)
+listed_moved b xs ys moved = sym (by_any b ys)
+    ∙ sym (list_any-IsPermutation (λ s. bytes_eq b (string_bytes s)) xs ys moved) ∙ by_any b xs
+
+-- a text that comes again lists no other
+again : (b : Bytes) (k x : String Global) (r : Bool) → string_bytes x ≡ string_bytes k
+    → (bytes_eq b (string_bytes k) || r) ≡ (bytes_eq b (string_bytes k) || (bytes_eq b (string_bytes x) || r))
+again b k x r same = twice (bytes_eq b (string_bytes k)) r
+    ∙ ap (λ y. bytes_eq b (string_bytes k) || (bytes_eq b y || r)) (sym same)
+  where
+    twice : (a r : Bool) → (a || r) ≡ (a || (a || r))
+    twice true r = refl
+    twice false r = refl
+
+dedup_step : (b : Bytes) (k x : String Global) (xs : List (String Global)) (c : Bool) → string_eq x k ≡ c
+    → is_listed b (bytes_of (dedup_from string_eq k xs)) ≡ (bytes_eq b (string_bytes k) || is_listed b (bytes_of xs))
+    → is_listed b (bytes_of (dedup_from string_eq x xs)) ≡ (bytes_eq b (string_bytes x) || is_listed b (bytes_of xs))
+    → is_listed b (bytes_of (cond c (dedup_from string_eq k xs) (k ∷ dedup_from string_eq x xs)))
+    ≡ (bytes_eq b (string_bytes k) || is_listed b (bytes_of (x ∷ xs)))
+dedup_step b k x xs true e same other = same ∙ again b k x (is_listed b (bytes_of xs))
+    ((bytes_eq-Decides (string_bytes x) (string_bytes k)).0 e)
+dedup_step b k x xs false e same other = ap (λ r. bytes_eq b (string_bytes k) || r) other
+
+dedup_lists : (b : Bytes) (k : String Global) (xs : List (String Global))
+    → is_listed b (bytes_of (dedup_from string_eq k xs)) ≡ (bytes_eq b (string_bytes k) || is_listed b (bytes_of xs))
+dedup_lists b k [] = refl
+dedup_lists b k (x ∷ xs) = dedup_step b k x xs (string_eq x k) refl (dedup_lists b k xs) (dedup_lists b x xs)
+
+-- each text once lists the same
+pub listed_once : (b : Bytes) (xs : List (String Global))
+    → is_listed b (bytes_of (dedup string_eq xs)) ≡ is_listed b (bytes_of xs)
+listed_once b [] = refl
+listed_once b (x ∷ xs) = dedup_lists b x xs
 
 -- strings in order have their bytes in order
 all_after : (k : String Global) (ks : List (String Global)) → AllByRecursion (λ y. string_cmp k y ≡ Less) ks

@@ -4,6 +4,7 @@ use Rattle.std.proofs.Common.{bytes_eq, ap, ◌∙◌, drop-cons}
 use Rattle.std.proofs.Common.{map, sym, arith, zero, None, ◌≤◌}
 use Rattle.std.specs.Prelude.{slice_get}
 use Rattle.std.specs.Result.{result_ok}
+use Rattle.std.specs.Cmp.{Equal-is}
 use Rattle.std.specs.Ordering.{ordering_index, ordering_reverse}
 use Rattle.std.specs.Borrow.{Bor}
 use Rattle.std.specs.List.Sorted.{IsStrictlySortedBy, IsSortedBy, IsNonDecreasingBy, IsPartitionPoint, IsSearchInRange}
@@ -122,3 +123,19 @@ pub search_numbers : (names : List (Bor Bytes)) (r : Bytes) → IsStrictlySorted
 search_numbers [] r order (Ok i) lt is = absurd (omega (arith, lt))
 search_numbers [] r order (Err i) le split = refl
 search_numbers (name ∷ names) r order answer range is = found_number (name ∷ names) r order name answer range is
+
+-- a name has the number of each place where it stands
+pub number_there : (names : List Bytes) (r : Bytes) (n : ℕ) → IsStrictlySortedBy text_cmp names → n < length names
+    → bytes_eq (get_or names n []) r ≡ true → number_of names r ≡ Some n
+number_there names r n order lt equal =
+    let name = get_or names n [] in
+    numbered_at names r 0 n order lt ((Equal-is (text_cmp name r)).0 (is_eq-slice_cmp name r ∙ equal))
+    ∙ ap Some (omega arith)
+
+-- a text that is borrowed has the number of its place
+pub told_number : (texts : List (Bor Bytes)) (n : ℕ) (d : Bor Bytes) → IsStrictlySortedBy text_cmp (told_texts texts)
+    → n < length texts → number_of (told_texts texts) (get_or texts n d).now ≡ Some n
+told_number texts n d order lt =
+    let r = (get_or texts n d).now in
+    number_there (told_texts texts) r n order (omega (arith, lt, counted texts r order))
+    ((bytes_eq-Decides (get_or (told_texts texts) n []) r).1 (at texts r order n d lt))

@@ -96,7 +96,7 @@ in_brackets_grows f b e (x ∷ xs) ys some =
 
 -- ---- one list of tokens
 
-listed_below : (x b : Bytes) (xs : List Bytes) → AllByRecursion (λ z. text_cmp x z ≡ Less) xs → is_listed b xs ≡ true
+pub listed_below : (x b : Bytes) (xs : List Bytes) → AllByRecursion (λ z. text_cmp x z ≡ Less) xs → is_listed b xs ≡ true
     → text_cmp x b ≡ Less
 listed_below x b [] below h = absurd (true≢false (sym h))
 listed_below x b (y ∷ xs) below h = elim (either (bytes_eq b y) _ h) [
@@ -104,11 +104,11 @@ listed_below x b (y ∷ xs) below h = elim (either (bytes_eq b y) _ h) [
   | inr later ↦ listed_below x b xs below.1 later
 ]
 
-both_less : (x y : Bytes) → text_cmp x y ≡ Less → text_cmp y x ≡ Less → ⊥
+pub both_less : (x y : Bytes) → text_cmp x y ≡ Less → text_cmp y x ≡ Less → ⊥
 both_less x y a b = let turned : text_cmp x y ≡ Greater = nat_list_cmp_total.antisymm x y ∙ ap ordering_reverse b in
     cc (a, turned)
 
-itself : (x : Bytes) (xs : List Bytes) → is_listed x (x ∷ xs) ≡ true
+pub itself : (x : Bytes) (xs : List Bytes) → is_listed x (x ∷ xs) ≡ true
 itself x xs = left_true (bytes_eq x x) _ ((bytes_eq-Decides x x).1 refl)
 
 later : (x b : Bytes) (xs ys : List Bytes) → AllByRecursion (λ z. text_cmp x z ≡ Less) xs

@@ -59,8 +59,3 @@ posting_written names before after total p ps = after_posting (number_of names p
 pub if_ok : {T E : Type 0} (r : Result T E) (P Q : T → Type 0) → ((x : T) → P x → Q x) → IfOk r P → IfOk r Q
 if_ok (Ok x) P Q f p = f x p
 if_ok (Err e) P Q f p = p
-
-pub if_both : {T E : Type 0} (r : Result T E) (P Q R : T → Type 0) → ((x : T) → P x → Q x → R x) → IfOk r P
-    → IfOk r Q → IfOk r R
-if_both (Ok x) P Q R f p q = f x p q
-if_both (Err e) P Q R f p q = p

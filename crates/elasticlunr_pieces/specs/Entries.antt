@@ -2,7 +2,9 @@
 use Rattle.std.specs.Prelude.{◌↔◌, ◌⊎◌, ℕ, suc, List, [], ◌∷◌, map, Option, None, Some, IsTrue}
 use Rattle.std.specs.Prelude.{if◌then◌else◌}
 use Rattle.std.specs.List.Sorted.{IsStrictlySortedBy}
-use Rattle.std.specs.FinMap.{entries}
+use Rattle.std.specs.FinMap.{entries, get}
+use Rattle.std.specs.Prelude.{unwrap_or}
+use Rattle.elasticlunr_print.specs.Printed.{texts}
 use Rattle.std.specs.Str.{bytes_eq, chars, IsUtf8}
 use Rattle.serde_json.specs.Data.{Data, string, array, object, Items, no_items, item, Members}
 use Rattle.serde_json.specs.Data.{no_members, member}
@@ -68,6 +70,19 @@ documents_text documents = compact_text (array (documents_items documents))
 -- the documents whose texts are kept, in the order of their references
 abbrev pub kept_documents : Contents → List TextMap
 kept_documents contents = if contents.save then map (λ e. e.1) (entries contents.texts) else []
+
+-- the title of a document: its text in this field, or an empty one
+abbrev pub title_of : Bytes → TextMap → Bytes
+title_of field document = unwrap_or (get document field) []
+
+-- the titles of the documents whose texts are kept, where the index has such a field
+abbrev pub kept_titles : List Bytes → Bytes → Contents → List Bytes
+kept_titles fields field contents =
+    if is_listed field fields then map (title_of field) (kept_documents contents) else []
+
+-- the text of a piece of the titles
+abbrev pub titles_text : List Bytes → Bytes
+titles_text titles = compact_text (array (texts titles))
 
 -- a token of one of the tables
 abbrev pub IsTokenIn : List Table → Text → Type 0

@@ -24,6 +24,10 @@ token_text_of names tables token =
 abbrev pub token_texts : List Bytes → List Table → List Bytes → List Bytes
 token_texts names tables tokens = map (token_text_of names tables) tokens
 
+-- those of some titles
+abbrev pub title_texts : List Bytes → List Bytes
+title_texts titles = map (λ title. compact_text (string title)) titles
+
 -- the texts of some documents
 abbrev pub document_texts : List TextMap → List Bytes
 document_texts documents = map (λ document. compact_text (keyed string document)) documents

@@ -1,5 +1,5 @@
 -- The head of an index in pieces.
-use Rattle.std.specs.Prelude.{ℕ, ◌+◌, List, [], ◌∷◌, Option, None, Some, codes, length}
+use Rattle.std.specs.Prelude.{ℕ, ◌+◌, List, [], ◌∷◌, map, Option, None, Some, codes, length}
 use Rattle.serde_json.specs.Data.{Data, null, boolean, string, array, object, Items, no_items, item}
 use Rattle.serde_json.specs.Data.{Members, no_members, member}
 use Rattle.elasticlunr_error.specs.Text.{Bytes}
@@ -36,17 +36,25 @@ firsts [] = []
 firsts ([] ∷ groups) = firsts groups
 firsts ((token ∷ tokens) ∷ groups) = token ∷ firsts groups
 
+-- how many entries each group has
+abbrev pub counts_of : {A : Type 0} → List (List A) → List ℕ
+counts_of groups = map (λ group. length group) groups
+
 -- the number of the first entry of each group, if that of the first group is n
 abbrev pub starts_from : {A : Type 0} → ℕ → List (List A) → List ℕ
 starts_from n [] = []
 starts_from n (group ∷ groups) = n ∷ starts_from (n + length group) groups
 
--- where the pieces are and begin: their folder, the first token of each piece of the tries, and the
--- number of the first reference of each piece of the texts
+-- Where the pieces are and begin: their folder, the first token of each piece of the tries, and how
+-- many references each piece of the texts has, and each piece of the titles. Of each piece in this
+-- order its length in bytes; and the field of the titles.
 pub record Beginnings : Type 0 where
   pub folder : Bytes
   pub tries : List Bytes
   pub texts : List ℕ
+  pub titles : List ℕ
+  pub sizes : List ℕ
+  pub title : Bytes
 
 -- the members of the head
 abbrev pub head_members : Plan → List Bytes → Items → Beginnings → Members
@@ -59,9 +67,12 @@ head_members plan names lengths beginnings =
     (member (codes "ref") (string plan.reference_field)
     (member (codes "references") (array (texts names))
     (member (codes "save") (boolean plan.save)
+    (member (codes "sizes") (array (counts beginnings.sizes))
     (member (codes "texts") (array (counts beginnings.texts))
+    (member (codes "title") (string beginnings.title)
+    (member (codes "titles") (array (counts beginnings.titles))
     (member (codes "tries") (array (texts beginnings.tries))
-    (member (codes "version") (string (codes "0.9.5")) no_members))))))))))
+    (member (codes "version") (string (codes "0.9.5")) no_members)))))))))))))
 
 -- the value of the head, for these references
 abbrev pub head_value : Plan → Contents → List Bytes → Beginnings → Data

@@ -19,4 +19,7 @@ beginnings_of places = record {
   folder = places.folder.now;
   tries = told_texts places.tries.now;
   texts = places.texts.now;
+  titles = places.titles.now;
+  sizes = places.sizes.now;
+  title = places.title.now;
 }

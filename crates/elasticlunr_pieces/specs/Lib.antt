@@ -7,4 +7,7 @@ pub mod HeadTokens
 pub mod Numbers
 pub mod Pieces
 pub mod Progress
+pub mod Slots
+pub mod Standing
 pub mod Steps
+pub mod Telling

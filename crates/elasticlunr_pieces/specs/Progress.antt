@@ -1,5 +1,5 @@
 -- The next piece of a kind; for private clauses.
-use Rattle.std.specs.Prelude.{◌≡◌, List, [], ◌∷◌, ◌++◌, codes, decimal, length}
+use Rattle.std.specs.Prelude.{◌≡◌, ◌-◌, List, [], ◌∷◌, ◌++◌, codes, decimal, length}
 use Rattle.std.specs.Prelude.{string_bytes}
 use Rattle.elasticlunr_error.specs.Text.{Bytes}
 use Rattle.elasticlunr_pieces.specs.Steps.{IsCutAt}
@@ -17,6 +17,8 @@ pub record IsMade (texts : List Bytes) (form : Form) (letter : Bytes) (old new :
   pub next : cut.next ≡ new.next
   pub pending : cut.pending ≡ new.pending
   pub starts : new.starts.items ≡ old.starts.items ++ old.next ∷ []
+  pub sizes : new.sizes.items ≡ old.sizes.items ++ length (string_bytes piece.text) ∷ []
+  pub counts : new.counts.items ≡ old.counts.items ++ (new.next - old.next) ∷ []
   pub name : string_bytes piece.name ≡ letter ++ (decimal (length old.starts.items) ++ codes
       ".json")
 
@@ -25,3 +27,5 @@ pub record Stays (old new : Progress) : Type 0 where
   pub next : new.next ≡ old.next
   pub pending : new.pending ≡ old.pending
   pub starts : new.starts.items ≡ old.starts.items
+  pub sizes : new.sizes.items ≡ old.sizes.items
+  pub counts : new.counts.items ≡ old.counts.items

@@ -53,8 +53,9 @@ pub(crate) fn cut_from<E: Entries>(
 ) -> Result<Cut, AllocError>
     requires there { from < length (E.texts entries.now) }
     requires small { length (E.texts entries.now) < 2 ^ 64 }
-    ensures { IfOk result (λ cut. first.now ≡ slice_index_or (E.texts entries.now) from []
+    ensures cut { IfOk result (λ cut. first.now ≡ slice_index_or (E.texts entries.now) from []
         → IsCutAt (E.texts entries.now) form.entry from cut) }
+    ensures further { IfOk result (λ cut. from < cut.next) }
 {
     let mut text = String::from_str(alloc, form.opening)?;
     text.push_str(first)?;

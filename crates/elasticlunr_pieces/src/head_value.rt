@@ -16,13 +16,17 @@ use elasticlunr_store::DocumentStore;
 use elasticlunr_store_maps::find::find_length;
 use std::alloc::{AllocError, Global};
 
-/// Where the pieces are and begin: their folder, the first token of each piece of the tries, and
-/// the number of the first reference of each piece of the texts.
+/// Where the pieces are and begin: their folder, the first token of each piece of the tries, and how
+/// many references each piece of the texts and of the titles has. Then the bytes of each piece, and
+/// the field of the titles.
 #[derive(Clone, Copy)]
 pub(crate) struct Places<'a> {
     pub(crate) folder: &'a str,
     pub(crate) tries: &'a [&'a str],
     pub(crate) texts: &'a [usize],
+    pub(crate) titles: &'a [usize],
+    pub(crate) sizes: &'a [usize],
+    pub(crate) title: &'a str,
 }
 
 /// The text of the head.
@@ -47,7 +51,10 @@ pub(crate) fn head_text(
     write_texts("references", references, &mut out)?;
     out.key("save")?;
     out.boolean(parts.store.is_stored())?;
+    write_counts("sizes", places.sizes, &mut out)?;
     write_counts("texts", places.texts, &mut out)?;
+    write_text("title", places.title, &mut out)?;
+    write_counts("titles", places.titles, &mut out)?;
     write_texts("tries", places.tries, &mut out)?;
     write_text("version", ELASTICLUNR_VERSION, &mut out)?;
     out.end_object()?;

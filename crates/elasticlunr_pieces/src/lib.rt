@@ -10,7 +10,9 @@ pub mod laws;
 mod making;
 mod numbers;
 mod progress;
+mod slots;
 mod texts;
+mod titles;
 pub mod tokens;
 mod tries;
 

@@ -8,7 +8,7 @@ use Rattle.std.proofs.lemmas.List.{map-append}
 use Rattle.std.proofs.lemmas.List.Sums.{fold-append}
 use Rattle.elasticlunr_ranking.specs.Doubles.{◌+ᵈ◌}
 use Rattle.elasticlunr_ranking.specs.Weights.{added, sum_of}
-use Rattle.elasticlunr_ranking.specs.declared.logarithm.TheConstants.{ZERO}
+use Rattle.elasticlunr_ranking.specs.Numbers.{zero_double}
 
 pub sum_push : {A : Type 0} (f : A → Option Float) (xs : List A) (x : A)
     → sum_of (map f (xs ++ x ∷ [])) ≡ added (sum_of (map f xs)) (f x)
@@ -35,5 +35,5 @@ none_counted {A} f q missed xs h = from xs 0 h
         → fold (λ n x. n + cond (q x) 1 0) (a + cond (q x) 1 0) xs ≡ a) [
           | None ↦ λ is none. ap (λ b. fold (λ n x. n + cond (q x) 1 0) (a + cond b 1 0) xs) (missed x is)
               ∙ ap (λ n. fold (λ n x. n + cond (q x) 1 0) n xs) (add-zero a) ∙ from xs a none
-          | Some v ↦ λ is none. absurd (stays (ZERO +ᵈ v) (map f xs) none)
+          | Some v ↦ λ is none. absurd (stays (zero_double +ᵈ v) (map f xs) none)
         ] refl h

@@ -12,7 +12,7 @@ use Rattle.elasticlunr_ranking.specs.Weights.{added, counted, counted_if, field_
 use Rattle.elasticlunr_ranking.specs.Weights.{token_score, tokens_score, weight}
 use Rattle.elasticlunr_ranking.specs.Held.{Scores, add_weight, under}
 use Rattle.elasticlunr_ranking.specs.Tallies.{add_score, add_tally, one_more, tallied, tally_of}
-use Rattle.elasticlunr_ranking.specs.declared.logarithm.TheConstants.{ZERO}
+use Rattle.elasticlunr_ranking.specs.Numbers.{zero_double}
 use Rattle.elasticlunr_ranking.specs.declared.tally.Tally.{Tally}
 use Rattle.elasticlunr_ranking.proofs.Sums.{count_push, none_counted, sum_push}
 use Rattle.elasticlunr_ranking.proofs.Under.{once, put_at}
@@ -45,7 +45,7 @@ cases None (Some v) found exact e low small nil none =
     let f : one_more 0 ≡ found + 1 = one 0 (omega arith) ∙ sym (ap (λ n. n + 1) (nil refl)) in
     let x : cond e (one_more 0) 0 ≡ exact + cond e 1 0 = exact_one e 0 (omega arith)
     ∙ sym (ap (λ n. n + cond e 1 0) (none refl)) in
-    λ i. Some (record { score = ZERO +ᵈ v; found = f i; exact = x i })
+    λ i. Some (record { score = zero_double +ᵈ v; found = f i; exact = x i })
 cases (Some s) (Some v) found exact e low small nil none =
     λ i. Some (record { score = s +ᵈ v; found = one found low i; exact = exact_one e exact small i })
 

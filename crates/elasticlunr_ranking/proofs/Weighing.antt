@@ -15,14 +15,14 @@ use Rattle.elasticlunr_ranking.specs.Fields.{Field}
 use Rattle.elasticlunr_ranking.specs.Held.{add_weight, told, under}
 use Rattle.elasticlunr_ranking.specs.Tallies.{add_score, add_tally, tallied, tally_score}
 use Rattle.elasticlunr_ranking.specs.Weights.{added, idf_of, norm_of, part, penalty_of}
-use Rattle.elasticlunr_ranking.specs.declared.logarithm.TheConstants.{ZERO}
+use Rattle.elasticlunr_ranking.specs.Numbers.{zero_double}
 use Rattle.elasticlunr_ranking.specs.declared.tally.Tally.{Tally}
 use Rattle.elasticlunr_ranking.proofs.Tallying.{weighed}
 use Rattle.elasticlunr_ranking.proofs.Under.{loop_step, once, put_at}
 
 module _ (field : Field) (start old new : Bytes → Option Float) where
   pub posting_step : (idf penalty : Float) (es : List (Bor Bytes × ℕ)) (i : ℕ) (d : Bor Bytes × ℕ) → i < length es
-      → (score norm tf : Float) → score ≡ unwrap_or (old (get_or es i d).0.now) ZERO
+      → (score norm tf : Float) → score ≡ unwrap_or (old (get_or es i d).0.now) zero_double
       → norm ≡ norm_of (field_length field.contents (get_or es i d).0.now field.name)
       → tf ≡ whole (get_or es i d).1
       → ((r : Bytes) → old r ≡ under (add_weight field idf penalty) r (start r) (told (take i es)))

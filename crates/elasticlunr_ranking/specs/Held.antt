@@ -9,7 +9,7 @@ use Rattle.elasticlunr_error.specs.Text.{Bytes, text_cmp}
 use Rattle.elasticlunr_ranking.specs.Doubles.{◌+ᵈ◌}
 use Rattle.elasticlunr_ranking.specs.Fields.{Field}
 use Rattle.elasticlunr_ranking.specs.Weights.{weight}
-use Rattle.elasticlunr_ranking.specs.declared.logarithm.TheConstants.{ZERO}
+use Rattle.elasticlunr_ranking.specs.Numbers.{zero_double}
 
 -- borrowed references, each with a value
 abbrev pub told : {X : Type 0} → List (Bor Bytes × X) → List (Bytes × X)
@@ -33,4 +33,4 @@ under step reference before es =
 
 abbrev pub add_weight : Field → (idf penalty : Float) → Bytes → Option Float → ℕ → Option Float
 add_weight field idf penalty reference before frequency =
-    Some (unwrap_or before ZERO +ᵈ weight field idf penalty reference frequency)
+    Some (unwrap_or before zero_double +ᵈ weight field idf penalty reference frequency)

@@ -6,3 +6,4 @@ pub mod Held
 pub mod Tallies
 pub mod Order
 pub mod Choice
+pub mod Numbers

@@ -8,14 +8,14 @@ use Rattle.elasticlunr_ranking.specs.Doubles.{◌+ᵈ◌}
 use Rattle.elasticlunr_ranking.specs.Fields.{Field}
 use Rattle.elasticlunr_ranking.specs.Weights.{added, counted, is_found, is_found_itself}
 use Rattle.elasticlunr_ranking.specs.Weights.{tokens_score}
-use Rattle.elasticlunr_ranking.specs.declared.logarithm.TheConstants.{ZERO}
+use Rattle.elasticlunr_ranking.specs.Numbers.{zero_double}
 use Rattle.elasticlunr_ranking.specs.declared.tally.Tally.{Tally}
 
 abbrev pub one_more : ℕ → ℕ
 one_more n = min (n + 1) (2 ^ 64 - 1)
 
 abbrev pub no_tally : Tally
-no_tally = record { score = ZERO; found = 0; exact = 0 }
+no_tally = record { score = zero_double; found = 0; exact = 0 }
 
 -- a tally after one token more
 abbrev pub tallied : Option Tally → Float → Bool → Tally

@@ -17,8 +17,7 @@ use Rattle.elasticlunr_store.specs.declared.config.SearchBool.TheVariants.{Or, A
 use Rattle.elasticlunr_ranking.specs.Doubles.{◌+ᵈ◌, ◌-ᵈ◌, ◌*ᵈ◌, ◌/ᵈ◌, whole}
 use Rattle.elasticlunr_ranking.specs.Fields.{Field}
 use Rattle.elasticlunr_ranking.specs.Logarithm.{logarithm_of}
-use Rattle.elasticlunr_ranking.specs.declared.logarithm.TheConstants.{ZERO, ONE}
-use Rattle.elasticlunr_ranking.specs.declared.weight.TheConstants.{EXPANDED, TWO_UNITS}
+use Rattle.elasticlunr_ranking.specs.Numbers.{zero_double, one_double, expanded, first_of_two_units}
 
 -- the words that a token stands for: itself, or the tokens that begin with it, in the order of
 -- their characters
@@ -29,28 +28,28 @@ AreWordsOf table true token words = IsStrictlySortedBy text_cmp words
 
 -- in how many units UTF-16 writes the text
 abbrev pub utf16_length_of : Text → ℕ
-utf16_length_of text = length text + count_by (λ c. nat_le TWO_UNITS c) text
+utf16_length_of text = length text + count_by (λ c. nat_le first_of_two_units c) text
 
 -- how much a word says that `found` of some documents have
 abbrev pub idf_of : (documents found : ℕ) → Float
-idf_of documents found = ONE +ᵈ logarithm_of (whole documents /ᵈ (whole found +ᵈ ONE))
+idf_of documents found = one_double +ᵈ logarithm_of (whole documents /ᵈ (whole found +ᵈ one_double))
 
 -- how much a word counts in a field with so many tokens
 abbrev pub norm_of : ℕ → Float
-norm_of length = cond (length == 0) ONE (ONE /ᵈ sqrt binary64 (whole length))
+norm_of length = cond (length == 0) one_double (one_double /ᵈ sqrt binary64 (whole length))
 
 -- how much a word counts that begins with the token: all where it is no longer, so is the token
 abbrev pub penalty_of : (token word : Text) → Float
 penalty_of token word =
     let shorter = whole (utf16_length_of token) in
     let length = whole (utf16_length_of word) in
-    cond (utf16_length_of word == utf16_length_of token) ONE
-    (EXPANDED *ᵈ (ONE -ᵈ (length -ᵈ shorter) /ᵈ length))
+    cond (utf16_length_of word == utf16_length_of token) one_double
+    (expanded *ᵈ (one_double -ᵈ (length -ᵈ shorter) /ᵈ length))
 
 -- a sum, from zero, with one part more, if it is there
 abbrev pub added : Option Float → Option Float → Option Float
 added total None = total
-added total (Some x) = Some (unwrap_or total ZERO +ᵈ x)
+added total (Some x) = Some (unwrap_or total zero_double +ᵈ x)
 
 -- the sum of the parts that are there, if one is
 abbrev pub sum_of : List (Option Float) → Option Float

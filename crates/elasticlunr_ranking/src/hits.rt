@@ -10,7 +10,7 @@ use std::alloc::{AllocError, Global};
 use std::cmp::{OrderedFloat, Reverse};
 
 /// A document that a search found, and its score.
-#[derive(Debug, Drop)]
+#[derive(Drop)]
 pub struct Hit {
     pub reference: String,
     pub score: f64,

@@ -1,8 +1,9 @@
 //! The search index of a site.
 #![tactic(auto)]
 
-ghost use Rattle.std.specs.Prelude.{◌≡◌, IfErr};
+ghost use Rattle.std.specs.Prelude.{◌≡◌, IfErr, IfOk, string_bytes};
 ghost use Rattle.elasticlunr.specs.IndexError.TheVariants.{Memory};
+ghost use Rattle.elasticlunr_site.specs.Site.{IsNew, IsTextOf};
 
 use elasticlunr::lang::German;
 use elasticlunr::{Index, IndexError};
@@ -15,21 +16,25 @@ pub struct Page<'a> {
     pub texts: &'a [&'a str],
 }
 
-/// The text of the index of these pages without the drafts. A page with more texts than there are
-/// fields is left out.
-pub fn search_index(
-    alloc: Global,
-    pages: &[Page<'_>],
-    drafts: &[&str],
-) -> Result<String, IndexError>
-    ensures { IfErr result (λ e. e ≡ Memory) }
+/// The index of these pages without the drafts. A page with more than two texts is left out.
+pub fn search_index(alloc: Global, pages: &[Page], drafts: &[&str]) -> Result<String, IndexError>
+    ensures text { IfOk result (λ text. IsTextOf pages.now drafts.now (string_bytes text)) }
+    ensures errors { IfErr result (λ e. e ≡ Memory) }
 {
-    let mut index = Index::with_language(alloc, German::new(), &["title", "body"])?;
+    let index = Index::with_language(alloc, German::new(), &["title", "body"])?;
+    filled(index, pages, drafts)
+}
+
+fn filled(mut index: Index<German>, pages: &[Page], drafts: &[&str]) -> Result<String, IndexError>
+    requires { IsNew name_text leaves index }
+    ensures text { IfOk result (λ text. IsTextOf pages.now drafts.now (string_bytes text)) }
+    ensures errors { IfErr result (λ e. e ≡ Memory) }
+{
     for page in pages {
-        match index.add_doc(page.address, page.texts) {
-            Ok(()) | Err(IndexError::TooManyValues) => {}
-            Err(error) => return Err(error),
+        if page.texts.len() > 2 {
+            continue;
         }
+        index.add_doc(page.address, page.texts)?;
     }
     for draft in drafts {
         index.remove_doc(*draft)?;

@@ -39,7 +39,6 @@ use elasticlunr_trie_nodes::nodes::{Node, Place, Reference, find, find_frequency
 use elasticlunr_trie_nodes::start::WalkedToken;
 use ends::TokenCache;
 use read::{only_member, read_nodes};
-pub use references::copied;
 use remove::{remove_posting, remove_postings};
 use same::same_below;
 use serde_json::{Map, Value};

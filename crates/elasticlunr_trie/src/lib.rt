@@ -4,5 +4,7 @@
 
 pub mod inverted_index;
 pub mod laws;
+mod texts;
 
-pub use inverted_index::{InvertedIndex, copied};
+pub use inverted_index::InvertedIndex;
+pub use texts::copied;

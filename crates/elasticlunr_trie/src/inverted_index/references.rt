@@ -11,11 +11,12 @@ ghost use Rattle.elasticlunr_trie_nodes.specs.Table.{posting};
 ghost use Rattle.elasticlunr_trie.specs.References.{texts_in};
 
 use super::InvertedIndex;
+use crate::texts::copied;
 use elasticlunr_error::IndexError;
 use elasticlunr_trie_nodes::names::Names;
 use elasticlunr_trie_nodes::nodes::find_postings;
 use elasticlunr_trie_nodes::postings::Postings;
-use std::alloc::{AllocError, Global};
+use std::alloc::AllocError;
 use std::collections::BTreeSet;
 
 impl InvertedIndex {
@@ -82,16 +83,4 @@ fn put_names<'a>(
         found.insert(names.name(number))?;
     }
     Ok(())
-}
-
-/// Copies of the texts in a set, in the order of their bytes.
-pub fn copied(alloc: Global, texts: &BTreeSet<&str>) -> Result<Vec<String>, AllocError>
-    ensures texts { IfOk result (λ v. bytes_of v.items ≡ texts_in texts.now) }
-    ensures order { IfOk result (λ _. IsStrictlySortedBy text_cmp (texts_in texts.now)) }
-{
-    let mut copies = Vec::with_capacity(alloc, texts.len())?;
-    for text in texts.iter() {
-        copies.push(String::from_str(alloc, text)?)?;
-    }
-    Ok(copies)
 }

@@ -1,6 +1,4 @@
-use Rattle.std.proofs.Common.{map, take, sym, ap, subst, ◌∙◌}
-use Rattle.std.specs.List.{AllByRecursion}
-use Rattle.elasticlunr_c_calls.proofs.Stages.{IsKeep, all_push, keeps_are_known, leave_as_is}
+use Rattle.elasticlunr_c_calls.proofs.Stages.{keeps_are_known, leave_as_is}
 use Rattle.elasticlunr_c_calls.proofs.language.named_stages.Goals as goal
 
 pub returns-clause-leaves : goal.returns-clause-leaves

@@ -1,13 +1,17 @@
-use Rattle.std.proofs.Common.{[], map, if◌then◌else◌, inl, inr, refl, sym, ap, subst, ◌∙◌, ◌+◌, ◌++◌, ◌∷◌}
+use Rattle.std.proofs.Common.{◌≡◌, [], map, if◌then◌else◌, inl, inr, refl, sym, ap, subst, ◌∙◌, ◌+◌, ◌++◌, ◌∷◌}
 use Rattle.std.proofs.Common.{append_assoc, arith}
 use Rattle.std.specs.Io.KnownBytes.{Consumes}
 use Rattle.serde_json.specs.View.{view}
 use Rattle.elasticlunr_lang.specs.Known.{language_name}
+use Rattle.elasticlunr_text.specs.Text.{texts_of}
+use Rattle.elasticlunr.specs.Fields.{borrowed}
+use Rattle.elasticlunr_job.specs.Given.{AreGiven, kept_lists}
+use Rattle.elasticlunr_job.proofs.Filling.{are_given}
 use Rattle.elasticlunr_job_format.specs.LineRead.{fed}
-use Rattle.elasticlunr_job_format.specs.ObjectsTold.{object_told, options_told}
+use Rattle.elasticlunr_job_format.specs.ObjectsTold.{object_told, options_told, texts_told}
 use Rattle.elasticlunr_job_format.proofs.LineParts.{all_more, consumes_more, consumes_none}
 use Rattle.elasticlunr_documents.specs.declared.lines.LastLine.{LastLine}
-use Rattle.elasticlunr_job.proofs.Alike.{document_alike, plan_alike}
+use Rattle.elasticlunr_job.proofs.Alike.{given_alike, plan_alike}
 use Rattle.elasticlunr_documents.proofs.LineStops.{exit_for, no_document, on_line, on_no_device, stops_filling}
 use Rattle.elasticlunr_documents.proofs.LineStops.{unread_line}
 use Rattle.elasticlunr_documents.proofs.ReadLines.{added_blank, added_document, all_filled, feeds_next}
@@ -119,6 +123,19 @@ returns-then-not-more-clause-ok g c =
     let so_far = c.lines.invariant in
     let read = c.in_ok-value.ensures.taken in
     let options = options_told c.args.options.now in
+    let rules = options.rules in
+    let fields = options.fields in
+    let texts = texts_told c.in_ok-texts.texts.items in
+    let lists = map (λ list. texts_of list.items) c.deref-in-lines-5.result.now in
+    let kept : lists ≡ kept_lists rules fields texts =
+    ap (map (λ list. texts_of list.items)) c.deref-in-lines-5.ensures.value ∙ c.in_ok-kept.ensures
+    ∙ ap (λ names. kept_lists rules (borrowed names) (borrowed c.deref-in-lines.result.now)) c.deref.ensures.value
+    ∙ ap (λ values. kept_lists rules fields (borrowed values)) c.deref-in-lines.ensures.value in
+    let given : AreGiven texts (kept_lists rules fields texts) c.deref-in-lines-6.result.now =
+    are_given rules fields texts lists c.in_ok-values.values.items c.deref-in-lines-6.result.now kept
+    c.deref-in-lines-6.ensures.value
+    (subst (λ values. AreGiven (borrowed values) lists c.in_ok-values.values.items) c.deref-in-lines-3.ensures.value
+    c.in_ok-values.ensures) in
     let made = c.in-Ok.ensures.added in
     let value = some_filled line c.in_ok-value.value c.in-Some.value c.in_ok-value.ensures.value c.in-Some.is in
     ok_more c.made-then-not-more.result _ _
@@ -128,12 +145,12 @@ returns-then-not-more-clause-ok g c =
     (read.last c.if-not-more.true))
     (added_document options so_far.text line line c.lines.number _ _ _ so_far.whole so_far.added
     (one_last line read.no_feed)
-    _ (view c.in-Some.value) (object_told c.in_ok-object.object) _ _ made.0 value.0 value.1 c.in_ok-object.ensures.ok
-    c.as_str.ensures.value (ap (map (λ s. s.now)) c.deref.ensures.value)
-    (document_alike _ (λ z. (goal.PipelineFn-dyn g z).leaves z.1) c.args.index c.lines.index so_far.settings _ _ made.0
-    made.1) made.2)
-    (plan_alike language_name (λ z. (goal.PipelineFn-dyn g z).name_text z.1) c.args.index c.add_doc.new.self
-    (c.add_doc.ensures.settings ∙ so_far.settings))
+    _ (view c.in-Some.value) (object_told c.in_ok-object.object) _ texts made.0 value.0 value.1 c.in_ok-object.ensures.ok
+    c.as_str.ensures.value c.in_ok-texts.ensures
+    (given_alike rules fields _ (λ z. (goal.PipelineFn-dyn g z).leaves z.1) c.args.index c.lines.index so_far.settings _
+    texts made.0 (c.deref-in-lines-6.result.now, given, made.1)) made.2)
+    (plan_alike language_name (λ z. (goal.PipelineFn-dyn g z).name_text z.1) c.args.index c.add_doc_with_tokens.new.self
+    (c.add_doc_with_tokens.ensures.settings ∙ so_far.settings))
     built holds)
     c.made-then-not-more.ensures.ok
 
@@ -143,6 +160,20 @@ lines-preserved g c =
     let line = c.next_value.new.line.items in
     let so_far = c.lines.invariant in
     let read = c.in_ok-value.ensures.taken in
+    let options = options_told c.args.options.now in
+    let rules = options.rules in
+    let fields = options.fields in
+    let texts = texts_told c.in_ok-texts.texts.items in
+    let lists = map (λ list. texts_of list.items) c.deref-in-lines-5.result.now in
+    let kept : lists ≡ kept_lists rules fields texts =
+    ap (map (λ list. texts_of list.items)) c.deref-in-lines-5.ensures.value ∙ c.in_ok-kept.ensures
+    ∙ ap (λ names. kept_lists rules (borrowed names) (borrowed c.deref-in-lines.result.now)) c.deref.ensures.value
+    ∙ ap (λ values. kept_lists rules fields (borrowed values)) c.deref-in-lines.ensures.value in
+    let given : AreGiven texts (kept_lists rules fields texts) c.deref-in-lines-6.result.now =
+    are_given rules fields texts lists c.in_ok-values.values.items c.deref-in-lines-6.result.now kept
+    c.deref-in-lines-6.ensures.value
+    (subst (λ values. AreGiven (borrowed values) lists c.in_ok-values.values.items) c.deref-in-lines-3.ensures.value
+    c.in_ok-values.ensures) in
     let made = c.in-Ok.ensures.added in
     let value = some_filled line c.in_ok-value.value c.in-Some.value c.in_ok-value.ensures.value c.in-Some.is in
     record {
@@ -155,11 +186,11 @@ lines-preserved g c =
       feeds = ap (λ n. n + 1) so_far.feeds ∙ sym (feeds_next so_far.text line read.no_feed);
       added = added_document (options_told c.args.options.now) so_far.text line (fed line) c.lines.number _ _ _
           so_far.whole so_far.added (one_fed line read.no_feed)
-          _ (view c.in-Some.value) (object_told c.in_ok-object.object) _ _ made.0 value.0 value.1
-          c.in_ok-object.ensures.ok c.as_str.ensures.value (ap (map (λ s. s.now)) c.deref.ensures.value)
-          (document_alike _ (λ z. (goal.PipelineFn-dyn g z).leaves z.1) c.args.index c.lines.index so_far.settings _ _
-          made.0 made.1) made.2;
-      settings = c.add_doc.ensures.settings ∙ so_far.settings;
+          _ (view c.in-Some.value) (object_told c.in_ok-object.object) _ texts made.0 value.0 value.1
+          c.in_ok-object.ensures.ok c.as_str.ensures.value c.in_ok-texts.ensures
+          (given_alike rules fields _ (λ z. (goal.PipelineFn-dyn g z).leaves z.1) c.args.index c.lines.index
+          so_far.settings _ texts made.0 (c.deref-in-lines-6.result.now, given, made.1)) made.2;
+      settings = c.add_doc_with_tokens.ensures.settings ∙ so_far.settings;
       within = (let within = so_far.within in omega arith);
     }
 

@@ -1,9 +1,10 @@
 use Rattle.std.proofs.Common.{◌≡◌, ◌≤◌, ◌==◌, count_by}
 use Rattle.std.specs.Io.KnownBytes.{Consumes}
 use Rattle.elasticlunr_text.specs.Text.{Bytes}
-use Rattle.elasticlunr.specs.Index.{IsDocument, SameSettings, StandsFor}
+use Rattle.elasticlunr.specs.Index.{SameSettings, StandsFor}
 use Rattle.elasticlunr_lang.specs.Known.{language_name}
 use Rattle.elasticlunr_job.specs.Commands.{language_tokens}
+use Rattle.elasticlunr_job.specs.Filled.{IsMadeUnder}
 use Rattle.elasticlunr_job_format.specs.LineRead.{AreWhole}
 use Rattle.elasticlunr_job_format.specs.ObjectsTold.{options_told}
 use Rattle.elasticlunr_documents.proofs.ReadLines.{Added}
@@ -17,7 +18,8 @@ invariant-lines g l = record {
   whole : AreWhole text;
   feeds : l.before ≡ count_by (λ b. b == 10) text;
   added : Added (options_told l.fn.options) text l.number
-      (IsDocument language_tokens (λ z. (goal.PipelineFn-dyn g z).leaves z.1) l.fn.index)
+      (IsMadeUnder (options_told l.fn.options).rules (options_told l.fn.options).fields language_tokens
+      (λ z. (goal.PipelineFn-dyn g z).leaves z.1) l.fn.index)
       (StandsFor language_name (λ z. (goal.PipelineFn-dyn g z).name_text z.1) l.fn.index)
       (StandsFor language_name (λ z. (goal.PipelineFn-dyn g z).name_text z.1) l.index);
   settings : SameSettings l.fn.index l.index;

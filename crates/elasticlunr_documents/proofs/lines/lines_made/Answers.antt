@@ -59,10 +59,10 @@ returns-clause-ok g c =
     c.deref.result.now begun fields c.in_ok-add_fields.ensures.chosen in
     ok_more c.fill_and_make.result _ _
     (λ made fills.
-    let all = fills language (built_for job language (chosen c.in_ok-add_fields.field-0)
-    (choices_of c.in_ok-index.index) _ _ _ given c.in_ok-index.ensures.empty c.in_ok-index.ensures.given
-    c.in_ok-index.ensures.plan c.in_ok-index.ensures.reads
-    (c.an_index_makes_what_its_language_makes.ensures.documents language)) in
+    let all = fills language (built_for options.rules job language (chosen c.in_ok-add_fields.field-0)
+    (choices_of c.in_ok-index.index) _ _ _ _ _ c.values_with_tokens_make_what_a_language_makes.ensures given
+    c.in_ok-index.ensures.empty c.in_ok-index.ensures.given c.in_ok-index.ensures.plan c.in_ok-index.ensures.leaves
+    c.in_ok-index.ensures.reads) in
     let filled = all.2 in (
       all.0,
       all.1,

@@ -7,6 +7,8 @@ not_if false = refl
 
 pub returns : goal.returns
 returns c = rw (
+  c.in_ok-with_stored.ensures,
+  c.in_ok-rules_of.ensures,
   c.in_ok-fields.ensures,
   c.text_or-reference_key.ensures,
   c.text_or.ensures,

@@ -1,7 +1,7 @@
 use Rattle.std.proofs.Common.{subst}
 use Rattle.serde_json.specs.Data.{Data}
 use Rattle.serde_json.specs.View.{view}
-use Rattle.elasticlunr_job.specs.Answer.{FailsAt, IsMadeOf}
+use Rattle.elasticlunr_job.specs.Answer.{FailsAt, IsMadeBy}
 use Rattle.elasticlunr_job_format.specs.Job.{Job, IsJob}
 use Rattle.elasticlunr_job_format.specs.JobTold.{job_told}
 use Rattle.elasticlunr_job_format.specs.JobError.{StopsWithReason}
@@ -9,7 +9,7 @@ use Rattle.elasticlunr_job_format.specs.declared.outcome.Refusal.TheVariants as 
 use Rattle.elasticlunr_job_format.specs.declared.outcome.JobError.{JobError}
 use Rattle.elasticlunr_job_format.specs.declared.outcome.JobError.TheVariants.{Memory, Refused}
 use Rattle.elasticlunr_job.proofs.Stops.{err_more, ok_more}
-use Rattle.elasticlunr_input.specs.Settled.{Settings, IsRefusedWith, settings_told, settled}
+use Rattle.elasticlunr_input.specs.Settled.{Settings, IsRefusedWith, own_rules, settings_told, settled}
 use Rattle.elasticlunr_input.proofs.jobs.job_made_of.Goals as goal
 
 -- what stops the job with the settings stops the value with them
@@ -23,15 +23,18 @@ stops_with settings d job is (Refused refusal.DuplicateField) fails = (job, is, 
 stops_with settings d job is (Refused refusal.TooManyValues) fails = (job, is, fails)
 
 pub returns-clause-ok : goal.returns-clause-ok
-returns-clause-ok g c = ok_more c.job_made.result _ _
+returns-clause-ok g c = ok_more c.job_made_by.result _ _
     (λ made is. (
       job_told c.in_ok-parse.field-0,
       c.in_ok-parse.ensures.ok,
-      subst (λ job. IsMadeOf job (g.M.Make.makes c.args.maker.now made)) c.in_ok-job.ensures is,
-    )) c.job_made.ensures.ok
+      subst (λ job. IsMadeBy (own_rules c.args.settings.now.rules) job (g.M.Make.makes c.args.maker.now made))
+          c.in_ok-job.ensures
+          (subst (λ rules. IsMadeBy rules (job_told c.in_ok-job.job) (g.M.Make.makes c.args.maker.now made))
+          c.in_ok-rules.ensures is),
+    )) c.job_made_by.ensures.ok
 
 pub returns-clause-err : goal.returns-clause-err
-returns-clause-err g c = err_more c.job_made.result _ _
+returns-clause-err g c = err_more c.job_made_by.result _ _
     (λ stop fails. stops_with (settings_told c.args.settings.now) (view c.args.value.now)
     (job_told c.in_ok-parse.field-0) c.in_ok-parse.ensures.ok stop
-    (subst (λ job. StopsWithReason (FailsAt job) stop) c.in_ok-job.ensures fails)) c.job_made.ensures.err
+    (subst (λ job. StopsWithReason (FailsAt job) stop) c.in_ok-job.ensures fails)) c.job_made_by.ensures.err

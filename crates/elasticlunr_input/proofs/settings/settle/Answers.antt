@@ -30,4 +30,4 @@ returns c =
       | then-job-2 w ↦ w.result-is ∙ w.if-job-2.true ∙ own_pretty _ _ w.if-job-2.true
       | else-job-2 w ↦ w.result-is ∙ given_pretty _ _ w.if-job-2.false
     ] in
-    rw (c.in_ok-texts_or.ensures, c.text_or.ensures, c.text_or-2.ensures, save, pretty) refl
+    rw (c.in_ok-with_stored.ensures, c.in_ok-fields.ensures, c.text_or-reference_field.ensures, c.text_or.ensures, save, pretty) refl

@@ -1,12 +1,16 @@
-use Rattle.std.proofs.Common.{◌≤◌, [], Err, Any, map, length, inl, refl, ap, subst, ◌∙◌, arith}
+use Rattle.std.proofs.Common.{◌≡◌, ◌≤◌, [], Err, Any, map, length, inl, refl, ap, subst, ◌∙◌, arith}
 use Rattle.elasticlunr.specs.Index.{fields_of}
 use Rattle.elasticlunr_lang.specs.Known.{language_name}
 use Rattle.elasticlunr_job.specs.Answer.{HasTooMany}
+use Rattle.elasticlunr.specs.Fields.{borrowed}
+use Rattle.elasticlunr_text.specs.Text.{texts_of}
 use Rattle.elasticlunr_job.specs.Filled.{Fits}
+use Rattle.elasticlunr_job.specs.Given.{AreGiven, kept_lists}
 use Rattle.elasticlunr_job_format.specs.JobTold.{document_told, job_told}
-use Rattle.elasticlunr_job.proofs.Alike.{compacted_not, compacted_then, document_alike, fits_told, not_refused}
+use Rattle.elasticlunr_job_format.specs.Rules.{given_rules}
+use Rattle.elasticlunr_job.proofs.Alike.{compacted_not, compacted_then, fits_told, given_alike, not_refused}
 use Rattle.elasticlunr_job.proofs.Alike.{plan_alike, same_settings, still_works, too_many_told, works_then}
-use Rattle.elasticlunr_job.proofs.Filling.{Any_at, All_more, All_whole, done, next_removed, next_taken}
+use Rattle.elasticlunr_job.proofs.Filling.{Any_at, All_more, are_given, All_whole, done, next_removed, next_taken}
 use Rattle.elasticlunr_job.proofs.Printing.{carried}
 use Rattle.elasticlunr_job.proofs.Stops.{err_more, later_too_many, ok_always, ok_more}
 use Rattle.elasticlunr_job.proofs.answer.fill_and_make.Goals as goal
@@ -22,41 +26,70 @@ loop-doc-init g c = record {
   works = λ works. works;
 }
 
-pub returns-in_err-add_doc-clause-err : goal.returns-in_err-add_doc-clause-err
-returns-in_err-add_doc-clause-err g c =
+pub returns-in_err-add_doc_with_tokens-clause-err : goal.returns-in_err-add_doc_with_tokens-clause-err
+returns-in_err-add_doc_with_tokens-clause-err g c =
     let docs = c.deref-doc-items.result.now in
     let doc = c.doc-item.result in
-    let values = c.deref.result.now in
+    let rules = given_rules c.args.rules.now in
+    let fields = (job_told c.args.job.now).fields in
+    let texts = (document_told doc).values in
+    let lists = map (λ list. texts_of list.items) c.deref-in-loop-doc-5.result.now in
+    let kept : lists ≡ kept_lists rules fields texts =
+    ap (map (λ list. texts_of list.items)) c.deref-in-loop-doc-5.ensures.value ∙ c.in_ok-kept.ensures
+    ∙ ap (λ names. kept_lists rules (borrowed names) (borrowed c.deref-in-loop-doc.result.now)) c.deref.ensures.value
+    ∙ ap (λ values. kept_lists rules fields (borrowed values)) c.deref-in-loop-doc.ensures.value in
+    let given : AreGiven texts (kept_lists rules fields texts) c.deref-in-loop-doc-6.result.now =
+    are_given rules fields texts lists c.in_ok-values.values.items c.deref-in-loop-doc-6.result.now kept
+    c.deref-in-loop-doc-6.ensures.value
+    (subst (λ values. AreGiven (borrowed values) lists c.in_ok-values.values.items) c.deref-in-loop-doc-3.ensures.value
+    c.in_ok-values.ensures) in
     let same = c.loop-doc.invariant.settings in
-    later_too_many c.from_residual.result _ _ _ _ c.from_residual.ensures.1 c.loop-doc.invariant.works
-    (λ is. c.add_doc.ensures.failed.0 (c.in_err-add_doc.was ∙ ap Err is))
+    later_too_many c.from_residual-in_err-add_doc_with_tokens.result _ _ _ _
+    c.from_residual-in_err-add_doc_with_tokens.ensures.1 c.loop-doc.invariant.works
+    (λ is. c.add_doc_with_tokens.ensures.failed.0 (c.in_err-add_doc_with_tokens.was ∙ ap Err is))
     (λ is. subst (λ ds. Any (HasTooMany (fields_of c.args.index)) (map document_told ds))
     c.deref-doc-items.ensures.value
     (Any_at document_told (HasTooMany (fields_of c.args.index)) docs c.loop-doc.doc-index doc c.loop-doc-test.true
     c.doc-item.is
-    (too_many_told c.args.index c.loop-doc.index doc values same c.deref.ensures.value
-    (c.add_doc.ensures.too_many.0 (c.in_err-add_doc.was ∙ ap Err is)).1)))
-    c.in_err-add_doc.ensures.errors
+    (too_many_told c.args.index c.loop-doc.index doc (kept_lists rules fields texts)
+    c.deref-in-loop-doc-6.result.now same given
+    (c.add_doc_with_tokens.ensures.too_many.0 (c.in_err-add_doc_with_tokens.was ∙ ap Err is)).1)))
+    c.in_err-add_doc_with_tokens.ensures.errors
 
 pub loop-doc-preserved : goal.loop-doc-preserved
 loop-doc-preserved g c =
     let docs = c.deref-doc-items.result.now in
-    let i = c.loop-doc.doc-index in
     let doc = c.doc-item.result in
-    let values = c.deref.result.now in
-    let made = c.in_ok-add_doc.ensures.added in
+    let rules = given_rules c.args.rules.now in
+    let fields = (job_told c.args.job.now).fields in
+    let texts = (document_told doc).values in
+    let lists = map (λ list. texts_of list.items) c.deref-in-loop-doc-5.result.now in
+    let kept : lists ≡ kept_lists rules fields texts =
+    ap (map (λ list. texts_of list.items)) c.deref-in-loop-doc-5.ensures.value ∙ c.in_ok-kept.ensures
+    ∙ ap (λ names. kept_lists rules (borrowed names) (borrowed c.deref-in-loop-doc.result.now)) c.deref.ensures.value
+    ∙ ap (λ values. kept_lists rules fields (borrowed values)) c.deref-in-loop-doc.ensures.value in
+    let given : AreGiven texts (kept_lists rules fields texts) c.deref-in-loop-doc-6.result.now =
+    are_given rules fields texts lists c.in_ok-values.values.items c.deref-in-loop-doc-6.result.now kept
+    c.deref-in-loop-doc-6.ensures.value
+    (subst (λ values. AreGiven (borrowed values) lists c.in_ok-values.values.items) c.deref-in-loop-doc-3.ensures.value
+    c.in_ok-values.ensures) in
     let same = c.loop-doc.invariant.settings in
+    let i = c.loop-doc.doc-index in
+    let made = c.in_ok-add_doc_with_tokens.ensures.added in
     record {
-      taken = next_taken _ _ _ _ docs i doc values c.loop-doc-test.true c.doc-item.is c.deref.ensures.value
-          c.loop-doc.invariant.taken made.0 (document_alike _ (λ z. (goal.PipelineFn-dyn g z).leaves z.1) c.args.index
-          c.loop-doc.index same _ _ made.0 made.1) made.2;
-      settings = c.add_doc.ensures.settings ∙ same;
+      taken = next_taken _ _ _ _ docs i doc doc.values.items c.loop-doc-test.true c.doc-item.is refl
+          c.loop-doc.invariant.taken made.0
+          (given_alike rules fields _ (λ z. (goal.PipelineFn-dyn g z).leaves z.1) c.args.index c.loop-doc.index same _
+          texts made.0 (c.deref-in-loop-doc-6.result.now, given, made.1)) made.2;
+      settings = c.add_doc_with_tokens.ensures.settings ∙ same;
       fits = All_more document_told (λ doc. length doc.values ≤ length (fields_of c.args.index)) docs i doc
           c.loop-doc-test.true c.doc-item.is c.loop-doc.invariant.fits
-          (fits_told c.args.index c.loop-doc.index doc values same c.deref.ensures.value
-          (λ over. not_refused c.add_doc.result _ _ _ _ _ c.in_ok-add_doc.was c.add_doc.ensures.failed
-          c.add_doc.ensures.too_many over));
-      works = λ _. still_works c.add_doc.result _ _ _ _ c.in_ok-add_doc.was c.add_doc.ensures.fails;
+          (fits_told c.args.index c.loop-doc.index doc (kept_lists rules fields texts)
+          c.deref-in-loop-doc-6.result.now same given
+          (λ over. not_refused c.add_doc_with_tokens.result _ _ _ _ _ c.in_ok-add_doc_with_tokens.was
+          c.add_doc_with_tokens.ensures.failed c.add_doc_with_tokens.ensures.too_many over));
+      works = λ _. still_works c.add_doc_with_tokens.result _ _ _ _ c.in_ok-add_doc_with_tokens.was
+          c.add_doc_with_tokens.ensures.fails;
     }
 
 pub loop-reference-init : goal.loop-reference-init
@@ -87,7 +120,7 @@ returns-clause-fits g c = ok_always c.made_of.result (subst (λ ds. Fits (fields
 
 pub returns-clause-ok : goal.returns-clause-ok
 returns-clause-ok g c = ok_more c.made_of.result _ _ (λ made holds language built. elim c.if-job.branch [
-  | then-job+in_ok-compact w ↦ carried (job_told c.args.job.now) language _ _ _ _ _ (g.M.Make.makes c.args.maker.now made)
+  | then-job+in_ok-compact w ↦ carried (given_rules c.args.rules.now) (job_told c.args.job.now) language _ _ _ _ _ (g.M.Make.makes c.args.maker.now made)
       (plan_alike language_name (λ z. (goal.PipelineFn-dyn g z).name_text z.1) c.args.index c.if-job.index
       (same_settings c.args.index c.loop-reference.index w.compact.new.self c.if-job.index w.index-is
       w.compact.ensures.settings c.loop-reference.invariant.settings))
@@ -100,7 +133,7 @@ returns-clause-ok g c = ok_more c.made_of.result _ _ (λ made holds language bui
       w.compact.new.self c.if-job.index c.args.job.now.compact w.index-is w.if-job.true
       w.in_ok-compact.ensures.compacted))
       holds
-  | else-job w ↦ carried (job_told c.args.job.now) language _ _ _ _ _ (g.M.Make.makes c.args.maker.now made)
+  | else-job w ↦ carried (given_rules c.args.rules.now) (job_told c.args.job.now) language _ _ _ _ _ (g.M.Make.makes c.args.maker.now made)
       (plan_alike language_name (λ z. (goal.PipelineFn-dyn g z).name_text z.1) c.args.index c.if-job.index
       (same_settings c.args.index c.loop-reference.index c.loop-reference.index c.if-job.index w.index-is refl
       c.loop-reference.invariant.settings))

@@ -21,10 +21,13 @@ returns c =
     let contents = c.args.parts.store.now in
     let starts = beginnings_of c.args.places in
     let lengths = all_lengths contents plan.fields names in
-    let m11 = no_members in
-    let m10 = member (codes "version") (string (codes "0.9.5")) m11 in
-    let m9 = member (codes "tries") (array (texts starts.tries)) m10 in
-    let m8 = member (codes "texts") (array (counts starts.texts)) m9 in
+    let m14 = no_members in
+    let m13 = member (codes "version") (string (codes "0.9.5")) m14 in
+    let m12 = member (codes "tries") (array (texts starts.tries)) m13 in
+    let m11 = member (codes "titles") (array (counts starts.titles)) m12 in
+    let m10 = member (codes "title") (string starts.title) m11 in
+    let m9 = member (codes "texts") (array (counts starts.texts)) m10 in
+    let m8 = member (codes "sizes") (array (counts starts.sizes)) m9 in
     let m7 = member (codes "save") (boolean plan.save) m8 in
     let m6 = member (codes "references") (array (texts names)) m7 in
     let m5 = member (codes "ref") (string plan.reference_field) m6 in
@@ -58,16 +61,25 @@ returns c =
     c.in_ok-write_texts.ensures e6 in
     let e8 = member_written c.write_texts.new.out c.boolean.new.self total (codes "save") (boolean plan.save) m8
     save e7 in
-    let e9 = member_written c.boolean.new.self c.write_counts.new.out total (codes "texts") (array (counts
-    starts.texts)) m9
+    let e9 = member_written c.boolean.new.self c.write_counts.new.out total (codes "sizes") (array (counts
+    starts.sizes)) m9
     c.in_ok-write_counts.ensures e8 in
-    let e10 = member_written c.write_counts.new.out c.write_texts-2.new.out total (codes "tries") (array (texts
-    starts.tries)) m10
-    c.in_ok-write_texts-2.ensures e9 in
-    let e11 = member_written c.write_texts-2.new.out c.write_text-4.new.out total (codes "version") (string (codes
-    "0.9.5")) m11
+    let e10 = member_written c.write_counts.new.out c.write_counts-2.new.out total (codes "texts") (array (counts
+    starts.texts)) m10
+    c.in_ok-write_counts-2.ensures e9 in
+    let e11 = member_written c.write_counts-2.new.out c.write_text-4.new.out total (codes "title") (string starts.title)
+    m11
     c.in_ok-write_text-4.ensures e10 in
+    let e12 = member_written c.write_text-4.new.out c.write_counts-3.new.out total (codes "titles") (array (counts
+    starts.titles)) m12
+    c.in_ok-write_counts-3.ensures e11 in
+    let e13 = member_written c.write_counts-3.new.out c.write_texts-2.new.out total (codes "tries") (array (texts
+    starts.tries)) m13
+    c.in_ok-write_texts-2.ensures e12 in
+    let e14 = member_written c.write_texts-2.new.out c.write_text-5.new.out total (codes "version") (string (codes
+    "0.9.5")) m14
+    c.in_ok-write_text-5.ensures e13 in
     let all : c.end_object.new.self ≡ json_tokens (outline (head_value plan contents names starts)) =
-    c.in_ok-end_object.ensures ∙ e11 ∙ ap (λ ts. ts ++ members_tokens (members_outline m0))
+    c.in_ok-end_object.ensures ∙ e14 ∙ ap (λ ts. ts ++ members_tokens (members_outline m0))
     (c.in_ok-begin_object.ensures ∙ ap (λ ts. ts ++ Token.begin_object ∷ []) c.in_ok-out.ensures) in
     c.into_string.ensures ∙ ap print all ∙ print-outline (head_value plan contents names starts)

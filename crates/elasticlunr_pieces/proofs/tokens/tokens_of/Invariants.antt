@@ -3,4 +3,4 @@ use Rattle.elasticlunr_pieces.proofs.Listed.{HasSoFar}
 use Rattle.elasticlunr_pieces.proofs.tokens.tokens_of.Given as goal
 
 abbrev pub invariant-loop-trie : goal.invariant-loop-trie
-invariant-loop-trie l = HasSoFar l.all.keys (drop l.trie-index l.tries) l.tries
+invariant-loop-trie l = HasSoFar l.all.items (drop l.trie-index l.tries) l.tries

@@ -1,7 +1,6 @@
-use Rattle.std.proofs.Common.{◌≢◌, ◌∷◌, [], List, codes, inr, refl}
+use Rattle.std.proofs.Common.{◌≢◌, ◌∷◌, [], codes, inr, refl}
 use Rattle.elasticlunr.specs.AnyLanguage.TheVariants.{English as english}
-use Rattle.elasticlunr.specs.Calls.{Call, adding}
-use Rattle.elasticlunr.specs.English.{English}
+use Rattle.elasticlunr.specs.Calls.{adding}
 use Rattle.elasticlunr.specs.Kept.{KeptReads}
 use Rattle.elasticlunr_laws.proofs.ByTexts.{found_of_two, later_is_found, readable_as}
 use Rattle.elasticlunr_laws.proofs.OneField.{found_in_one}
@@ -20,15 +19,10 @@ pub returns : goal.returns
 returns c =
     let readable = readable_as (KeptReads english) _ _ _ _ c.as_str.ensures.value c.in_ok-printed.ensures.readable in
     let apart : codes "body" ≢ codes "id" = λ e. cc (e) in
-    let calls : List Call = adding c.args.other.now (c.args.other_text.now ∷ [])
-    ∷ adding c.args.reference.now (c.args.text.now ∷ []) ∷ [] in
     let found = found_of_two (KeptReads english) (codes "body") (codes "id") apart _ _ _ _ c.args.query.now _
-    (found_in_one (KeptReads english) (codes "body" ∷ []) (codes "id") calls Any (codes "body") c.args.query.now _
+    (found_in_one (KeptReads english) (codes "body" ∷ []) (codes "id") (adding c.args.other.now (c.args.other_text.now
+    ∷ []) ∷ adding c.args.reference.now (c.args.text.now ∷ []) ∷ []) Any (codes "body") c.args.query.now _
     (c.in_ok-found.ensures.found _ _ readable)) in
-    let language : English = record {} in
-    record {
-      found = found;
-      shared = later_is_found (KeptReads english) (codes "body") (codes "id") apart _ _ _ _ _ _ _ found
-          (c.calls_tell_tokens.ensures.read language) readable.were;
-      errors = tt;
-    }
+    let shared = later_is_found (KeptReads english) (codes "body") (codes "id") apart _ _ _ _ _ _ _ found
+    (c.calls_tell_tokens.ensures.read (record {})) readable.were in
+    record { found = found; shared = shared; errors = tt }

@@ -1,4 +1,4 @@
-use Rattle.std.proofs.Common.{◌+◌, ◌++◌, [], false, unwrap_or, slice_get, sym, ap, ◌∙◌, append-nil, append_assoc, refl, get_or, take}
+use Rattle.std.proofs.Common.{◌++◌, [], false, unwrap_or, slice_get, sym, ap, ◌∙◌, append-nil, append_assoc, refl, get_or, take}
 use Rattle.elasticlunr_job_format.specs.ObjectsTold.{texts_told}
 use Rattle.elasticlunr_input.specs.Warnings.{fields_warnings, has_text, property_warnings, textless_warnings, warnings_of}
 use Rattle.elasticlunr_input.proofs.Warned.{fields_step}

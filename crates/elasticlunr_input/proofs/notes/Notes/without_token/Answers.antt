@@ -1,11 +1,11 @@
-use Rattle.std.proofs.Common.{◌≡◌, ◌+◌, ◌++◌, ◌∷◌, [], ℕ, List, Bor, sym, ap, subst, ◌∙◌, append-nil, append_assoc, length, take, map, string_bytes, refl, arith}
+use Rattle.std.proofs.Common.{◌≡◌, ◌++◌, ◌∷◌, [], ℕ, Bor, sym, ap, subst, ◌∙◌, append-nil, length, take, map, string_bytes, refl, arith}
 use Rattle.std.specs.Vec.Iter.{into_iter_items}
 use Rattle.std.specs.List.Sorted.{IsPermutation}
 use Rattle.std.proofs.Math.Seq.{take-length}
 use Rattle.std.proofs.lemmas.List.{length-map, map-append, nil_from_length}
 use Rattle.std.proofs.lemmas.List.Sorted.{IsPermutation-map}
 use Rattle.elasticlunr_text.specs.Text.{Bytes, bytes_of}
-use Rattle.elasticlunr_input.specs.Warnings.{warnings_of, wordless_text}
+use Rattle.elasticlunr_input.specs.Warnings.{warnings_of}
 use Rattle.elasticlunr_input.proofs.Warned.{map_more, references_told, told, texts_of, wordless_more}
 use Rattle.elasticlunr_input.proofs.notes.Notes.without_token.Goals as goal
 

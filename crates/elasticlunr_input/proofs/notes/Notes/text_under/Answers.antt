@@ -1,0 +1,22 @@
+use Rattle.std.proofs.Common.{◌≡◌, ◌||◌, Bool, true, false, cond, ap, bytes_eq, refl, sym, ◌∙◌}
+use Rattle.std.specs.BTreeSet.{contains_text}
+use Rattle.std.specs.Option.{option_map_or}
+use Rattle.std.proofs.Math.Bool.{or-false}
+use Rattle.std.proofs.lemmas.Map.Text.{btree_set_updates_text}
+use Rattle.elasticlunr_input.proofs.notes.Notes.text_under.Goals as goal
+
+or_true : (b : Bool) → true ≡ (b || true)
+or_true true = refl
+or_true false = refl
+
+put_there : (is_key was : Bool) → cond is_key true was ≡ (was || is_key)
+put_there true was = or_true was
+put_there false was = sym (or-false was)
+
+pub returns-clause-known : goal.returns-clause-known
+returns-clause-known c k =
+    let key = c.args.key.now in
+    btree_set_updates_text _ c.in-Some.known c.insert.new.self true c.in_ok-insert.ensures.updates k
+    ∙ (ap (λ bs. cond (bytes_eq bs k) true (contains_text c.in-Some.known k)) c.in_ok-from_str.ensures.ok
+    ∙ (put_there (bytes_eq key k) (contains_text c.in-Some.known k)
+    ∙ ap (λ known. option_map_or (λ known. contains_text known k) known true || bytes_eq key k) (sym c.in-Some.is)))

@@ -1,0 +1,116 @@
+-- The document that an index makes of values with the words that rules keep is the one that is added under these rules.
+use Rattle.std.proofs.Common.{◌≡◌, ℕ, zero, suc, List, [], ◌∷◌, map, Option, None, Some, slice_get, IfSome, IsSomeAnd}
+use Rattle.std.proofs.Common.{option_map, sym, ap, subst, ◌∙◌}
+use Rattle.std.proofs.lemmas.Option.{slice_get-map}
+use Rattle.std.specs.List.{zip}
+use Rattle.std.specs.Str.{chars}
+use Rattle.elasticlunr_text.specs.Text.{Text, Bytes}
+use Rattle.elasticlunr_lang.specs.Known.{language_leaves}
+use Rattle.elasticlunr_lang.specs.declared.any.AnyLanguage.{AnyLanguage}
+use Rattle.elasticlunr.specs.Documents.{IsDocument, IsGiven}
+use Rattle.elasticlunr.specs.GivenTokens.{MayHave, MayHaveAt, value_texts}
+use Rattle.elasticlunr.specs.History.{Document, Given}
+use Rattle.elasticlunr.specs.Reading.{LanguageLeaves, LanguageReads}
+use Rattle.elasticlunr.specs.Words.{words}
+use Rattle.elasticlunr.specs.declared.values.FieldValue.{FieldValue}
+use Rattle.elasticlunr.specs.declared.values.TokenSource.{TokenSource}
+use Rattle.elasticlunr.specs.declared.values.TokenSource.TheVariants.{AsGiven, FromText, IntoPipeline}
+use Rattle.elasticlunr_job.specs.Commands.{IsAddedBy, kept_at, kept_words, ReadsBy}
+use Rattle.elasticlunr_job.specs.Given.{AreGiven, IsSourceOf, kept_lists}
+use Rattle.elasticlunr_job_format.specs.Job as asked
+use Rattle.elasticlunr_job_format.specs.Job.{Job}
+use Rattle.elasticlunr_job_format.specs.Rules.{WordRules}
+
+some_more : {X : Type 0} (o : Option X) (P Q : X → Type 0) → ((x : X) → P x → Q x) → IsSomeAnd o P → IsSomeAnd o Q
+some_more None P Q more h = absurd h
+some_more (Some x) P Q more h = more x h
+
+module _ (fields : List Bytes) (reference_field : Bytes) (reads other : ℕ → Bytes → List Text → Type 0)
+    (values : List Bytes)
+    (more : (i : ℕ) (text : Bytes) (tokens : List Text) → slice_get values i ≡ Some text → reads i text tokens
+    → other i text tokens) where
+  one_more : (i : ℕ) (there : Option Given) → option_map (λ given. given.value) there ≡ slice_get values i
+      → IfSome there (IsGiven fields reference_field reads i) → IfSome there (IsGiven fields reference_field other i)
+  one_more i None same h = tt
+  one_more i (Some given) same h = record {
+    of_reference = h.of_reference;
+    of_value = λ no. some_more given.tokens (reads i given.value) (other i given.value)
+        (λ tokens. more i given.value tokens (sym same)) (h.of_value no);
+  }
+
+  -- what reads more of these values makes the document, too
+  document_more : (reference : Bytes) (document : Document) → IsDocument fields reference_field reads reference values document
+      → IsDocument fields reference_field other reference values document
+  document_more reference document is = record {
+    its_reference = is.its_reference;
+    its_values = is.its_values;
+    each = λ i. one_more i (slice_get document.given i)
+        (sym (slice_get-map (λ (given : Given). given.value) document.given i)
+        ∙ ap (λ vs. slice_get vs i) is.its_values) (is.each i);
+  }
+
+module _ (language : AnyLanguage) where
+  abbrev Has : TokenSource → ℕ → Bytes → List Text → Type 0
+  Has = MayHave (LanguageReads words (language_leaves language)) (LanguageLeaves (language_leaves language))
+
+  -- the tokens of a text that comes with these words, or with none
+  abbrev Reads : Option (List Text) → ℕ → Bytes → List Text → Type 0
+  Reads None = LanguageReads words (language_leaves language)
+  Reads (Some kept) = λ i text tokens. LanguageLeaves (language_leaves language) kept tokens
+
+  of_source : (kept : Option (List Text)) (source : TokenSource) (i : ℕ) (text : Bytes) (tokens : List Text)
+      → IsSourceOf kept source → Has source i text tokens → Reads kept i text tokens
+  of_source None FromText i text tokens is has = has
+  of_source None (IntoPipeline given) i text tokens is has = absurd is
+  of_source None (AsGiven given) i text tokens is has = absurd is
+  of_source (Some kept) FromText i text tokens is has = absurd is
+  of_source (Some kept) (IntoPipeline given) i text tokens is has =
+      subst (λ made. LanguageLeaves (language_leaves language) made tokens) is has.left
+  of_source (Some kept) (AsGiven given) i text tokens is has = absurd is
+
+  of_value : (kept : Option (List Text)) (there : Option FieldValue) (i : ℕ) (text : Bytes) (tokens : List Text)
+      → IfSome there (λ value. IsSourceOf kept value.tokens)
+      → IsSomeAnd there (λ value. Has value.tokens i text tokens) → Reads kept i text tokens
+  of_value kept None i text tokens is has = absurd has
+  of_value kept (Some value) i text tokens is has = of_source kept value.tokens i text tokens is has
+
+  left_of_words : (i : ℕ) (text : Bytes) (tokens : List Text) → LanguageReads words (language_leaves language) i text tokens
+      → LanguageLeaves (language_leaves language) (words (chars text)) tokens
+  left_of_words i text tokens h = record { lefts = h.lefts; each = h.each; are = h.are }
+
+  same_some : {X : Type 0} (x y : X) → Some x ≡ Some y → x ≡ y
+  same_some x y e = cc
+
+  -- the words at a place are those that the rules keep of the text there
+  of_kept : (rules : WordRules) (fields texts : List Bytes) (place i : ℕ) (text : Bytes) (tokens : List Text)
+      → slice_get texts place ≡ Some text
+      → Reads (slice_get (map (λ both. kept_words rules both.0 both.1) (zip fields texts)) place) i text tokens
+      → LanguageLeaves (language_leaves language) (kept_at rules fields place text) tokens
+  of_kept rules [] texts place i text tokens there h = left_of_words i text tokens h
+  of_kept rules (field ∷ fields) [] place i text tokens there h = cc
+  of_kept rules (field ∷ fields) (first ∷ texts) zero i text tokens there h =
+      subst (λ t. LanguageLeaves (language_leaves language) (kept_words rules field t) tokens)
+      (same_some first text there) h
+  of_kept rules (field ∷ fields) (first ∷ texts) (suc place) i text tokens there h =
+      of_kept rules fields texts place i text tokens there h
+
+  read_under : (rules : Option WordRules) (fields texts : List Bytes) (i : ℕ) (text : Bytes) (tokens : List Text)
+      → slice_get texts i ≡ Some text → Reads (slice_get (kept_lists rules fields texts) i) i text tokens
+      → ReadsBy rules fields language i text tokens
+  read_under None fields texts i text tokens there h = h
+  read_under (Some rules) fields texts i text tokens there h = of_kept rules fields texts i i text tokens there h
+
+  pub added_under : (rules : Option WordRules) (job : Job) (doc : asked.Document) (handed : List FieldValue)
+      (document : Document) → AreGiven doc.values (kept_lists rules job.fields doc.values) handed
+      → IsDocument job.fields job.reference_field (MayHaveAt (LanguageReads words (language_leaves language))
+      (LanguageLeaves (language_leaves language)) handed) doc.reference (value_texts handed) document
+      → IsAddedBy rules job language doc document
+  added_under rules job doc handed document are made =
+      document_more job.fields job.reference_field (MayHaveAt (LanguageReads words (language_leaves language))
+      (LanguageLeaves (language_leaves language)) handed) (ReadsBy rules job.fields language) doc.values
+      (λ i text tokens there has. read_under rules job.fields doc.values i text tokens there
+      (of_value (slice_get (kept_lists rules job.fields doc.values) i) (slice_get handed i) i text tokens (are.sources i)
+      has)) doc.reference document
+      (subst (λ texts. IsDocument job.fields job.reference_field
+      (MayHaveAt (LanguageReads words (language_leaves language)) (LanguageLeaves (language_leaves language)) handed)
+      doc.reference texts document) are.texts_are made)

@@ -1,0 +1,10 @@
+//! Which words of a document are indexed.
+
+/// Which words of a document's values are indexed: all, where there are no rules.
+#[derive(Drop)]
+pub struct WordRules<'a> {
+    /// The fields that are stored, and of which no word is indexed.
+    pub stored: Vec<&'a str>,
+    /// How many characters a word may have; a longer one is left out.
+    pub longest: Option<usize>,
+}

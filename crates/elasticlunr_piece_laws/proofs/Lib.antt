@@ -1,0 +1,9 @@
+pub mod Added
+pub mod Alike
+pub mod Chosen
+pub mod Documents
+pub mod Enough
+pub mod Printed
+pub mod Ranking
+pub mod Told
+pub mod Whole

@@ -1,0 +1,5 @@
+pub mod Alike
+pub mod Heads
+pub mod Held
+pub mod Searched
+pub mod Whole

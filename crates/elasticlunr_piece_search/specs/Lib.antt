@@ -1,0 +1,5 @@
+pub mod Documents
+pub mod Entries
+pub mod Faults
+pub mod Pieces
+pub mod Plan

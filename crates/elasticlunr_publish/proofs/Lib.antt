@@ -1,0 +1,4 @@
+pub mod Between
+pub mod Listed
+pub mod Numbered
+pub mod Parts

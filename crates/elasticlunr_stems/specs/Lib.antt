@@ -1,0 +1,9 @@
+pub mod Tables
+pub mod Stems
+pub mod Safe
+pub mod RowViews
+pub mod Views
+pub mod Runs
+pub mod Held
+pub mod Reading
+pub mod Refused

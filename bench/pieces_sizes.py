@@ -4,35 +4,42 @@
 usage: pieces_sizes.py [--model] [SITE ..]
 
 A site is `book` (tests/browser_book.py), or a number of pages, which bench/make_job.py writes; without sites all of SITES. The
-command writes each index whole and in pieces of 16 KB. With --model the program elasticlunr_index prints it, and
+command writes each index whole and in pieces of 8 KB. With --model the program elasticlunr_index prints it, and
 tests/pieces_model.py cuts it.
 
 All sizes are in kB after `gzip -9`. A query is two words of a title, searched as the search page does, in a page that has
-nothing yet: it fetches the head, the pieces of its words, and the texts of the ten best pages. pieces_queries.js runs it in
-node; the milliseconds are without a network. The seconds are those of the command, for the whole index, and for both.
+nothing yet: it fetches the head, the pieces of its words, and the titles and the texts of the ten best pages. pieces_queries.js
+runs it in node; the milliseconds are without a network. The share is that of the median in the whole index.
+
+The command prints the whole index, writes the pieces to a new folder, and writes them once more, where the same ones are
+there, in turn and each ROUNDS times: the seconds of the processor and the megabytes are the medians, and the ratios are those of
+the pieces to the whole index. The third one compares each piece with the one that is there. TMPDIR names where the files go: on
+a disk, making some thousand files takes longer than making their texts.
 """
 import argparse
 import gzip
 import json
 import os
 import random
+import shutil
 import statistics
 import subprocess
 import sys
 import tempfile
-import time
 
 sys.path.insert(0, os.path.join(os.path.dirname(__file__), ".."))
 
+from bench.measure import measured
 from tests import browser_book, pieces_model
 from tools import search_page
 from tools.repository import TOP, program, read, write
 
 SITES = ["book", "400", "2000", "16000"]
 QUERIES = 200
+ROUNDS = 5
 DEEP = 20000  # characters of a token, whose node nests as deep
-HEADING = """| Site | Pages | Whole index | Head | First query: median, nine tenths, most | In milliseconds | Pieces of tries, of texts | Seconds |
-|---|---|---|---|---|---|---|---|"""
+HEADING = """| Site | Pages | Whole index | Head | First query: median, nine tenths, most | Share | In milliseconds | Pieces of tries, of texts, of titles | Seconds: whole, pieces, again | Ratios: pieces, again | Megabytes |
+|---|---|---|---|---|---|---|---|---|---|---|"""
 READER = [os.path.join(TOP, "browser", name) for name in ("elasticlunr-languages.js", "elasticlunr-pieces.js")]
 
 
@@ -46,16 +53,24 @@ def job_of(name, folder):
     return write(path, json.dumps({"fields": ["title", "body"], "docs": [list(section) for section in browser_book.book()]}))
 
 
-def seconds_of(*words):
-    begun = time.monotonic()
-    subprocess.run([program("elasticlunr_cli"), "build", "--format", "job", *words], stderr=subprocess.DEVNULL, check=True)
-    return time.monotonic() - begun
+def built(job, *words):
+    ended = measured([program("elasticlunr_cli"), "build", "--format", "job", *words], job, os.devnull)
+    if ended.status != 0:
+        sys.exit(f"pieces_sizes.py: elasticlunr build {' '.join(words)}: status {ended.status}")
+    return ended
 
 
 def build(job, index, folder):
-    """Writes an index whole and in pieces by the command. Gives the seconds of the whole index, and of both."""
-    alone = seconds_of(job, "-o", index)
-    return f"{alone:.2f}, {seconds_of(job, '-o', index, '--pieces', folder):.2f}"
+    """Writes an index whole, in pieces, and in the same pieces again, in turn. Gives the processor's seconds, their ratios to
+    those of the whole index, and the megabytes."""
+    rounds = []
+    for _ in range(ROUNDS):
+        shutil.rmtree(folder, ignore_errors=True)
+        rounds.append([built(job, *words) for words in (("-o", index), ("--pieces", folder), ("--pieces", folder))])
+    whole, *pieces = (statistics.median(one.processor for one in ended) for ended in zip(*rounds))
+    megabytes = (statistics.median(one.megabytes for one in ended) for ended in zip(*rounds))
+    seconds = ", ".join(f"{it:.2f}" for it in (whole, *pieces))
+    return seconds, ", ".join(f"{it / whole:.2f}" for it in pieces), ", ".join(f"{it:.0f}" for it in megabytes)
 
 
 def model(job, index, folder):
@@ -63,7 +78,7 @@ def model(job, index, folder):
     with open(job, "rb") as given, open(index, "wb") as printed:
         subprocess.run([program("elasticlunr_index")], stdin=given, stdout=printed, check=True)
     pieces_model.write(read(index), folder)
-    return "not measured"
+    return "not measured", "not measured", "not measured"
 
 
 def size(path):
@@ -79,7 +94,7 @@ def queries(job):
 
 
 def fetched(folder, asked):
-    """For each query the bytes of the tries and of the texts that it fetches, and its milliseconds."""
+    """For each query the bytes of the tries, the titles and the texts that it fetches, and its milliseconds."""
     command = ["node", os.path.join(TOP, "bench", "pieces_queries.js"), search_page.ELASTICLUNR, *READER, folder]
     return json.loads(subprocess.run(command, input=json.dumps(asked).encode(), stdout=subprocess.PIPE, check=True).stdout)
 
@@ -103,10 +118,10 @@ def measure(name, make):
         with open(os.path.join(folder, pieces_model.HEAD), encoding="utf-8") as file:
             about = json.load(file)
         told = fetched(folder, queries(job))
-    pages = len(about["references"])
+    pages, sizes = len(about["references"]), [head + sum(kinds) for *kinds, _ in told]
     columns = [name, f"{pages:,}", kilobytes(whole), f"{kilobytes(head)} ({head / pages:.1f} bytes a page)",
-               spread([head + tries + texts for tries, texts, _ in told], kilobytes), spread([it for *_, it in told], lambda it: f"{it:.0f}"),
-               f"{len(about['tries'])}, {len(about['texts'])}", took]
+               spread(sizes, kilobytes), f"{statistics.median(sizes) / whole:.3f}", spread([it for *_, it in told], lambda it: f"{it:.0f}"),
+               f"{len(about['tries'])}, {len(about['texts'])}, {len(about['titles'])}", *took]
     print(f"| {' | '.join(columns)} |", flush=True)
 
 

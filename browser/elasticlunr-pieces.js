@@ -3,20 +3,24 @@
 
      const site = await elasticlunrPieces.open("search/");
      const hits = await site.search("install", { expand: true });  // [{ ref, score }, ..], best first
+     const title = await site.title(hits[0].ref);                  // its title; null where the index has no titles
      const text = await site.doc(hits[0].ref);                     // the stored document; null where there is none
 
    In node: require("./elasticlunr-pieces.js")(elasticlunr).open(async (name) => ..).
 
    `open` takes the address of the folder of search.json, or a function that gives the text of a file of that folder by name.
+   `open(folder, { most: 8e6 })` says of how many bytes the pieces are that stay here; those that were used longest ago are let
+   go, and fetched again when they are needed.
    Scores and order are those of `index.search` of elasticlunr.js on the whole index, with the same options. Two are added for
    `expand`, since the letter `s` would fetch each word that begins so: a word with fewer characters than `minimum` (2), or one
    that begins the words of more pieces than `maxPieces` (no limit), finds itself alone. `minimum: 1` is as elasticlunr.js.
 
    `site.lookUp(query, options)` gives the hits, and each word of the query with the documents that have it. `site.tokens(text)`
-   has the tokens of a text, `site.fields` the names of the fields, and `site.folder` changes with each other index.
+   has the tokens of a text, `site.fields` the names of the fields, `site.titleField` the one of the titles, and `site.folder`
+   changes with each other index.
 
    What can't be fetched, or isn't what search.json says, is an Error whose `file` is the file's name. Its `cause` is why there
-   is no JSON text; without a `cause` the text isn't what was expected. The next call tries again. References such as
+   is no JSON text; without a `cause` the text isn't what was expected. The next call tries again. References and fields such as
    `__proto__`, which break elasticlunr.js, are found like any other. */
 (function (make) {
   "use strict";
@@ -28,6 +32,9 @@
 
   const HEAD = "search.json";
   const MINIMUM = 2; // characters of a word that `expand` makes longer
+  const MOST = 8e6; // bytes of the pieces that stay here
+  const AGAIN = 5000; // milliseconds until the head is read again, where no piece has come since it was
+  const TITLE = "title"; // the field of the titles, where a head doesn't say which
   const NOTHING = { docs: {}, count: 0 }; // the postings of a token that the index doesn't have
 
   // Order. JavaScript compares UTF-16, which isn't the order of bytes above U+FFFF: here characters are compared.
@@ -89,6 +96,17 @@
     };
   }
 
+  // How many bytes a text has in UTF-8.
+  function bytesOf(text) {
+    let bytes = 0;
+    for (const character of text) {
+      const code = character.codePointAt(0);
+      bytes += code < 0x80 ? 1 : code < 0x800 ? 2 : code < 0x10000 ? 3 : 4;
+    }
+    return bytes;
+  }
+
+  // The value of a file, and how many bytes its text has.
   async function fetchValue(get, name, cache) {
     let text;
     try {
@@ -97,7 +115,7 @@
       throw fault(name, "can't be fetched: " + (error instanceof Error ? error.message : error), error || new Error("no reason"));
     }
     try {
-      return JSON.parse(text);
+      return { value: JSON.parse(text), bytes: bytesOf(text) };
     } catch (error) {
       throw fault(name, "is cut short, or no JSON: " + error.message, error);
     }
@@ -122,11 +140,36 @@
     if (!isListOf(lengths, isColumn) || lengths.length !== fields.length) return "its lengths aren't those of its fields";
     if (!isText(head.folder) || !/^pieces-[0-9a-f]{16}$/.test(head.folder)) return "its folder isn't one of pieces";
     if (!isListOf(tries, (token) => isText(token) && token !== "") || !isSorted(tries, byBytes)) return "its tries aren't in order";
-    const isFirst = (value) => isNumberBelow(value, references.length);
-    if (!isListOf(texts, isFirst) || !isSorted(texts, byValue)) return "its texts aren't in order";
     const hasTexts = head.save && references.length > 0;
-    if (hasTexts ? texts[0] !== 0 : texts.length > 0) return "its texts aren't those of its references";
-    return null;
+    return isOlder(head) ? wrongStarts(texts, references.length, hasTexts) : wrongCountsAndSizes(head, hasTexts);
+  }
+
+  // A head of an earlier elasticlunr says neither how large its pieces are nor where titles are, and its texts are the numbers of
+  // the first references of pieces.
+  const isOlder = (head) => head.sizes === undefined && head.titles === undefined && head.title === undefined;
+
+  // What is wrong with these numbers, or null. `areThere` says whether there are pieces.
+  function wrongStarts(starts, end, areThere) {
+    if (!isListOf(starts, (value) => isNumberBelow(value, end)) || !isSorted(starts, byValue)) return "its texts aren't in order";
+    return (areThere ? starts[0] === 0 : starts.length === 0) ? null : "its texts aren't those of its references";
+  }
+
+  const isSomeNumber = (value) => isNumberBelow(value, Infinity) && value > 0;
+
+  // What is wrong with the numbers of references that pieces have, or null. All of them are in the pieces, or none.
+  function wrongCounts(name, counts, all) {
+    if (!isListOf(counts, isSomeNumber)) return `its ${name} aren't a list of numbers`;
+    return counts.reduce((sum, count) => sum + count, 0) === all ? null : `its ${name} aren't those of its references`;
+  }
+
+  // What is wrong with how many references pieces have, and how many bytes, or null.
+  function wrongCountsAndSizes({ fields, references, title, titles, tries, texts, sizes }, hasTexts) {
+    if (!isText(title)) return "lacks the field of its titles";
+    const all = hasTexts ? references.length : 0;
+    const wrong = wrongCounts("texts", texts, all) || wrongCounts("titles", titles, fields.includes(title) ? all : 0);
+    if (wrong) return wrong;
+    const count = tries.length + texts.length + titles.length;
+    return isListOf(sizes, isSomeNumber) && sizes.length === count ? null : "its sizes aren't those of its pieces";
   }
 
   // The stages have to be there: elasticlunr.js takes `constructor` for one.
@@ -138,14 +181,14 @@
   }
 
   async function fetchHead(get) {
-    const head = await fetchValue(get, HEAD, "no-cache"), wrong = wrongInHead(head), { version } = elasticlunr;
+    const { value: head } = await fetchValue(get, HEAD, "no-cache"), wrong = wrongInHead(head), { version } = elasticlunr;
     if (wrong) throw fault(HEAD, wrong);
     checkStages(head);
     if (head.version !== version) elasticlunr.utils.warn(HEAD + ": version " + head.version + ", elasticlunr.js is " + version);
     return head;
   }
 
-  // What takes the place of a trie while elasticlunr.js searches. Of a trie it calls `expandToken`, `getDocs`, `getDocFreq` and,
+  // What elasticlunr.js searches instead of a trie. Of a trie it calls `expandToken`, `getDocs`, `getDocFreq` and,
   // for what it found, `getTermFrequency`.
 
   // Finds nothing, and remembers which words a query looks up. So elasticlunr.js itself says what it needs. A word is expanded
@@ -247,8 +290,8 @@
     }
   }
 
-  // elasticlunr.js keeps scores in plain objects, which have `constructor` and other members from the beginning. Where a
-  // reference is called so, it gets another name within elasticlunr.js.
+  // elasticlunr.js keeps scores and fields in plain objects, which have `constructor` and other members from the beginning. Where
+  // a reference or a field is called so, it gets another name within elasticlunr.js.
   function namesOf(references) {
     const known = new Set(references);
     return references.map((reference) => {
@@ -258,23 +301,43 @@
     });
   }
 
+  // The number of the first reference of each piece, if the pieces have so many.
+  function startsOf(counts) {
+    let start = 0;
+    return counts.map((count) => (start += count) - count);
+  }
+
   // An index, by its head, and the pieces of it that are here.
   class Pieces {
-    constructor(get, head) {
+    constructor(get, head, most) {
       this.get = get;
       this.head = head;
+      this.most = most;
       this.names = namesOf(head.references);
+      this.fields = namesOf(head.fields);
       this.numbers = new Map(head.references.map((reference, number) => [reference, number]));
       this.references = new Map(this.names.map((name, number) => [name, head.references[number]]));
       this.store = this.makeStore();
       this.pipeline = elasticlunr.Pipeline.load(head.pipeline);
-      this.files = new Map();
+      this.files = new Map(); // for the name of each piece that is here its value, and its bytes once it has come
+      this.bytes = 0;
       this.failed = new Set();
+      this.sizes = this.sizesOf();
+      this.texts = isOlder(head) ? head.texts : startsOf(head.texts);
+      this.titles = isOlder(head) ? [] : startsOf(head.titles);
+      this.hasCome = false; // whether a piece has come since the head was read
+    }
+
+    // The size of each piece by its name; none where the head doesn't say them.
+    sizesOf() {
+      const { tries, texts, titles, sizes } = this.head, named = [["t", tries], ["d", texts], ["h", titles || []]];
+      const names = [].concat(...named.map(([letter, list]) => list.map((_, number) => letter + number + ".json")));
+      return new Map(sizes ? names.map((name, at) => [name, sizes[at]]) : []);
     }
 
     // elasticlunr.js reads the length of a field only where the store has a document. The texts come later.
     makeStore() {
-      const { fields, lengths } = this.head, docs = {}, docInfo = {};
+      const { lengths } = this.head, { fields } = this, docs = {}, docInfo = {};
       this.names.forEach((name, number) => {
         docs[name] = null;
         docInfo[name] = {};
@@ -285,18 +348,43 @@
       return { docs, docInfo, length: this.names.length, save: false };
     }
 
-    // The value of a file of the folder, read by `read`. It is fetched once, and again where that failed.
+    // The value of a file of the folder, read by `read`. It is fetched once, and again where that failed or it was let go.
     file(file, read) {
-      const name = this.head.folder + "/" + file, cache = this.failed.has(name) ? "reload" : "default";
-      if (!this.files.has(name)) {
-        const coming = fetchValue(this.get, name, cache).then((value) => read(value, name));
-        this.files.set(name, coming);
-        coming.catch(() => {
-          this.files.delete(name);
-          this.failed.add(name);
-        });
+      const name = this.head.folder + "/" + file, known = this.files.get(name);
+      if (!known) return this.fetchFile(file, name, read);
+      this.files.delete(name); // what was used last stands last
+      this.files.set(name, known);
+      return known.coming;
+    }
+
+    fetchFile(file, name, read) {
+      const entry = { bytes: 0, coming: null }, cache = this.failed.has(name) ? "reload" : "default";
+      entry.coming = fetchValue(this.get, name, cache).then(({ value, bytes }) => {
+        const size = this.sizes.get(file);
+        if (size !== undefined && size !== bytes) throw fault(name, `has ${bytes} bytes in place of ${size}, which ${HEAD} says`);
+        const made = read(value, name);
+        this.take(entry, bytes);
+        return made;
+      });
+      this.files.set(name, entry);
+      entry.coming.catch(() => {
+        this.files.delete(name);
+        this.failed.add(name);
+      });
+      return entry.coming;
+    }
+
+    // Counts a piece that has come, and lets go those that were used longest ago.
+    take(entry, bytes) {
+      this.hasCome = true;
+      entry.bytes = bytes;
+      this.bytes += bytes;
+      for (const [name, other] of this.files) {
+        if (this.bytes <= this.most) return;
+        if (other === entry || other.bytes === 0) continue; // one that hasn't come yet takes nothing
+        this.files.delete(name);
+        this.bytes -= other.bytes;
       }
-      return this.files.get(name);
     }
 
     // The tokens of a piece of the tries, each with its postings in each field.
@@ -331,15 +419,23 @@
       return { docs, count: list.length / 2 };
     }
 
-    // The documents of a piece of the texts.
-    documentsOf(number) {
-      const { texts, references } = this.head, isLast = number + 1 === texts.length;
-      const end = isLast ? references.length : texts[number + 1];
-      return this.file("d" + number + ".json", (value, name) => {
-        if (!isListOf(value, isObject)) throw fault(name, "isn't a list of documents");
-        if (value.length !== end - texts[number]) throw fault(name, "hasn't as many documents as " + HEAD + " says");
+    // The items of a piece of the texts or of the titles, of which `starts` has the number of the first reference of each.
+    listOf(letter, starts, number, isItem, items) {
+      const { references } = this.head, isLast = number + 1 === starts.length;
+      const end = isLast ? references.length : starts[number + 1];
+      return this.file(letter + number + ".json", (value, name) => {
+        if (!isListOf(value, isItem)) throw fault(name, "isn't a list of " + items);
+        if (value.length !== end - starts[number]) throw fault(name, `hasn't as many ${items} as ${HEAD} says`);
         return value;
       });
+    }
+
+    // What such pieces have for a reference, or null where there is none.
+    async itemOf(reference, letter, starts, isItem, items) {
+      const number = this.numbers.get(String(reference));
+      if (number === undefined || starts.length === 0) return null;
+      const piece = countUpTo(starts, number, byValue) - 1;
+      return (await this.listOf(letter, starts, piece, isItem, items))[number - starts[piece]];
     }
 
     // The numbers of the pieces in which a word may stand or, with `all`, those that begin so.
@@ -360,7 +456,7 @@
 
     // An index of elasticlunr.js with these tries, one for the number of each field.
     indexWith(trieOf) {
-      const { fields, ref, pipeline } = this.head, { version } = elasticlunr;
+      const { ref, pipeline } = this.head, { fields } = this, { version } = elasticlunr;
       const index = elasticlunr.Index.load({ version, fields, ref, pipeline, documentStore: this.store, index: {} });
       fields.forEach((field, at) => {
         index.index[field] = trieOf(at);
@@ -368,7 +464,19 @@
       return index;
     }
 
-    async lookUp(query, options, { minimum, maxPieces }) {
+    // An object with a member for each field, by the names that the fields have within elasticlunr.js.
+    renamed(members) {
+      const named = {};
+      for (const field of Object.keys(members)) {
+        const at = this.head.fields.indexOf(field), isLost = at < 0 && field in Object.prototype; // it is no field here
+        if (!isLost) named[at < 0 ? field : this.fields[at]] = members[field];
+      }
+      return named;
+    }
+
+    async lookUp(given, asked, { minimum, maxPieces }) {
+      const query = isObject(given) ? this.renamed(given) : given;
+      const options = isObject(asked) && isObject(asked.fields) ? { ...asked, fields: this.renamed(asked.fields) } : asked;
       const isLong = (word) => Array.from(word).length >= minimum;
       const wanted = new Wanted((word) => isLong(word) && this.numbersOf(word, true).length <= maxPieces);
       this.indexWith(() => wanted).search(query, options);
@@ -379,10 +487,11 @@
     }
 
     async doc(reference) {
-      const { texts } = this.head, number = this.numbers.get(String(reference));
-      if (number === undefined || texts.length === 0) return null;
-      const piece = countUpTo(texts, number, byValue) - 1;
-      return (await this.documentsOf(piece))[number - texts[piece]];
+      return this.itemOf(reference, "d", this.texts, isObject, "documents");
+    }
+
+    async title(reference) {
+      return this.itemOf(reference, "h", this.titles, isText, "titles");
     }
   }
 
@@ -393,8 +502,8 @@
     return number;
   }
 
-  async function openPieces(get) {
-    return new Pieces(get, await fetchHead(get));
+  async function openPieces(get, most) {
+    return new Pieces(get, await fetchHead(get), most);
   }
 
   // An index whose head may be replaced while it is searched.
@@ -403,6 +512,12 @@
       this.get = get;
       this.pieces = pieces;
       this.renewal = null;
+      this.renewed = -Infinity; // when the head was read again, and named the same folder
+    }
+
+    get titleField() {
+      const { title } = this.pieces.head;
+      return title === undefined ? TITLE : title;
     }
 
     get fields() {
@@ -432,6 +547,10 @@
       return this.ask((pieces) => pieces.doc(reference));
     }
 
+    async title(reference) {
+      return this.ask((pieces) => pieces.title(reference));
+    }
+
     // A file that is missing or wrong may be that of a head that was replaced. Then the new one is asked.
     async ask(question) {
       const { pieces } = this;
@@ -445,9 +564,10 @@
       return question(this.pieces);
     }
 
-    // Reads the head again, unless another call did or does so.
+    // Reads the head again, unless another call did or does so, or it was read a moment ago and no piece has come since.
     async renew(pieces) {
       if (this.pieces !== pieces) return;
+      if (!this.renewal && !pieces.hasCome && Date.now() - this.renewed < AGAIN) return;
       if (!this.renewal) {
         this.renewal = this.readAgain().finally(() => {
           this.renewal = null;
@@ -458,14 +578,16 @@
 
     // Takes the head that is there now, if it names another folder.
     async readAgain() {
-      const newer = await openPieces(this.get);
+      this.renewed = Date.now();
+      this.pieces.hasCome = false;
+      const newer = await openPieces(this.get, this.pieces.most);
       if (newer.head.folder !== this.pieces.head.folder) this.pieces = newer;
     }
   }
 
-  async function open(folder) {
+  async function open(folder, options) {
     const get = typeof folder === "function" ? folder : fetchFrom(String(folder));
-    return new Site(get, await openPieces(get));
+    return new Site(get, await openPieces(get, numberOf(options, "most", MOST)));
   }
 
   return { open };

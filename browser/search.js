@@ -13,6 +13,7 @@
   const TEXTS = 100; // texts that stay cut into words
   const VOCABULARY = 200000; // words whose tokens are remembered
   const PIECES = 8; // of an index that are fetched at most for the words that begin like one of the query
+  const TITLE = "title"; // the field of the titles
   const SLOW = 200; // milliseconds of a search after which the page says that it is loading
 
   const ENGLISH = {
@@ -76,7 +77,7 @@
   }
 
   // Work is a generator, which stops where the browser may come in between, and gives a promise where it has to wait for one. New
-  // work takes the place of what isn't done yet.
+  // work replaces what isn't done yet.
 
   function later(newWork, milliseconds) {
     clearTimeout(timer);
@@ -231,6 +232,7 @@
       rename(data);
       this.index = elasticlunr.Index.load(data);
       this.fields = this.index.getFields();
+      this.titleField = TITLE;
       for (const field of this.fields) quicken(field, this.index.index[field]);
     }
 
@@ -261,8 +263,21 @@
       return this.site.fields;
     }
 
+    get titleField() {
+      return this.site.titleField;
+    }
+
     tokens(text) {
       return this.site.tokens(text);
+    }
+
+    // The titles of hits, null where there is none. One that can't be had comes with the text.
+    titles(hits) {
+      const missing = (error) => {
+        console.error(error);
+        return null;
+      };
+      return Promise.all(hits.map((hit) => this.site.title(hit.ref).catch(missing)));
     }
 
     *search(text, all) {
@@ -309,6 +324,7 @@
     slow = setTimeout(say, SLOW, words.loading);
     if (text) yield* source.search(text, all);
     else wanted = found = [];
+    const titles = yield* titlesFrom(0);
     clearTimeout(slow);
     isSearching = false;
     if (results.contains(document.activeElement)) query.focus();
@@ -316,7 +332,12 @@
     shown = 0;
     bare = new Set();
     say(outcome(text, all));
-    yield* draw();
+    yield* draw(titles);
+  }
+
+  // The titles of the results that are drawn next, where they come by themselves.
+  function* titlesFrom(start) {
+    return source instanceof InPieces ? yield source.titles(found.slice(start, start + PAGE)) : [];
   }
 
   // Changes the query in the page's address, and nothing else of it.
@@ -470,7 +491,7 @@
   // What is shown of a document: its title, or else its first text, and the longest of the others.
   function shownTexts(doc) {
     const texts = source.fields.map((field) => ({ field, text: fieldText(doc, field) })).filter((one) => one.text);
-    const heading = texts.find((one) => one.field === "title") || texts[0];
+    const heading = texts.find((one) => one.field === source.titleField) || texts[0];
     const [body] = texts.filter((one) => one !== heading).sort((one, other) => other.text.length - one.text.length);
     return { heading, body };
   }
@@ -504,14 +525,24 @@
     return made;
   }
 
-  // A result without its texts. It is written from the side on which its heading begins, and its excerpt from its own.
-  function bareResult(hit) {
+  // A result without its texts: its title, or else its reference. It is written from the side on which its heading begins, and
+  // its excerpt from its own.
+  function bareResult(hit, heading) {
     const ref = renamed.get(hit.ref) ?? hit.ref, there = place(ref), href = address(there);
     const title = element(href === null ? "b" : "a", shorten(ref, LONGEST));
     const item = element("li", title, element("small", element("bdi", shorten(there, LONGEST))));
     if (href !== null) title.href = href;
     item.dir = "auto";
+    if (heading) addTitle(title, heading.trim());
     return { hit, item, title };
+  }
+
+  function addTitle(title, text) {
+    try {
+      if (text) title.replaceChildren(...passage(new Text(text), 0));
+    } catch (error) {
+      console.error(error); // a title that can't be shown hides no result
+    }
   }
 
   function* addTexts({ hit, title }, doc) {
@@ -524,10 +555,10 @@
     }
   }
 
-  function* draw() {
-    const end = Math.min(found.length, shown + PAGE);
+  function* draw(titles) {
+    const start = shown, end = Math.min(found.length, shown + PAGE);
     while (shown < end) {
-      const hit = found[shown++], result = bareResult(hit);
+      const hit = found[shown++], result = bareResult(hit, titles[shown - 1 - start]);
       if (source instanceof InPieces) bare.add(result);
       else yield* addTexts(result, hit.doc);
       results.append(result.item);
@@ -601,10 +632,16 @@
     proceed(Infinity);
     if (more.hidden) return;
     const before = shown;
-    later(draw(), 0);
+    later(drawMore(), 0);
+    next = () => {
+      const link = results.children[before] && results.children[before].querySelector("a");
+      if (link) link.focus();
+    };
     proceed(Infinity);
-    const link = results.children[before] && results.children[before].querySelector("a");
-    if (link) link.focus();
+  }
+
+  function* drawMore() {
+    yield* draw(yield* titlesFrom(shown));
   }
 
   function listen() {

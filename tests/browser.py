@@ -45,8 +45,7 @@ def run_all(world, lacking, results):
             if not is_asked(name):
                 continue
             if missing:
-                results.skipped += 1
-                print(f"{name}: skipped, without {' and '.join(missing)}", flush=True)
+                results.skip(name, missing)
             else:
                 run(name, case, world, results)
 

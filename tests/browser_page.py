@@ -22,7 +22,7 @@ SIZE = 600  # bytes of a piece
 
 
 def write_pieces(folder, index):
-    """Writes an index in pieces. A text that is none takes the place of the head."""
+    """Writes an index in pieces. Where `index` is the text of none, it is written as the head."""
     try:
         pieces_model.write(index, folder, SIZE)
     except ValueError:
@@ -318,8 +318,10 @@ def more(world):
     page.type("same")
     must(len(page.titles()) == 20 and page.status() == "45 pages", page.status())
     page.all("#more")[0].click()
+    page.until(lambda: len(page.all("#results a")) == 40)
     must(page.active() == page.all("#results a")[20], "not the first of the new results")
     page.all("#more")[0].click()
+    page.until(lambda: len(page.all("#results a")) == 45)
     must(page.active() == page.all("#results a")[40], "not the first of the last results")
     must(len(page.titles()) == 45 and not page.all("#more")[0].is_displayed(), len(page.titles()))
 

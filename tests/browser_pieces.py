@@ -173,7 +173,7 @@ def fault_of_text(wrong):
         piece = path_of(world, name, "d0")  # of one.html, which is the first by its bytes
         world.server.wrong[piece] = wrong
         page.type("same")
-        must(page.status() == "2 pages" and page.titles() == ["one.html", "Beta"] and page.marks() == ["same"], [page.status(), page.titles(), page.marks()])
+        must(page.status() == "2 pages" and page.titles() == ["Alpha", "Beta"] and page.marks() == ["same"], [page.status(), page.titles(), page.marks()])
         notes = [note.text for note in page.all("#results .bad")]
         must(len(notes) == 1 and notes[0].startswith(f"The text could not be loaded: {piece.split('/search/')[1]}: "), notes)
         page.query().send_keys(" ")
@@ -182,8 +182,26 @@ def fault_of_text(wrong):
     return case
 
 
+def fault_of_title(wrong):
+    """A title that can't be had comes with the text."""
+    def case(world):
+        name = "fault-title"
+        page = Page(world, fresh(world, name))
+        title, text = path_of(world, name, "h0"), path_of(world, name, "d0")
+        world.server.wrong[title] = wrong
+        held = world.hold(text)
+        page.query().send_keys("same")
+        page.until(lambda: at_first(page) == ["one.html", "Beta"])
+        held.set()
+        must(page.titles() == ["Alpha", "Beta"] and page.marks() == ["same", "same"] and not page.all("#results .bad"), page.titles())
+        world.server.held.pop(text, None)
+        page.query().send_keys(" ")
+        must(page.titles() == ["Alpha", "Beta"], page.titles())
+    return case
+
+
 def faults():
-    kinds = {"the head": fault_of_head, "a piece of the tries": fault_of_trie, "a piece of the texts": fault_of_text}
+    kinds = {"the head": fault_of_head, "a piece of the tries": fault_of_trie, "a piece of the texts": fault_of_text, "a piece of the titles": fault_of_title}
     return [(f"pieces: {wrong} for {what}", in_pieces(case(wrong))) for what, case in kinds.items() for wrong in WRONG]
 
 
@@ -193,18 +211,22 @@ def at_first(page):
 
 
 def texts_later(world):
-    """References come first, and each text when it is there."""
+    """Titles come first, and each text when it is there."""
     name = "texts-later"
     page = Page(world, fresh(world, name))
-    first, second = (world.hold(path_of(world, name, piece)) for piece in ["d0", "d2"])
+    title, first, second = (world.hold(path_of(world, name, piece)) for piece in ["h0", "d0", "d2"])
     page.query().send_keys("same")
-    page.until(lambda: at_first(page) == ["one.html", "two.html"])
-    must(page.script("document.getElementById('status').textContent") == "2 pages" and page.script("document.getElementById('results').ariaBusy") == "true", "not busy")
-    second.set()
-    page.until(lambda: at_first(page) == ["one.html", "Beta"])
-    must(page.script("document.querySelectorAll('#results p.excerpt').length") == 1, "no excerpt")
-    first.set()
+    page.until(lambda: path_of(world, name, "h0") in world.server.asked)
+    must(at_first(page) == [] and page.script("document.getElementById('results').ariaBusy") == "true", at_first(page))
+    title.set()
     page.until(lambda: at_first(page) == ["Alpha", "Beta"])
+    must(page.script("document.getElementById('status').textContent") == "2 pages" and page.script("document.getElementById('results').ariaBusy") == "true", "not busy")
+    must(page.script("document.querySelectorAll('#results p.excerpt').length") == 0, "an excerpt")
+    second.set()
+    page.until(lambda: page.script("document.querySelectorAll('#results p.excerpt').length") == 1)
+    must(at_first(page) == ["Alpha", "Beta"], at_first(page))
+    first.set()
+    page.until(lambda: page.script("document.querySelectorAll('#results p.excerpt').length") == 2)
     must(page.marks() == ["same", "same"], page.marks())
 
 
@@ -215,9 +237,10 @@ def more_later(world):
     page = Page(world, fresh(world, name, docs))
     held = world.hold(path_of(world, name, "d7"))
     page.query().send_keys("same")
-    page.until(lambda: len(at_first(page)) == 20 and at_first(page).count("07.html") == 1 and sum(text.startswith("Page") for text in at_first(page)) == 19)
+    excerpts = lambda: page.script("document.querySelectorAll('#results p.excerpt').length")
+    page.until(lambda: at_first(page) == [f"Page {number}" for number in range(20)] and excerpts() == 19)
     page.script("document.getElementById('more').click()")
-    page.until(lambda: len(at_first(page)) == 40 and sum(text.startswith("Page") for text in at_first(page)) == 39)
+    page.until(lambda: at_first(page) == [f"Page {number}" for number in range(40)] and excerpts() == 39)
     must(page.active().text == "Page 20", page.active().text)
     held.set()
     must(page.titles() == [f"Page {number}" for number in range(40)], page.titles())
@@ -356,7 +379,7 @@ def hostile_texts(world):
 
 def cases():
     own = [
-        ("pieces: references first, and each text as it comes", texts_later),
+        ("pieces: titles first, and each text as it comes", texts_later),
         ("pieces: more results while texts are loading", more_later),
         ("pieces: a query while another one is loading", another_query),
         ("pieces: keys while a query is loading", keys_while_loading),

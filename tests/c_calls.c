@@ -3,12 +3,12 @@
    usage: c_calls MODE CALL
 
    CALL is the call that is made: `answer` is elasticlunr_answer, and then elasticlunr_answer_into for the same job;
-   `index_documents` is elasticlunr_index_documents; `search` is elasticlunr_search, and such an input is eight bytes with the
+   `index_documents` is elasticlunr_index_documents; `index_pieces` is elasticlunr_index_pieces; `search` is elasticlunr_search, and such an input is eight bytes with the
    length of an index, its text and the search. MODE is what is tried. `answers`: prints each answer: its status, eight bytes
-   with its length, and its bytes. `refused`: refuses each request for memory of each call in turn; where the bytes are malformed,
-   none of them is of more than ROOM bytes for a byte of the input, even if its numbers are large. `threads`: four threads make all
-   calls at the same time, and each answer is as alone. At a fault a line on the error stream says what is wrong, and the status
-   is 3. */
+   with its length, and its bytes. `once`: the same of the first call alone. `refused`: refuses each request for memory of each
+   call in turn; where the bytes are malformed, none of them is of more than ROOM bytes for a byte of the input, even if its
+   numbers are large. `threads`: four threads make all calls at the same time, and each answer is as alone. At a fault a line on
+   the error stream says what is wrong, and the status is 3. */
 #include "elasticlunr.h"
 #include <pthread.h>
 #include <stdio.h>
@@ -54,6 +54,11 @@ static uint32_t index_documents(const struct input *input, uint8_t **text, size_
     return elasticlunr_index_documents(input->whole.first, input->whole.length, text, length);
 }
 
+static uint32_t index_pieces(const struct input *input, uint8_t **text, size_t *length)
+{
+    return elasticlunr_index_pieces(input->whole.first, input->whole.length, text, length);
+}
+
 static uint32_t search(const struct input *input, uint8_t **text, size_t *length)
 {
     return elasticlunr_search(input->index.first, input->index.length, input->whole.first, input->whole.length, text, length);
@@ -62,6 +67,7 @@ static uint32_t search(const struct input *input, uint8_t **text, size_t *length
 static const struct call calls[] = {
     {"answer", answer, elasticlunr_answer_into, 0},
     {"index_documents", index_documents, NULL, 0},
+    {"index_pieces", index_pieces, NULL, 0},
     {"search", search, NULL, 1},
 };
 static const struct call *call;
@@ -223,6 +229,16 @@ static void check_answers(void)
     }
 }
 
+/* Each answer of the first call alone, for those who count what a call takes. */
+static void call_once(void)
+{
+    for (size_t number = 0; number < count; number++) {
+        struct answer made = answer_to(number);
+        print(made);
+        give_back(made);
+    }
+}
+
 /* The call to the caller's bytes with the request of this number refused. They have no room for the answer. */
 static void refuse_into(size_t number, struct answer whole, long request)
 {
@@ -307,6 +323,8 @@ int main(int words, char **word)
     read_inputs();
     if (is_word(word[1], "answers"))
         check_answers();
+    else if (is_word(word[1], "once"))
+        call_once();
     else if (is_word(word[1], "refused"))
         check_refused();
     else if (is_word(word[1], "threads"))

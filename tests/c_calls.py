@@ -6,13 +6,17 @@ usage: c_calls.py [WORD ..]
 Each job of the table is answered as the table says, in a block of malloc and in the caller's bytes, by the archives and by
 the shared library; with each request for memory refused in turn; by four threads at the same time; and under valgrind, where
 it is installed. So are documents in the flat form: those of the table as the table says, and made, refused and damaged ones as
-the model says (flat_model.py); and searches of indexes, as the built command answers them (search_inputs.py). The example of
+the model says (flat_model.py); documents whose index is cut into pieces, as it says, too (cutting_inputs.py); and searches of indexes, as the built command answers them (search_inputs.py). The example of
 examples/c is built as its first line says. With words, only the cases are tried that have one of them in their names, such as
 `LLVM` or `index_documents`.
+
+A call takes about as many instructions as the program for the same job, as valgrind counts them, and `build_index` of Python at
+most one and a half times the seconds of the call.
 
 If FORGED_LIBRARY is set, it is the folder of the one library that is tried, and none is built (tests/forgeries.py).
 """
 import functools
+import json
 import os
 import shutil
 import struct
@@ -23,12 +27,14 @@ from typing import NamedTuple
 
 sys.path.insert(0, os.path.join(os.path.dirname(__file__), ".."))
 
-from tests import flat_inputs, flat_model, search_inputs
+from bench import make_job
+from tests import cutting_inputs, flat_inputs, flat_model, python_pieces, search_inputs
 from tests.flat_model import AS_GIVEN, Document, Input, Value
+from tests.growth import COUNTING, Runs
 from tests.report import Results, is_asked
 from tests.tables import jobs, row_of
 from tools import library
-from tools.repository import TOP, run
+from tools.repository import TOP, program, run, write
 
 FEW = 40  # of the shortest jobs, whose requests are refused and which valgrind watches
 FEW_MADE = 120  # of the shortest made inputs, and of these each second one
@@ -40,8 +46,24 @@ SHOWN = 40  # failures that are printed
 DEEP = 20_000  # levels of Python; the tree of a long token has one for each character
 VALGRIND = ["valgrind", "--quiet", "--error-exitcode=9", "--leak-check=full", "--errors-for-leak-kinds=definite"]
 LEAST_SEARCHES, LEAST_DAMAGED_SEARCHES, LEAST_NO_INDEX = 250, 600, 15  # inputs
-LEAST_REFUSED = {"answer": 2_000, "index_documents": 15_000, "search": 5_000}  # requests of each call
-PARTS = ("answer", "index_documents", "search", "symbols", "Python", "the example")
+LEAST_CUT, LEAST_DAMAGED_CUT = 250, 2_400  # inputs
+LEAST_REFUSED = {"answer": 2_000, "index_documents": 15_000, "index_pieces": 8_000, "search": 5_000}  # requests of each call
+PARTS = ("answer", "index_documents", "index_pieces", "search", "symbols", "Python", "pieces of Python", "the example", "speed")
+DOCUMENTS, WORDS = 3_000, 100  # of the job whose speed is measured, and of each of them
+DEARER, DEARER_FROM_PYTHON = 1.03, 1.5  # times what the program takes, and what the call takes
+SPEED = """
+import json, sys, time
+import elasticlunr
+documents = json.load(open(sys.argv[1]))
+job = json.dumps({"fields": ["title", "body"], "docs": [[it["id"], it["title"], it["body"]] for it in documents]}).encode()
+def seconds(call):
+    begun = time.process_time()
+    call()
+    return time.process_time() - begun
+rounds = [(seconds(lambda: elasticlunr._answer("elasticlunr_answer", job)),
+           seconds(lambda: elasticlunr.build_index(documents, ["title", "body"]))) for _ in range(7)]
+print(*map(min, zip(*rounds)))
+"""
 EXAMPLE = {"fields": ["body"], "docs": [["1", "go"]]}  # a job of the table
 PAGE = "[{'id': 1, 'tags': 'the-pages', 'body': 'Red pages'}], fields=['tags', 'body']"
 PARTS_OF_TAGS = "tokens=lambda field, text: text.split('-') if field == 'tags' else None"
@@ -100,6 +122,20 @@ PYTHON = [
     ("an unknown need", "ValueError needed is 'all' instead of 'one', 'each in one field', 'each'", f"search({FOXES}, 'fox', needed='all')"),
     ("a boost past 255", "ValueError the boost of 'body' is not a whole number from 0 to 255", f"search({FOXES}, 'fox', boosts={{'body': 256}})"),
     ("a limit below 0", "ValueError limit is -1 instead of a whole number from 0 to 2^32 - 1", f"search({FOXES}, 'fox', limit=-1)"),
+    ("a member that is stored", Input(("a", "kind"), (Document("1", (Value("go"), Value("going", AS_GIVEN))),)),
+     "build_index([{'id': 1, 'a': 'go', 'kind': 'going'}], ['a'], store=['kind', 'id'])"),
+    ("a field that is stored", Input(("a", "b"), (Document("1", (Value("go", AS_GIVEN), Value("on"))),)), "build_index([{'id': 1, 'a': 'go', 'b': 'on'}], store=('a',))"),
+    ("stages of the caller", Input(("a",), (Document("1", (Value("Go on", AS_GIVEN, ("Go",)),)),), "own", ("trimmer",)),
+     "build_index([{'id': 1, 'a': 'Go on'}], lang='own', stages=['trimmer'], tokens=lambda _, text: text.split()[:1])"),
+    ("stages, and no tokens", Input(("a",), (Document("1", (Value("Go on"),)),), "own", ()), "build_index([{'id': 1, 'a': 'Go on'}], lang='own', stages=[])"),
+    ("a stored member, and a pretty text", "ValueError store and pretty can't be used together", "build_index([], store=['a'], pretty=True)"),
+    ("the reference is indexed", Input(("title", "key"), (Document("7", (Value("go"), Value("7"))), Document("red", (Value(""), Value("red"))))),
+     "build_index([{'key': 7, 'title': 'go'}, {'key': 'red'}], ['title'], ref='key', index_ref=True)"),
+    ("the reference is indexed, and its name is taken", Input(("id", "id2"), (Document("1", (Value("1", AS_GIVEN, ("id", "1")), Value("b", AS_GIVEN, ("id2", "b")))),), ref="id3"),
+     "build_index([{'id': '1', 'id2': 'b'}], ['id', 'id2'], index_ref=True, tokens=lambda *it: it)"),
+    ("the reference is only stored", Input(("a", "id"), (Document("1", (Value("go"), Value("1", AS_GIVEN))),), ref="id2"),
+     "build_index([{'id': '1', 'a': 'go'}], ['a'], index_ref=True, store=['id'])"),
+    ("a number as reference that is a field", "TypeError document 1: its 'id' is not a text", "build_index([{'id': 1}], ['id'])"),
     ("tokens, and a pretty text", "ValueError tokens and pretty can't be used together", f"build_index({PAGE}, {FROM_LANGUAGE}, pretty=True)"),
 ]
 
@@ -185,6 +221,40 @@ def check_python(made, results):
         results.note(ended.out.decode(errors="replace") == printed(row), f"c, Python, {name}: {ended.out[:100]!r}, {ended.err[-300:]!r}")
 
 
+class OneRun(Runs):
+    """Runs whose answer is compared elsewhere."""
+
+    def wrong(self, status):
+        return status != 0 and f"status {status}"
+
+
+def documents_of_words():
+    """Documents of the words of the machine's texts."""
+    words = make_job.words([os.path.join(TOP, "docs"), *make_job.USUAL], DOCUMENTS * WORDS)
+    parts = [words[at : at + WORDS] for at in range(0, len(words), WORDS)]
+    return [{"id": str(number), "title": " ".join(part[:5]), "body": " ".join(part[5:])} for number, part in enumerate(parts)]
+
+
+def check_speed(compiler, made, programs, folder, results):
+    """What a call takes next to the program, and `build_index` next to a call."""
+    documents = documents_of_words()
+    job = json.dumps({"fields": ["title", "body"], "docs": [list(it.values()) for it in documents]})
+    whole, asked = write(os.path.join(folder, "job"), job), os.path.join(folder, "asked")
+    with open(asked, "wb") as file:
+        file.write(struct.pack("<Q", len(job)) + job.encode())
+    if compiler == "LLVM" and shutil.which(COUNTING[0]):
+        alone, called = (OneRun(command, given, os.devnull).instructions() for command, given in [
+            ([program("elasticlunr_index")], whole), ([programs["archive"], "once", "answer"], asked)])
+        results.note(0 < called <= DEARER * alone, f"c, speed: {called} instructions of a call, and {alone} of the program")
+        print(f"c, {compiler}, speed: {called / 1e6:.0f} million instructions of a call, and {alone / 1e6:.0f} of the program", flush=True)
+    listed_in = write(os.path.join(folder, "documents"), json.dumps(documents))
+    environment = {**os.environ, "PYTHONPATH": os.path.join(TOP, "python"), "ELASTICLUNR_LIBRARY": os.path.join(made, "lib", "libelasticlunr.so")}
+    said = library.ran([sys.executable, "-c", SPEED, listed_in], env=environment)
+    call, python = map(float, said.split())
+    results.note(python <= DEARER_FROM_PYTHON * call, f"c, speed: {python:.3f} s of build_index, and {call:.3f} s of a call")
+    print(f"c, {compiler}, speed: {python:.3f} s of build_index in Python, and {call:.3f} s of a call", flush=True)
+
+
 def check_symbols(made, results):
     """Whether the shared library shows the functions of the header, and no other."""
     shared = os.path.join(made, "lib", "libelasticlunr.so")
@@ -218,6 +288,18 @@ def documents_asked(results):
 
 
 @functools.cache
+def cuttings_asked(results):
+    """Documents whose index is cut into pieces. Counts whether they are enough."""
+    made, damaged = cutting_inputs.rows_of_made(), cutting_inputs.rows_of_damaged()
+    for rows, least in [(made, LEAST_CUT), (damaged, LEAST_DAMAGED_CUT)]:
+        results.note(len(rows) >= least, f"c, index_pieces: {len(rows)} inputs, and {least} are the least")
+    wrong = cutting_inputs.wrongly_decoded()
+    results.note(not wrong, f"c, index_pieces: {len(wrong)} inputs are not read back from their bytes: {wrong[:1]}")
+    few = [*shortest(made, FEW_MADE)[::2], *damaged[::EACH]]
+    return Call("index_pieces", [*made, *damaged], few)
+
+
+@functools.cache
 def searches_asked(results):
     """Searches in the flat form. Counts whether they are enough."""
     made, damaged, other = search_inputs.rows_of_searches(), search_inputs.rows_of_damaged(), search_inputs.rows_of_other_texts()
@@ -242,10 +324,13 @@ def check_library(compiler, made, folder, results):
     checks = [
         lambda: check_call(compiler, jobs_asked(), programs, results),
         lambda: check_call(compiler, documents_asked(results), programs, results),
+        lambda: check_call(compiler, cuttings_asked(results), programs, results),
         lambda: check_call(compiler, searches_asked(results), programs, results),
         lambda: check_symbols(made, results),
         lambda: check_python(made, results),
+        lambda: python_pieces.check_all(made, results),
         lambda: check_example(made, folder, results),
+        lambda: check_speed(compiler, made, programs, folder, results),
     ]
     for part, check in zip(PARTS, checks):
         if is_asked(f"{compiler}, {part}"):

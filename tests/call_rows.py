@@ -8,7 +8,7 @@ from typing import NamedTuple
 
 from tools.repository import read
 
-TABLES = [f"crates/elasticlunr_test_calls/src/{name}_rows.rt" for name in ("content", "stage", "index")]
+TABLES = [f"crates/elasticlunr_tests/src/{name}_rows.rt" for name in ("content", "stage", "index")]
 BEGINS, ENDS = 'r##"', '"##'  # the text of the rows in such a file
 # how many rows and calls the table has
 ROWS = 153

@@ -9,17 +9,22 @@ its name.
 - A block of Rust is the root file of a library, or a file of elasticlunr_uses, byte for byte, so `rt ci`, which proves every
   crate, has proved it. A block of proofs after one is the file of that crate whose path the block begins with. A page that
   shows a file of a crate, or its line of crates.txt, shows the whole crate, that line and each file that a proof reads;
-  elasticlunr_uses alone is shown in part. README.md may leave out the proofs of a crate that LIBRARY.md shows whole. Nothing
-  is shown twice on a page.
+  elasticlunr_uses alone is shown in part. README.md may leave out the specs and proofs of a crate that LIBRARY.md shows whole.
+  Nothing is shown twice on a page.
 - A block of lines of crates.txt has lines that crates.txt has.
+- The blocks `rattle` of a page are crates that its reader is to have, each file after the line `// crates/PATH`. With their lines
+  of crates.txt, and over a copy of all crates, `rt try` must run the last of them: it gets a page and prints its index. They are
+  not proved.
 - Each command of a block of shell runs at the top of the repository and must end well. Where lines follow it, it must print
   these, its seconds apart. `make test`, which runs this check, `make compare`, what downloads, and `make try` on a page that
   is not the repository's own are only looked up.
 - A block of JSON is a job, which the built program must answer as the definitions say (model.py), or documents, which
   `elasticlunr check` must accept. In README.md it is a job.
+- The parts of a text that docs/THEOREM.md works by hand are, one after the other, what the table of jobs has for the job of that page.
 - A page has each kind of block that it needs (NEEDED).
 - A link leads to a file, and to a heading of it. In README.md and docs/PROVED.md each name of code is in a crate. There and in
   each CALLING.md, a clause that the page names is one of that call, and a law is there (clauses.py).
+- docs/CLAIMS.md is what tools/claims.py prints.
 - Where a page names the logic of the kit, it is that of the kit here (`rt version`).
 """
 import collections
@@ -28,25 +33,31 @@ import glob
 import json
 import os
 import re
+import shutil
 import sys
+import tempfile
 
 sys.path.insert(0, os.path.join(os.path.dirname(__file__), ".."))
 
-from tests import clauses, model
+from tests import clauses, model, tables
 from tests.report import Results
-from tools import crates
-from tools.repository import TOP, lines_of, program, read, run
+from tools import claims, crates
+from tools.repository import TOP, lines_of, program, read, run, write
 
 PAGES = ["README.md", "CONTRIBUTING.md", "docs/*.md", "crates/*/CALLING.md"]
-CLAIMS = ("README.md", "PROVED.md")  # pages whose names of code are looked up
+CLAIMS = ("README.md", "PROVED.md", "THEOREM.md")  # pages whose names of code are looked up
 USES = "elasticlunr_uses"  # a page may show some files of this crate; any other crate is shown whole
 RUST, PROOF, CRATE, LINES, SHELL, JOB, JSON = "Rust", "a proof", "a whole crate", "lines of crates.txt", "shell", "a job", "JSON"
+OWN = "crates of the reader"
+OWN_PAGE = ("guide/install.html", "Installing", "Copy the folder into your site.")  # what their program gets, with tabs between
 NEEDED = {  # what a page has, by its name
     "README.md": (CRATE, LINES, SHELL, JOB),
-    "LIBRARY.md": (CRATE, PROOF, LINES),
+    "LIBRARY.md": (CRATE, PROOF, LINES, OWN),
     "BROWSER.md": (SHELL,),
     "COMMAND.md": (SHELL, JOB, JSON),
     "SEARCH.md": (SHELL,),
+    "SITES.md": (SHELL,),
+    "THEOREM.md": (JOB,),
 }
 LONG = re.compile(r"make (test|compare|demo)\b")
 SLOW = re.compile(r"make try\b")  # takes up to a minute
@@ -106,11 +117,47 @@ def code_failures(found):
             yield line, name, None if is_there else f"{os.path.relpath(at, TOP)} is another text"
 
 
-def lines_of_crates(found):
-    """The lines of crates.txt that a page has, each with the number of the first line of its block."""
+def all_lines_of_crates(found):
     for kind, line, text in found:
         if kind == "text" and re.fullmatch(r"(\w+:( \w+)+\n)+", text):
             yield from ((line, it) for it in text.splitlines())
+
+
+def lines_of_crates(found):
+    """The lines of crates.txt that a page has, each with the number of the first line of its block; not those of the reader."""
+    return [(line, text) for line, text in all_lines_of_crates(found) if text.partition(":")[0] not in own_crates(found)]
+
+
+def own_files(found):
+    """The files of the crates that a page's reader is to have, by their paths in crates/."""
+    texts = [text for kind, _, text in found if kind == "rattle"]
+    return {text.partition("\n")[0].removeprefix("// crates/"): text for text in texts}
+
+
+def own_crates(found):
+    return [path.partition("/")[0] for path in own_files(found)]
+
+
+def own_failures(found):
+    """Why the last of the crates that a page's reader is to have is not compiled, or doesn't print the index of a page."""
+    own = own_crates(found)
+    if not own:
+        return
+    lines = [text for _, text in all_lines_of_crates(found) if text.partition(":")[0] in own]
+    with tempfile.TemporaryDirectory() as folder:
+        for crate in crates.crates():
+            for part in crates.PARTS:
+                if os.path.isdir(os.path.join(crates.folder(crate), part)):
+                    shutil.copytree(os.path.join(crates.folder(crate), part), os.path.join(crates.folder(crate, folder), part))
+        shutil.copy(os.path.join(TOP, "HANDLES"), folder)
+        write(os.path.join(folder, "crates.txt"), read("crates.txt") + "".join(it + "\n" for it in lines))
+        for path, text in own_files(found).items():
+            write(os.path.join(folder, "crates", path), text)
+        ended = run(["rt", "try"], ("\t".join(OWN_PAGE) + "\n").encode(), 60 * MINUTES, cwd=crates.folder(own[-1], folder))
+    expected, _ = model.answer(json.dumps({"fields": ["title", "body"], "docs": [OWN_PAGE]}).encode())
+    is_right = (ended.status, ended.out.decode(errors="replace")) == (0, expected)
+    said = [it for it in ended.err.decode(errors="replace").splitlines() if "error" in it]
+    yield 0, OWN, None if is_right else f"`rt try`: status {ended.status}: {' '.join(said)[-300:]}"
 
 
 def crate_failures(name, found):
@@ -124,7 +171,7 @@ def crate_failures(name, found):
     for crate in sorted((listed | crates_of(found)) - {USES}):
         paths = paths_of(crate, found)
         if name == "README.md" and crate in whole_in_library():
-            paths |= {it for it in files_of(crate) if it.startswith("proofs")}
+            paths |= {it for it in files_of(crate) if it.startswith(("specs", "proofs"))}
         yield 0, crate, part_failure(crate, paths, crate in listed)
 
 
@@ -164,12 +211,21 @@ def part_failure(crate, paths, is_listed):
     return None if is_listed else "the page has no line of crates.txt for it"
 
 
+def worked_failures(text, found):
+    """Whether the parts in the first column of the last table are, one after the other, what the table of jobs has for the job."""
+    row = next((tables.row_of(json.loads(block)) for kind, _, block in found if kind == "json"), None)
+    parts = re.findall(r"^\| `(.*?)` \| ", text[text.rindex("\n|---|---|\n") :], re.MULTILINE)
+    is_right = row and row.out.decode() == "".join(parts) + "\n"
+    yield 0, "an index by hand", None if is_right else "its parts are not what the table of jobs has"
+
+
 def kinds(found):
     """What a page has, of what a page may need."""
     names = {"console": SHELL, "json": JSON}
     there = {names.get(kind) for kind, _, _ in found} | {it for _, it, _, _, _ in shown(found)}
     there |= {JOB for kind, _, text in found if kind == "json" and is_job(text)}
     there |= {CRATE for _ in crates_of(found) - {USES}}
+    there |= {OWN for _ in own_files(found)}
     return there | {LINES for _ in lines_of_crates(found)}
 
 
@@ -270,8 +326,13 @@ def tried(path):
     yield 0, "the kit", logic_failure(text)
     yield from code_failures(found)
     yield from crate_failures(name, found)
+    yield from own_failures(found)
     yield from needed_failures(name, found)
     yield from link_failures(text, os.path.dirname(page))
+    if name == "THEOREM.md":
+        yield from worked_failures(text, found)
+    if name == "CLAIMS.md":
+        yield 0, "clauses and mutants", None if text == claims.page() else "tools/claims.py prints another page: `make claims`"
     if name in CLAIMS:
         yield from name_failures(text)
     if name in (*CLAIMS, "CALLING.md"):

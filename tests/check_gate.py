@@ -27,7 +27,7 @@ CHANGE = "echo '// more' >>crates/prog/src/main.rt"
 CHANGE_AND_BACK = "cp crates/prog/src/main.rt out/old; " + CHANGE + "; cp out/old crates/prog/src/main.rt"
 STUB = 'print("stub: 1000000 passed, 0 failed")\n'
 
-TESTS = "elasticlunr_test_calls"  # the crate whose tests the checks run
+TESTS = "elasticlunr_tests"  # the crate whose tests the checks run
 RT = rf"""#!/bin/sh
 [ "$1" = version ] && {{ echo "a kit"; exit; }}
 cd "$TOP" && mkdir -p crates/prog/out crates/{TESTS}/out

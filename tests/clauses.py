@@ -11,8 +11,8 @@ import re
 
 from tools.repository import TOP, read
 
-OWNER = re.compile(r"(?:pub )?(?:trait (\w+)|impl(?:<.*?>)? (?:.* for )?(\w+))")
-FUNCTION = re.compile(r'(    )?(?:pub(?:\(\w+\))? )?(?:const |unsafe |final |extern "C" )*fn (\w+)')
+OWNER = re.compile(r"(pub )?(?:trait (\w+)|impl(?:<.*?>)? (?:(\w+).* for )?(\w+))")
+FUNCTION = re.compile(r'(    )?(pub )?(?:pub\(\w+\) )?(?:const |unsafe |final |extern "C" )*fn (\w+)')
 CLAUSE = re.compile(r"\s+(?:ensures|requires)\*? ?(\w*) ?\{")
 BODY = re.compile(r"(?:    )?(?:\{|\{\})$|.*;$")
 QUOTED = re.compile(r"^fn ([\w:]+)(?:<.*?>)?\(.*\n((?:  .*\n)*)", re.MULTILINE)
@@ -26,28 +26,39 @@ WORD = re.compile(r"`([\w:]+)`")
 
 
 class Call:
-    """A function: its crate, the type or trait that it belongs to, its name, its file, and the names of its clauses."""
+    """A function: its crate, the type or trait that it belongs to, its name, its file, the number of its first line, and its lines.
+    `clauses` has the names of its clauses in their order, and whether each is ensured. `trait` is the trait of its `impl`. `is_open`
+    says whether it is `pub`, or a method of a trait that is."""
 
-    def __init__(self, crate, owner, name, path):
-        self.crate, self.owner, self.name, self.path = crate, owner, name, path
-        self.clauses = set()
+    def __init__(self, crate, owner, name, path, line=0):
+        self.crate, self.owner, self.name, self.path, self.line = crate, owner, name, path, line
+        self.trait = None
+        self.is_open = False
+        self.clauses = {}
+        self.lines = []
 
     def is_law(self):
         return re.search(r"/laws(/|\.rt$)", self.path)
 
 
 def calls_of(crate, path):
-    owner = call = None
-    for line in read(path).splitlines():
+    owner = trait = call = last = None
+    is_trait = False
+    for number, line in enumerate(read(path).splitlines(), 1):
         found = FUNCTION.match(line)
         if found:
-            call = Call(crate, owner if found[1] else None, found[2], path)
+            call = last = Call(crate, owner if found[1] else None, found[3], path, number)
+            call.trait = trait if found[1] else None
+            call.is_open = bool(found[2]) or bool(found[1]) and is_trait
             yield call
         elif OWNER.match(line):
             named = OWNER.match(line)
-            owner = named[1] or named[2]
+            owner, trait, is_trait = named[2] or named[4], named[3], bool(named[1] and named[2])
         elif call and CLAUSE.match(line):
-            call.clauses.add(CLAUSE.match(line)[1])
+            name = CLAUSE.match(line)[1]
+            call.clauses[name] = call.clauses.get(name, False) or line.lstrip().startswith("ensures")
+        if last:
+            last.lines.append(line)
         if call and not found and BODY.match(line):
             call = None
 
@@ -72,8 +83,8 @@ def missing(clauses, path):
         return "no crate has this function"
     if found[0].crate == path:
         found = [Call(path, None, "", ""), *found]
-        found[0].clauses = {call.name for call in found} | {it for call in found for it in call.clauses}
-    return None if any(clauses <= call.clauses for call in found) else "it has no such clause"
+        found[0].clauses = dict.fromkeys([call.name for call in found] + [it for call in found for it in call.clauses])
+    return None if any(clauses <= set(call.clauses) for call in found) else "it has no such clause"
 
 
 def failures(text):

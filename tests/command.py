@@ -25,7 +25,10 @@ import tempfile
 sys.path.insert(0, os.path.join(os.path.dirname(__file__), ".."))
 
 from bench.measure import measured
+from tests.command_kept import check_kept
 from tests.command_pieces import check_pieces
+from tests.command_publish import check_publishing
+from tests.command_search_pieces import check_search_pieces
 from tests.memory_shim import Refusing
 from tests.report import Results
 from tests.tables import rows_missing
@@ -105,6 +108,7 @@ def expected(row):
 def check_row(row, results):
     with tempfile.TemporaryDirectory() as folder:
         for name, text in row.get("files", {}).items():
+            os.makedirs(os.path.dirname(os.path.join(folder, name)), exist_ok=True)
             with open(os.path.join(folder, name), "wb") as file:
                 file.write(text.encode("utf-8", "surrogateescape"))
         given = bytes.fromhex(row["stdin_hex"]) if "stdin_hex" in row else row.get("stdin", "").encode()
@@ -393,7 +397,7 @@ def check_memory(results):
         results.check(f"memory refused in turn, {form}", wrong == 0 and refused >= LEAST, f"{refused} refused, {wrong} wrong")
 
 
-CHECKS = [check_forms, check_search, check_deep_search, check_terminal, check_files, check_many, check_one_line, check_memory, check_pieces]
+CHECKS = [check_forms, check_search, check_deep_search, check_terminal, check_files, check_many, check_one_line, check_memory, check_kept, check_pieces, check_publishing, check_search_pieces]
 
 
 def main():

@@ -235,8 +235,7 @@ def main():
     if not os.path.exists(library) or not shutil.which("node"):
         lacking = browser_tools.prepare() & {"node", "elasticlunr.min.js"}
         if lacking:
-            print(f"search: skipped, without {' and '.join(sorted(lacking))}")
-            results.skipped += 1
+            results.skip("search", lacking)
             return results.report()
         library = search_page.ELASTICLUNR
     if os.path.exists(options.script):

@@ -43,7 +43,7 @@ FOR_RUST = "docs/RUST.md"  # is there if rust/ is
 GLIBC = {"bin/elasticlunr": (2, 34), "bin/elasticlunr_index": (2, 34), "lib/libelasticlunr.so": (2, 14)}
 COMMAND, PROGRAMS = "bin/elasticlunr", ("bin/elasticlunr", "bin/elasticlunr_index")
 OPTION = re.compile(r"^ +(?:(-\w), )?(--[\w-]+)(?: <(\S+)>)?  +(\S.*?)((?: \[[^\]]*\])*)$", re.MULTILINE)
-LEAST = 31  # options of all commands
+LEAST = 35  # options of all commands
 LICENSES = 14  # of the kit's crates
 SHELLS = {  # how an option of a sub-command stands in what completes it
     "share/bash-completion/completions/elasticlunr": r'^ +\*" {0}"\) words="(?:[^"]* )?--{1}[ "]',
@@ -319,8 +319,7 @@ def main():
     sys.argv = [it for it in sys.argv if it != "--built"]
     results = Results("dist")
     if not has_history():
-        print("dist: git doesn't know this folder", flush=True)
-        results.skipped += 1
+        results.skip("dist", ["a history of git"])
         return results.report()
     try:
         if not is_built:

@@ -7,7 +7,7 @@ import json
 import struct
 from typing import NamedTuple, Optional
 
-from tests import model
+from tests import model, pieces_model
 from tests.model_tokens import LANGUAGES, left, stages, words
 
 FROM_TEXT, INTO_PIPELINE, AS_GIVEN = 0, 1, 2  # where the tokens of a value come from
@@ -34,6 +34,14 @@ class Input(NamedTuple):
     stages: Optional[tuple] = None  # the names of the stages of a custom language
     ref: str = "id"
     save: bool = True
+
+
+class Cutting(NamedTuple):
+    """Documents whose index is cut into pieces."""
+
+    title: str  # the field of the titles
+    size: int  # bytes that a piece may have
+    input: Input
 
 
 class Search(NamedTuple):
@@ -78,6 +86,10 @@ def flat_document(doc):
 def flat(it):
     settings = flat_language(it.lang, it.stages) + flat_text(it.ref) + flat_number(it.save)
     return settings + flat_list(flat_text, it.fields) + flat_list(flat_document, it.docs)
+
+
+def flat_cutting(it):
+    return flat_text(it.title) + flat_number(it.size) + flat(it.input)
 
 
 def flat_boost(boost):
@@ -130,6 +142,9 @@ class Decoder:
         ref, save = self.text(), bool(self.number(2))
         return self.whole(Input(self.items(self.text), self.items(self.document), lang, names, ref, save))
 
+    def cutting(self):
+        return Cutting(self.text(), self.number(), self.input())
+
     def boost(self):
         return self.text(), self.number(256)
 
@@ -147,7 +162,7 @@ class Decoder:
 
 
 def tokens_of(it, value):
-    """The tokens of a value. A custom language leaves each token as it is."""
+    """The tokens of a value. A custom language keeps each token as it is."""
     if value.source == AS_GIVEN:
         return list(value.tokens)
     found = words(value.text) if value.source == FROM_TEXT else list(value.tokens)
@@ -172,15 +187,40 @@ def refusal(it):
     return "too many values" if any(len(doc.values) > len(it.fields) for doc in it.docs) else None
 
 
-def answer(given):
-    """What answers the bytes of an input, and the status."""
+def index(it):
+    """The text of the index that an input asks for."""
+    names = stages(LANGUAGES[it.lang]) if it.stages is None else it.stages
+    return json.dumps(model.value(it, list(commands_of(it)), names), ensure_ascii=False, sort_keys=True, separators=(",", ":"))
+
+
+def folder(cutting):
+    """The flat form of the head and the pieces that are asked for."""
+    files = pieces_model.files(index(cutting.input), cutting.size, cutting.title)
+    head = files.pop(pieces_model.HEAD)
+    pieces = [(path.split("/")[1], text) for path, text in files.items()]
+    return flat_text(json.loads(head)["folder"]) + flat_text(head) + flat_list(lambda file: flat_text(file[0]) + flat_text(file[1]), pieces)
+
+
+def answered(read, made, given):
+    """What answers bytes, and the status. `read` reads them, and gives what is asked for and its input."""
     try:
-        it = Decoder(given).input()
+        asked, it = read(Decoder(given))
     except ValueError:
         return b"", MALFORMED
     why = refusal(it)
-    if why:
-        return f"refused: {why}\n".encode(), REFUSED
-    names = stages(LANGUAGES[it.lang]) if it.stages is None else it.stages
-    whole = model.value(it, list(commands_of(it)), names)
-    return json.dumps(whole, ensure_ascii=False, sort_keys=True, separators=(",", ":")).encode(), DONE
+    return (f"refused: {why}\n".encode(), REFUSED) if why else (made(asked), DONE)
+
+
+def answer(given):
+    """What answers the bytes of an input, and the status."""
+    return answered(lambda decoder: (decoder.input(),) * 2, lambda it: index(it).encode(), given)
+
+
+def pieces_answer(given):
+    """What answers the bytes of documents whose index is cut into pieces, and the status."""
+
+    def read(decoder):
+        cutting = decoder.cutting()
+        return cutting, cutting.input
+
+    return answered(read, folder, given)

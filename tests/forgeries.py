@@ -108,6 +108,7 @@ sys.exit(status)
 OF_A_JOB = "job = json.loads(given); %s; given = json.dumps(job).encode()"
 OF_HITS = 'out = b"".join(json.dumps(%s).encode() + b"\\n" for hit in map(json.loads, out.splitlines()))'
 INDEX, FIND, COMMAND = "elasticlunr_index", "elasticlunr_find", "elasticlunr_cli"
+STEMS = "elasticlunr_vectors"
 JOBS = {  # forged programs that change the job
     "ignores its documents": 'job["docs"] = []',
     "ignores all but its last document": 'job["docs"] = job["docs"][-1:]',
@@ -137,7 +138,14 @@ CHANGES = {  # whose program is run, what is changed of its run, and how
         CHANGES_WORDS,
         'words = [str(2 * int(word)) if before == "--piece-size" else word for before, word in zip(["", *words], words)]',
     ),
+    "a command that allows a character more": (
+        COMMAND,
+        CHANGES_WORDS,
+        'words = [str(1 + int(word)) if before == "--max-token" else word for before, word in zip(["", *words], words)]',
+    ),
     "always ends well": (COMMAND, CHANGES_ANSWER, "status = 0"),
+    "stems after one version": (STEMS, CHANGES_WORDS, 'words[1:] = ["current"]'),
+    "stems one word less": (STEMS, CHANGES_ANSWER, 'out = out[: out[:-1].rfind(b"\\n") + 1]'),
     "reads an index the slow way": (
         COMMAND,
         CHANGES_WORDS,
@@ -170,14 +178,14 @@ def forged_programs(few_jobs):
     for name in [*BODIES, *JOBS]:
         yield Forgery(name, "check_jobs", WRONG_JOB, name, (few_jobs,))
         yield Forgery(name, "compare_random", WRONG_RANDOM_JOB, name, FEW)
-    yield Forgery(FIXED, "refuse_calls", ": printed another row$", FIXED, crate="elasticlunr_test_calls")
+    yield Forgery(FIXED, "refuse_calls", ": printed another row$", FIXED, crate="elasticlunr_tests")
     for name, case, said in [
         (SLOTS, "slots", r".* where the token is given once$"),
         (NO_SLOTS, "slots", "0 tables of slots were requested"),
         (GROWS, "room", r"10 requests for a text of 50000 characters, and 1 for one of 100$"),
         (GOES_ON, "InvertedIndex: new", r"\[\"to_value\"\]: request 1: \[\"to_value\"\] -> "),
     ]:
-        yield Forgery(name, "refuse_calls", f"^calls: {case}: {said}", name, (case,), "elasticlunr_test_calls")
+        yield Forgery(name, "refuse_calls", f"^calls: {case}: {said}", name, (case,), "elasticlunr_tests")
     yield Forgery(FIXED, "long_inputs", "or another text$", FIXED)
     yield Forgery(SLOW, "long_inputs", r"^long input, a search: .*, and \d+ are the most$", SLOW, ("a search",), COMMAND)
 
@@ -251,6 +259,16 @@ def forged_orders():
         yield Forgery(name, "one_hash", f"^one hash, {case}: .*{said}", name, (case,), COMMAND)
 
 
+def forged_stems(folder):
+    """Programs that stem wrongly, and a model that does."""
+    made = r"^stems, made up, (da|fr), (current|older): '"
+    for name, code in [(FIXED, "da"), ("crashes", "da"), ("stems one word less", "da"), ("stems after one version", "fr")]:
+        yield Forgery(name, "stems", made, name, (code,), STEMS)
+    model = ("tests/stems_model.py", "key=lambda row: len(row[0])", "key=lambda row: -len(row[0])")
+    top = forged_copy(folder, "a model that takes the shortest suffix", ("tests", "tools"), ("crates",), model)
+    yield Forgery("a model that takes the shortest suffix", "stems", "^stems, model, da, current: ", arguments=("da",), top=top)
+
+
 def forged_commands(folder):
     rows = lines_of("tests/command_rows.jsonl")[:COMMANDS]
     few = write_table(os.path.join(folder, "few-commands.jsonl"), rows, COMMANDS)
@@ -260,6 +278,8 @@ def forged_commands(folder):
     yield Forgery("does not end", "command", "no answer in 1 seconds", "does not end", rest, COMMAND)
     for name, said in [("searches any word for all", r"search \['fox dog', '--all'\]"), ("always ends well", "refused, the old file stays")]:
         yield Forgery(name, "command", f"^command, {said}: ", name, rest, COMMAND)
+    longer = "a command that allows a character more"
+    yield Forgery(longer, "command", "^command, kept, short, lines, English: ", longer, (few, "check_kept"), COMMAND)
     yield Forgery("a table of commands cut short", "command", f"^command, table: {COMMANDS - 1} rows instead of {COMMANDS}", arguments=(cut, "none"))
 
 
@@ -285,6 +305,7 @@ SCRIPTS = {
     "a page that hides a missing text": (
         "search.js", "if (error) addMissing(result, error);", "if (error) continue;", "pieces: an error of the server for a piece of the texts",
     ),
+    "a page that shows no title at first": ("search.js", "if (heading) addTitle(title, heading.trim());", "", "pieces: titles first, and each text as it comes"),
     "a page that forgets a key": ("search.js", "if (isSearching) next = action;", "if (isSearching) return;", "pieces: keys while a query is loading"),
     "a page that takes a text for markup": (
         "search.js", "if (heading) title.replaceChildren(...passage(new Text(heading.text), 0));", "if (heading) title.innerHTML = heading.text;",
@@ -329,10 +350,14 @@ READERS = {
     "a reader that finds nothing": ("(await this.lookUp(query, options)).hits", "[]", r"pieces, \w+: \{.*: 0 hits and not "),
     "a reader that expands each word": ("<= maxPieces", "<= Infinity", r"pieces, \w+: \{.*(fetches \d+ pieces| hits and not )"),
     "a reader that fetches each piece": ("byBytes(first, word) <= 0", "true", r"pieces, \w+: \{.*: fetches \d+ pieces"),
-    "a reader that fetches a piece again": ("!this.files.has(name)", "true", "pieces, calls that overlap: "),
+    "a reader that fetches a piece again": ("if (!known) return", "if (true) return", "pieces, calls that overlap: "),
     "a reader that keeps what failed": ("this.files.delete(name);", "", "pieces, a fetch that fails once: "),
     "a reader that gives no cause": ("if (cause) error.cause = cause;", "", "pieces, a fetch that fails once: "),
     "a reader whose words are everywhere": ("hasOwn(this.found.in(at, token).docs, name)", "true", "pieces, the words of a query: "),
+    "a reader that believes a piece of another length": ("size !== undefined && size !== bytes", "false", "pieces, a piece that leaves something out: "),
+    "a reader that keeps all pieces": ("if (this.bytes <= this.most) return;", "return;", "pieces, pieces past a bound: "),
+    "a reader that reads the head at each key": ("Date.now() - this.renewed < AGAIN", "false", "pieces, a failure at each key: "),
+    "a reader that gives the title of another document": ("(start += count) - count", "(start += count) - 1", "pieces, titles: "),
     "a reader that takes any piece": ("tokens[0] !== tries[number]", "false", "pieces, a piece of another form: "),
     "a reader that stays with an old head": ("this.pieces = newer;", "this.pieces;", "pieces, a head that is replaced: "),
     "a reader that takes names of every object": ("name in Object.prototype ||", "", r"pieces, \w+: \{.*: "),
@@ -368,13 +393,14 @@ def forged_sites(folder):
         yield Forgery(name, "site", f"^{says}", arguments=(case,), top=top)
 
 
-# Libraries for C: the body of elasticlunr_index_documents, where `kept` is the built one, and what the check must say
+# Libraries for C: the body of one of these calls, where `kept` is the built one, and what the check must say
+DOCUMENTS, PIECES = "index_documents", "index_pieces"
 LIBRARY = """
 #include "elasticlunr.h"
 #include <stdlib.h>
 #include <unistd.h>
 uint32_t kept(const uint8_t *input, size_t size, uint8_t **text, size_t *length);
-uint32_t elasticlunr_index_documents(const uint8_t *input, size_t size, uint8_t **text, size_t *length)
+uint32_t elasticlunr_CALL(const uint8_t *input, size_t size, uint8_t **text, size_t *length)
 {
     BODY
 }
@@ -400,6 +426,12 @@ LIBRARIES = {
         KEPT + "if (status == 3) { void *volatile block = malloc(99999); free(block); } return status;", "take more memory than they have items",
     ),
     "a library for one thread": ("return getpid() == gettid() ? kept(input, size, text, length) : 3;", "another answer while other threads call"),
+}
+LIBRARIES_OF_PIECES = {
+    "a library whose last piece has another end": (KEPT + "if (!status) (*text)[*length - 1]++; return status;", "status 0 instead of 0, or another text"),
+    "a library that loses its last byte": (KEPT + "if (!status) --*length; return status;", "status 0 instead of 0, or another text"),
+    "a library that takes a refusal for pieces": (KEPT + "return status == 2 ? 0 : status;", "status 0 instead of 2, or another text"),
+    "a library that says of no field that it is malformed": ("return size && !input[0] ? 3 : kept(input, size, text, length);", r"input \d+: status 3 instead of 0"),
 }
 if shutil.which("valgrind"):
     READS = "volatile uint8_t last = input[size]; return last < 256 ? kept(input, size, text, length) : 9;"
@@ -428,11 +460,41 @@ C_CALLS = {
     "inputs without damage": (
         "tests/flat_inputs.py", "for it in short_inputs() for damaged in", "for it in () for damaged in", r"\d+ inputs, and \d+ are the least",
     ),
-    "an answer that is never compared": ("tests/c_calls.c", "        print(made);", "        if (number) print(made);", r"status 0, \d+ answers"),
+    "an answer that is never compared": (
+        "tests/c_calls.c", "        print(made);\n        give_back(made);\n    }\n}\n\n/* Each", "        if (number) print(made);\n        give_back(made);\n    }\n}\n\n/* Each",
+        r"status 0, \d+ answers",
+    ),
     "a module that runs tokens through the pipeline": ("python/elasticlunr/__init__.py", "AS_GIVEN = 0, 2", "AS_GIVEN = 0, 1", "Python, tokens of a field: "),
     "a module that makes tokens of the reference": (
-        "python/elasticlunr/__init__.py", "None if field == ref else tokens", "tokens", "Python, the reference has no tokens: ",
+        "python/elasticlunr/__init__.py", "None if field == key else _no_tokens", "_no_tokens", "Python, the reference has no tokens: ",
     ),
+}
+
+# The same for pieces, and for those that Python writes
+CUT = {
+    "a model that numbers pieces from one": (
+        "tests/pieces_model.py", 'f"t{number}.json": joined', 'f"t{number + 1}.json": joined', "status 0 instead of 0, or another text",
+    ),
+    "a model of pieces of twice the size": ("tests/flat_model.py", "cutting.size, cutting.title)", "2 * cutting.size, cutting.title)", "status 0 instead of 0, or another text"),
+    "a decoder that reads other titles": ("tests/flat_model.py", "Cutting(self.text(), self.number()", "Cutting(self.text()[:1], self.number()", "inputs are not read back"),
+    "pieces without damage": ("tests/cutting_inputs.py", "for it in short_cuttings() for damaged in", "for it in () for damaged in", r"\d+ inputs, and \d+ are the least"),
+    "a module that replaces the head first": (
+        "python/elasticlunr/publish.py",
+        "        is_new = _give_name(pieces, os.path.join(folder, name))\n        _write_file(path, head)\n",
+        "        _write_file(path, head)\n        is_new = _give_name(pieces, os.path.join(folder, name))\n",
+        "pieces of Python, killed at ",
+    ),
+    "a module that keeps what is no longer needed": ("python/elasticlunr/publish.py", "for name in plan.removed:", "for name in ():", "pieces of Python, after Python: "),
+    "a module that removes all earlier folders": ("python/elasticlunr/publish.py", "kept = heads[-keep:]", "kept = heads[-1:]", "pieces of Python, two are kept: "),
+    "a module that waits for nobody": (
+        "python/elasticlunr/publish.py", "            fcntl.flock(file, fcntl.LOCK_EX)\n        yield", "            pass\n        yield", "pieces of Python, one at a time: ",
+    ),
+    "a module that removes what another one writes": (
+        "python/elasticlunr/publish.py",
+        "        fcntl.flock(file, fcntl.LOCK_EX | fcntl.LOCK_NB)\n        if _is_at(file, path):", "        if _is_at(file, path):", "pieces of Python, one at a time: ",
+    ),
+    "a module that leaves what was left": ("python/elasticlunr/publish.py", "    _remove_left(path)\n    for number", "    for number", "pieces of Python, what was left is removed"),
+    "a module with titles of another field": ("python/elasticlunr/__init__.py", "_flat_text(title) + _flat_number", "_flat_text(ref) + _flat_number", "pieces of Python, "),
 }
 
 # The same for searches
@@ -448,13 +510,13 @@ SEARCHES = {
 }
 
 
-def forged_library(folder, name, body, built):
+def forged_library(folder, name, body, built, call):
     """The folder of a library that is the built one but for a function."""
     made = os.path.join(folder, name.replace(" ", "-"))
     shutil.copytree(built, made)
     archive, own = os.path.join(made, "lib", "libelasticlunr.a"), os.path.join(made, "lib", "forged.o")
-    subprocess.run(["objcopy", "--redefine-sym", "elasticlunr_index_documents=kept", archive], check=True)
-    text = LIBRARY.replace("BODY", body).encode()
+    subprocess.run(["objcopy", "--redefine-sym", f"elasticlunr_{call}=kept", archive], check=True)
+    text = LIBRARY.replace("BODY", body).replace("CALL", call).encode()
     command = ["cc", "-O2", "-fPIC", "-D_GNU_SOURCE", "-I", os.path.join(made, "include")]
     subprocess.run([*command, "-x", "c", "-c", "-o", own, "-"], input=text, check=True)
     subprocess.run(["ar", "r", archive, own], check=True, capture_output=True)
@@ -463,16 +525,18 @@ def forged_library(folder, name, body, built):
 
 
 def forged_libraries(folder):
-    built, part = os.path.join(folder, "library"), ("index_documents",)
+    built = os.path.join(folder, "library")
     for name in ("lib", "include"):
         shutil.copytree(os.path.join(TOP, "out", name), os.path.join(built, name))
-    for name, (body, says) in LIBRARIES.items():
-        made = forged_library(folder, name, body, built)
-        yield Forgery(name, "c_calls", f"^c, .*{says}", arguments=part, library=made)
-    for name, (file, old, new, says) in {**C_CALLS, **SEARCHES}.items():
-        top = forged_copy(folder, name, ("tests", "tools", "python", "include"), ("crates",), (file, old, new))
-        words = ("search",) if name in SEARCHES else part if file.startswith("tests") else ("Python",)
-        yield Forgery(name, "c_calls", f"^c, .*{says}", arguments=words, top=top, library=built)
+    for call, bodies in [(DOCUMENTS, LIBRARIES), (PIECES, LIBRARIES_OF_PIECES)]:
+        for name, (body, says) in bodies.items():
+            made = forged_library(folder, name, body, built, call)
+            yield Forgery(name, "c_calls", f"^c, .*{says}", arguments=(call,), library=made)
+    for part, of_python, replaced in [(DOCUMENTS, "Python", C_CALLS), (PIECES, "pieces of Python", CUT), ("search", "Python", SEARCHES)]:
+        for name, (file, old, new, says) in replaced.items():
+            top = forged_copy(folder, name, ("tests", "tools", "python", "include"), ("bench", "crates"), (file, old, new))
+            words = (part if file.startswith("tests") else of_python,)
+            yield Forgery(name, "c_calls", f"^c, .*{says}", arguments=words, top=top, library=built)
 
 
 # Releases: a file that makes them, a text of it, what it is replaced by, the case, and what the check must say
@@ -526,8 +590,9 @@ def without(kinds, page):
 
 def forged_code():
     """Pages whose blocks of Rust, of proofs or of lines of crates.txt are others, or are gone. They have no shell, which takes
-    seconds."""
-    readme, library = without("console", read("README.md")), read("docs/LIBRARY.md")
+    seconds, and one alone has the crates of its reader, which take longer."""
+    readme, library = without("console", read("README.md")), without("rattle", read("docs/LIBRARY.md"))
+    own = read("docs/LIBRARY.md").replace("&[title, body])", "&[title, text])", 1)
     part = r"elasticlunr_site: the page shows \[.*\] instead of \["
     find = read("crates/elasticlunr_find/src/main.rt")
     error = read("crates/elasticlunr_error/src/lib.rt")
@@ -547,13 +612,21 @@ def forged_code():
     yield "another line of crates.txt", "README.md", readme.replace("site: elasticlunr\n", "site: std\n"), "crates.txt has no line"
     yield "a line of another name", "README.md", readme.replace("elasticlunr_site: elasticlunr\n", "my_site: elasticlunr\n"), "crates.txt has no line"
     proved, calling = read("docs/PROVED.md"), read("crates/elasticlunr/CALLING.md")
-    yield "a clause that no call has", "README.md", readme.replace("clause `text`", "clause `wording`", 1), "clause wording: no call has this clause"
+    yield "a clause that no call has", "README.md", readme.replace("`errors` and `memory`", "`errors` and `wording`", 1), "clause wording: no call has this clause"
     yield "a clause of another call", "PROVED.md", proved.replace("`added` of `add_doc`", "`added` of `remove_doc`"), "clause added of remove_doc: it has no such clause"
     yield "a quoted clause that is gone", "CALLING.md", calling.replace("  ensures too_many:", "  ensures many:", 1), "clause many of Index::add_doc: it has no such clause"
     yield "a law that is gone", "PROVED.md", proved.replace("law `readers_agree`", "law `readers_differ`", 1), "law readers_differ: no crate has this law"
+    yield "a crate of its reader that has a mistake", "LIBRARY.md", own, "crates of the reader: `rt try`: .*cannot find value `text`"
+    yield "no crate of its reader", "LIBRARY.md", library, "crates of the reader: the page has none"
+    claims, other = read("docs/CLAIMS.md"), "clauses and mutants: tools/claims.py prints another page"
+    yield "a mutant less", "CLAIMS.md", re.sub(r"\| ([\w-]+), [\w-]+ \|", r"| \1 |", claims, count=1), other
+    yield "fewer clauses without a mutant", "CLAIMS.md", re.sub(r"\d+ of the clauses", "0 of the clauses", claims), other
+    by_hand = without("json", theorem := read("docs/THEOREM.md"))
+    yield "another count", "THEOREM.md", theorem.replace('`"length":2', '`"length":1'), "an index by hand: its parts are not what"
+    yield "no job", "THEOREM.md", by_hand, "an index by hand: its parts are not what"
     yield "another module", "LIBRARY.md", library.replace('from_str(alloc, "xx")', 'from_str(alloc, "yy")', 1), "Rust: no crate has this file"
     yield "another proof", "LIBRARY.md", library.replace("if-is_empty.true", "if-is_empty.false", 1), r"a proof: crates/\S+ is another text"
-    yield "another proof of its crate", "LIBRARY.md", library.replace("= ¬ IsFailed", "= IsFailed", 1), r"a proof: crates/\S+ is another text"
+    yield "another proof of its crate", "LIBRARY.md", library.replace("take l.draft-index", "take l.page-index", 1), r"a proof: crates/\S+ is another text"
 
 
 def forged_text():
@@ -570,8 +643,8 @@ def forged_text():
     yield "a job that is none", "COMMAND.md", command.replace('"docs": [\n', '"pages": [\n'), 'JSON: .*"pages" is not a key of a job'
     yield "documents instead of a job", "README.md", documents, "JSON: it is no job: refused"
     yield "no job", "README.md", without("json", quiet), "a job: the page has none"
-    yield "a link to no file", "README.md", quiet.replace("docs/PERF.md", "docs/SPEED.md"), "docs/SPEED.md: there is no such file"
-    yield "a link to no heading", "README.md", quiet.replace("#minutes", "#hours"), "there is no such heading"
+    yield "a link to no file", "README.md", quiet.replace("docs/PERF.md", "docs/SPEED.md"), "docs/SPEED.md.*: there is no such file"
+    yield "a link to no heading", "README.md", quiet.replace("#what-is-kept", "#hours"), "there is no such heading"
     yield "a name that no crate has", "README.md", quiet.replace("_are_as_new", "_are_new"), "no crate has this name"
     yield "another kit", "README.md", kit.sub("logic 0123456789abcdef", quiet), "the kit: the kit here has logic"
 
@@ -622,6 +695,7 @@ def forgeries(folder, names):
     yield from forged_programs(few_jobs)
     yield from forged_refusals()
     yield from forged_orders()
+    yield from forged_stems(folder)
     yield from forged_commands(folder)
     yield from forged_tables(folder)
     yield from forged_sites(folder)

@@ -82,7 +82,7 @@ class Chroot:
         shutil.rmtree(self.path("books", out), ignore_errors=True)
         begun = time.monotonic()
         command = ["chroot", self.root, f"/build/mdbook-{variant}/mdbook", "build", f"/build/books/{name}", "-d", f"/build/books/{out}"]
-        subprocess.run(command, check=True, capture_output=True, env={"PATH": "/usr/bin:/bin", "HOME": "/build"})
+        subprocess.run(command, check=True, capture_output=True, env={"PATH": "/usr/sbin:/usr/bin:/sbin:/bin", "HOME": "/build"})
         return time.monotonic() - begun
 
     def files(self, variant, name):

@@ -2,7 +2,7 @@
 //
 // usage: node pieces.js ELASTICLUNR LANGUAGES READER < GIVEN
 //
-// GIVEN is a JSON object: the indexes, each with its text, its files and the names that stand for references in its text; the
+// GIVEN is a JSON object: the indexes, each with its text, its files and the names that its text has instead of references; the
 // queries, each with the number of its index and its options; and the numbers of the indexes of CASES. The answer is a JSON
 // object: for each query how many hits there are, how many files were fetched, and what is wrong or null; and for each case
 // its name, and what is wrong or null.
@@ -118,13 +118,15 @@ async function compareOne(given, query, options) {
   return told;
 }
 
-// The documents that are stored come back, and no others.
+// The documents that are stored come back with their titles, and no others.
 async function compareTexts(given) {
-  const store = JSON.parse(given.whole).documentStore;
+  const { documentStore: store, fields } = JSON.parse(given.whole), hasTitles = store.save && fields.includes("title");
   for (const [name, doc] of Object.entries(store.docs)) {
-    assert.deepStrictEqual(await given.site.doc(given.names.get(name) || name), store.save ? doc : null);
+    const reference = given.names.get(name) || name;
+    assert.deepStrictEqual(await given.site.doc(reference), store.save ? doc : null);
+    assert.strictEqual(await given.site.title(reference), hasTitles ? doc.title || "" : null);
   }
-  assert.strictEqual(await given.site.doc("no such reference"), null);
+  for (const call of ["doc", "title"]) assert.strictEqual(await given.site[call]("no such reference"), null);
 }
 
 async function compare(given, queries) {
@@ -168,6 +170,9 @@ async function failsOnce(server, name, answer, call) {
   await call();
 }
 
+// The number of the first reference of each piece.
+const starts = (counts) => counts.map((_, at) => counts.slice(0, at).reduce((all, one) => all + one, 0));
+
 // Calls that need one file each, and what each must give.
 async function* callsOfFiles(given) {
   const { index, files, names } = withoutPipeline(given), server = new Server(files), head = server.head();
@@ -176,11 +181,21 @@ async function* callsOfFiles(given) {
     assert(want.length > 0);
     yield { server, name, isRight: async (site) => assert.deepStrictEqual(bits(await site.search(word, {})), want) };
   }
-  for (let number = 0; number < head.texts.length; number++) {
-    const reference = head.references[head.texts[number]], want = JSON.parse(given.whole).documentStore.docs[reference];
+  for (const [number, start] of starts(head.texts).entries()) {
+    const reference = head.references[start], want = JSON.parse(given.whole).documentStore.docs[reference];
     yield { server, name: piece(head, "d" + number), isRight: async (site) => assert.deepStrictEqual(await site.doc(reference), want) };
   }
+  for (const [number, start] of starts(head.titles).entries()) {
+    const reference = head.references[start], { title } = JSON.parse(given.whole).documentStore.docs[reference];
+    yield { server, name: piece(head, "h" + number), isRight: async (site) => assert.strictEqual(await site.title(reference), title) };
+  }
 }
+
+// A head of an earlier elasticlunr: its texts have the number of the first reference of each piece, and there are no titles.
+const older = (head) => ({ ...head, texts: starts(head.texts), sizes: undefined, titles: undefined, title: undefined });
+
+// These files of an index with a head that says nothing of their sizes.
+const withOlderHead = (files) => ({ ...files, [HEAD]: JSON.stringify(older(JSON.parse(files[HEAD]))) });
 
 // Pieces of the tries that aren't what the head says: this token is the first of the piece, and `next` that of the next one.
 function wrongTries(text, token, next) {
@@ -193,6 +208,11 @@ function wrongTries(text, token, next) {
   if (next !== undefined) whole.push(JSON.stringify({ ...JSON.parse(text), [next]: lists }));
   const wrongLists = ["[0]", "[0,1,0,1]", "[1,1,0,1]", "[999,1]", "[-1,1]", "[0.5,1]", '["0",1]', "[null,1]", "[0,0]", "[0,-1]"];
   return [...whole, ...[...wrongLists, '[0,"1"]', "[0,null]", "[0,1e999]", "null", '"ab"', "{}"].map(inField)];
+}
+
+function wrongTitles(text) {
+  const titles = JSON.parse(text), wrong = [null, {}, 7, "x", [], titles.slice(1), [...titles, "x"], titles.map(() => null), titles.map(() => [])];
+  return wrong.map((value) => JSON.stringify(value));
 }
 
 function wrongTexts(text) {
@@ -214,7 +234,11 @@ function wrongHeads(text) {
   others.folder = ["pieces-x", "../" + head.folder, "https://example.org/" + head.folder, head.folder + "/.."];
   others.folder.push(head.folder + "\n", head.folder.toUpperCase());
   others.tries = [turned(tries), ["", ...tries]];
-  others.texts = [turned(texts), texts.slice(1), [0, ...turned(texts.slice(1))], [0, ...texts], [...texts, references.length]];
+  const wrongCounts = (counts) => [counts.slice(1), [0, ...counts], [...counts, 1], counts.map(() => -1), counts.map(String), counts.map((count) => count + 0.5)];
+  others.texts = wrongCounts(texts);
+  others.titles = wrongCounts(head.titles);
+  others.sizes = [head.sizes.slice(1), [...head.sizes, 1], head.sizes.map(() => 0), head.sizes.map(() => -1), head.sizes.map(String)];
+  others.title = ["no field of it", "constructor"];
   others.pipeline = [["constructor"], ["__proto__"], ["toString"], ["no such stage"]];
   for (const key of Object.keys(others)) for (const value of others[key]) wrong.push({ ...head, [key]: value });
   return wrong.map((value) => JSON.stringify(value));
@@ -247,6 +271,17 @@ function manyCalls({ index, files, names }) {
   });
 }
 
+// Runs this some seconds later, by the clock.
+async function later(run) {
+  const now = Date.now;
+  Date.now = () => now() + 6000;
+  try {
+    await run();
+  } finally {
+    Date.now = now;
+  }
+}
+
 // What a page has that loads these scripts one after another.
 function pageWith(...scripts) {
   const page = vm.createContext({ console });
@@ -268,10 +303,104 @@ const CASES = {
   },
 
   async "a piece of another form"({ site }) {
-    await tryWrong(site, (text, name, head) => {
-      const [, kind, number] = /\/([td])(\d+)\.json$/.exec(name), [token, next] = head.tries.slice(Number(number));
-      return kind === "d" ? wrongTexts(text) : wrongTries(text, token, next);
+    const answers = (text, name, head) => {
+      const [, kind, number] = /\/([tdh])(\d+)\.json$/.exec(name), [token, next] = head.tries.slice(Number(number));
+      return { t: wrongTries, d: wrongTexts, h: wrongTitles }[kind](text, token, next);
+    };
+    await tryWrong(site, answers);
+    // Each of them is noticed by its form, too, where the head says nothing of its size.
+    const { files } = withoutPipeline(site), plain = { ...site, files: withOlderHead(files) };
+    for (const number of JSON.parse(files[HEAD]).tries.keys()) {
+      const server = new Server(plain.files), head = server.head(), name = piece(head, "t" + number), site = await open(server.get);
+      for (const answer of wrongTries(server.files[name], ...head.tries.slice(number))) {
+        await failsOnce(server, name, answer, () => site.search(head.tries[number], {}));
+        Object.assign(site, await open(server.get));
+      }
+    }
+  },
+
+  async "a piece that leaves something out"({ site }) {
+    const { files } = withoutPipeline(site), head = JSON.parse(files[HEAD]);
+    let tried = 0;
+    for (const [number, token] of head.tries.entries()) {
+      const name = piece(head, "t" + number), members = Object.entries(JSON.parse(files[name]));
+      const gone = members.find(([word]) => word !== token), shorter = members.filter((member) => member !== gone), emptied = members.map(([word, lists]) => [word, word === token ? lists : lists.map(() => [])]);
+      for (const answer of [shorter, emptied].map((list) => JSON.stringify(Object.fromEntries(list)))) {
+        if (members.length < 2 || answer === files[name]) continue;
+        const server = new Server(files), opened = await open(server.get);
+        server.answerOnce(name, answer);
+        await assert.rejects(() => opened.search(token, {}), (error) => error.file === name && / has \d+ bytes in place of \d+, which /.test(error.message));
+        const believing = new Server({ ...withOlderHead(files), [name]: answer });
+        await (await open(believing.get)).search(token, {});
+        tried++;
+      }
+    }
+    assert(tried > 2, `only ${tried} pieces`);
+  },
+
+  async "a head of an earlier elasticlunr"({ site }) {
+    const { files, index, names } = withoutPipeline(site), server = new Server(withOlderHead(files)), opened = await open(server.get);
+    const { tries, references } = server.head(), store = JSON.parse(site.whole).documentStore;
+    for (const token of tries) assert.deepStrictEqual(bits(await opened.search(token, {})), searchWhole(index, token, {}, names));
+    for (const one of references) assert.deepStrictEqual([await opened.title(one), await opened.doc(one)], [null, store.docs[one]]);
+    assert.strictEqual(opened.titleField, "title");
+  },
+
+  async "titles"({ site, named }) {
+    const server = new Server(named.files), opened = await open(server.get), { references } = server.head();
+    assert.strictEqual(opened.titleField, "title");
+    assert.deepStrictEqual(await Promise.all(references.map((one) => opened.title(one))), references.map((one) => JSON.parse(named.whole).documentStore.docs[one].title || ""));
+    assert(server.fetched.every((name) => name === HEAD || /\/h\d+\.json$/.test(name)));
+    const plain = new Server(site.files), { titles } = plain.head();
+    assert(titles.length > 1 && titles.length < references.length * 2);
+  },
+
+  async "pieces past a bound"({ site }) {
+    const { files, index, names } = withoutPipeline(site), server = new Server(files), head = server.head(), { tries } = head;
+    const sizes = Object.entries(files).filter(([name]) => name !== HEAD).map(([, text]) => Buffer.byteLength(text));
+    const most = 2 * Math.max(...sizes), opened = await open(server.get, { most });
+    for (let turn = 0; turn < 3; turn++) {
+      for (const token of tries) {
+        assert.deepStrictEqual(bits(await opened.search(token, {})), searchWhole(index, token, {}, names));
+        assert.deepStrictEqual(bits(await opened.search(token, {})), searchWhole(index, token, {}, names));
+      }
+      for (const one of head.references) await opened.doc(one);
+      assert([...opened.pieces.files.keys()].map((name) => Buffer.byteLength(files[name])).reduce((all, one) => all + one, 0) <= most);
+    }
+    assert(server.count(piece(head, "t0")) === 3, "each turn fetches what was let go, and no more");
+    await Promise.all(tries.map((token) => opened.search(token, {})));
+    assert(opened.pieces.bytes <= most && opened.pieces.files.size > 0);
+    for (const wrong of [0, -1, "x", NaN]) await assert.rejects(() => open(server.get, { most: wrong }), /most/);
+  },
+
+  async "a failure at each key"({ site }) {
+    const given = withoutPipeline(site), server = new Server(given.files), opened = await open(server.get), calls = manyCalls(given);
+    server.files = { [HEAD]: given.files[HEAD] };
+    for (const isRight of [...calls, ...calls]) await assert.rejects(() => isRight(opened), (error) => /\/t\d+\.json$/.test(error.file));
+    assert.strictEqual(server.count(HEAD), 2);
+    await later(async () => {
+      await assert.rejects(() => calls[0](opened));
+      assert.strictEqual(server.count(HEAD), 3);
     });
+    server.files = given.files;
+    for (const isRight of calls) await isRight(opened);
+    assert.strictEqual(server.count(HEAD), 3);
+  },
+
+  async "fields that every object has"({ fields }) {
+    const names = Object.getOwnPropertyNames(Object.prototype), server = new Server(fields.files), opened = await open(server.get);
+    assert.deepStrictEqual(opened.fields, JSON.parse(fields.whole).fields);
+    assert(opened.fields.filter((field) => names.includes(field)).length > 2);
+    for (const [at, field] of opened.fields.entries()) {
+      const options = { expand: true, fields: { [field]: { boost: 2 } } };
+      const searches = [["word", {}, 3], [`own${at}`, {}, 1], [`own${at}`, options, 1], [{ [field]: `own${at}` }, {}, 1], ["nowhere", {}, 0]];
+      for (const [query, asked, count] of searches) assert.strictEqual((await opened.search(query, asked)).length, count, `${field}: ${JSON.stringify(query)}`);
+      const { words } = await opened.lookUp(`own${at}`, {});
+      assert.strictEqual(words[0].isIn(String(at), field), true);
+      const other = opened.fields[(at + 1) % opened.fields.length];
+      assert.strictEqual((await opened.search(`own${at}`, { fields: JSON.parse(`{${JSON.stringify(other)}:{}}`) })).length, 0, field);
+    }
+    for (const unknown of ["valueOf", "isPrototypeOf"]) assert.strictEqual((await opened.search({ [unknown]: "word" }, {})).length, 0);
   },
 
   async "a head of another form"({ site }) {
@@ -333,14 +462,15 @@ const CASES = {
       server.files = files;
       await assert.rejects(() => opened.search("wo", options), (error) => /\/t\d+\.json$/.test(error.file));
       server.files = newer.files;
-      assert.deepStrictEqual(bits(await opened.search("wo", options)), want);
+      await later(async () => assert.deepStrictEqual(bits(await opened.search("wo", options)), want));
     }
   },
 
   async "calls that overlap"({ site }) {
     const given = withoutPipeline(site), calls = [...manyCalls(given), ...manyCalls(given)], server = new Server(given.files);
     const opened = await open(server.get), { references } = server.head();
-    await Promise.all([...calls.map((isRight) => isRight(opened)), ...references.map((reference) => opened.doc(reference))]);
+    const texts = references.map((reference) => [opened.doc(reference), opened.title(reference)]);
+    await Promise.all([...calls.map((isRight) => isRight(opened)), ...texts.map((both) => Promise.all(both))]);
     for (const name of Object.keys(given.files)) assert.strictEqual(server.count(name), 1, name);
   },
 
@@ -413,7 +543,7 @@ const CASES = {
   async "members that would change every object"({ site }) {
     const before = JSON.stringify(Object.getOwnPropertyNames(Object.prototype));
     const { files } = withoutPipeline(site), head = JSON.parse(files[HEAD]), posting = JSON.stringify(head.fields.map(() => [0, 1]));
-    const hostile = { ...files, [HEAD]: JSON.stringify({ ...head, tries: ["__proto__"], polluted: 1 }).replace('"polluted"', '"__proto__"') };
+    const hostile = { ...files, [HEAD]: JSON.stringify({ ...older(head), tries: ["__proto__"], polluted: 1 }).replace('"polluted"', '"__proto__"') };
     hostile[piece(head, "t0")] = `{"__proto__":${posting},"constructor":${posting},"prototype":${posting}}`;
     hostile[piece(head, "d0")] = `[${JSON.parse(files[piece(head, "d0")]).map(() => '{"__proto__":{"polluted":1}}').join()}]`;
     const opened = await open(new Server(hostile).get);
@@ -425,9 +555,9 @@ const CASES = {
     }
     await opened.doc(head.references[0]);
     for (const field of ["__proto__", "constructor"]) {
-      const named = { ...head, fields: [field], lengths: [head.lengths[0]], tries: ["a"] };
+      const named = { ...older(head), fields: [field], lengths: [head.lengths[0]], tries: ["a"] };
       const server = new Server({ ...files, [HEAD]: JSON.stringify(named), [piece(head, "t0")]: '{"a":[[0,1]]}' });
-      await (await open(server.get)).search("a", {}).catch(() => {}); // elasticlunr.js breaks on these names
+      assert.strictEqual((await (await open(server.get)).search("a", {})).length, 1);
     }
     assert.strictEqual({}.polluted, undefined);
     assert.strictEqual(JSON.stringify(Object.getOwnPropertyNames(Object.prototype)), before);
@@ -449,7 +579,7 @@ const CASES = {
 
   async "a token of 100,000 characters"({ site }) {
     const { files } = withoutPipeline(site), head = JSON.parse(files[HEAD]), token = "a".repeat(100000);
-    const server = new Server({ ...files, [HEAD]: JSON.stringify({ ...head, tries: [token] }) });
+    const server = new Server({ ...files, [HEAD]: JSON.stringify({ ...older(head), tries: [token] }) });
     server.files[piece(head, "t0")] = JSON.stringify({ [token]: head.fields.map(() => [0, 1000000]) });
     const opened = await open(server.get);
     for (const word of [token, token.slice(1)]) assert.strictEqual((await opened.search(word, { expand: true })).length, 1);

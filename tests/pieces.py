@@ -41,7 +41,7 @@ READER = os.path.join(TOP, "browser/elasticlunr-pieces.js")
 DRIVER = os.path.join(TOP, "tests/pieces.js")
 SHOWN = 10  # failures that are printed
 SECONDS = 600
-CASES = 21  # of pieces.js
+CASES = 27  # of pieces.js
 # For each kind of index: how many queries each gets, and how many of them must find something
 LEAST = {"examples": (60, 0.35), "pages": (300, 0.35), "random": (24, 0.35), "characters": (24, 0.35)}
 FEW_PIECES = 5  # most indexes have more
@@ -114,6 +114,11 @@ def cases():
     yield "other", Given("cases", {**job, "docs": other}, 160)
     yield "hostile", Given("cases", {**job, "docs": hostile}, 160)
     german = [["1", "Wort", "Ein Wort"], ["2", "Satz", "Zwei Sätze und ein Wort"]]
+    of_objects = ["constructor", "toString", "__proto__", "hasOwnProperty", "plain"]
+    docs = [[str(at), *("word" if field == of_objects[0] and at < 3 else f"own{at}" if number == at else "" for number, field in enumerate(of_objects))] for at in range(len(of_objects))]
+    docs[0][1] = "word own0"
+    yield "fields", Given("cases", {**job, "fields": of_objects, "docs": docs, "lang": "Arabic"}, 160)
+    yield "named", Given("cases", {**job, "docs": [[str(number), f"A title {number}" if number % 3 else "", "word"] for number in range(9)]}, 640)
     yield "german", Given("cases", {**job, "docs": german, "lang": "German"}, 160)
     rng = random.Random(20261127)
     alike = [f"a{one}{other}" for one in "./:019z" for other in ("", ".", "5")]
@@ -189,7 +194,8 @@ def wrong_files(files, index, size):
     head = json.loads(files[pieces_model.HEAD])
     tries = [files[f"{head['folder']}/t{number}.json"] for number in range(len(head["tries"]))]
     texts = [files[f"{head['folder']}/d{number}.json"] for number in range(len(head["texts"]))]
-    if len(files) != 1 + len(tries) + len(texts):
+    titles = [files[f"{head['folder']}/h{number}.json"] for number in range(len(head["titles"]))]
+    if len(files) != 1 + len(tries) + len(texts) + len(titles):
         return f"{len(files)} files"
     if any(pieces_model.compact(json.loads(text)) != text for text in files.values()):
         return "another layout"
@@ -202,7 +208,12 @@ def wrong_files(files, index, size):
     docs = index["documentStore"]["docs"] if head["save"] else {}
     if [doc for text in texts for doc in json.loads(text)] != [docs[reference] for reference in sorted(docs, key=str.encode)]:
         return "other texts"
-    return wrong_sizes(tries, size) or wrong_sizes(texts, size // 4)
+    wanted = [docs[reference].get("title", "") for reference in sorted(docs, key=str.encode)] if "title" in head["fields"] else []
+    if [title for text in titles for title in json.loads(text)] != wanted:
+        return "other titles"
+    if head["sizes"] != [len(text.encode()) for text in tries + texts + titles]:
+        return "other sizes"
+    return wrong_sizes(tries, size) or wrong_sizes(texts, size // 8) or wrong_sizes(titles, size // 32)
 
 
 # Queries
@@ -374,8 +385,7 @@ def main():
     there = {"node": shutil.which("node"), "elasticlunr.min.js": os.path.exists(library) or search_page.fetch()}
     lacking = [name for name, is_there in there.items() if not is_there]
     if lacking:
-        print(f"pieces: skipped, without {' and '.join(lacking)}")
-        results.skipped += 1
+        results.skip("pieces", lacking)
     elif not os.path.exists(options.reader):
         results.note(False, f"pieces: there is no {options.reader}")
     else:

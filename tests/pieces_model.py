@@ -4,10 +4,13 @@ A folder holds the head, search.json, and next to it one folder of pieces. All a
 in the order of their bytes. Python compares texts by their characters, which gives the order of their bytes in UTF-8.
 
 The head has the settings of the index; `references`, in order; `lengths`, for each field a list with the length of each
-reference's field or null; the name of the `folder`; `tries`, the first token of each piece of the tries; and `texts`, the
-number of the first reference of each piece of the texts. A piece of the tries is an object of tokens, each with a list for
-each field: the number of a reference and its frequency in turn. A piece of the texts is a list of stored documents. The folder
-is called after the SHA-256 of the texts of all its pieces, one after another: those of the tries, and then those of the texts.
+reference's field or null; the name of the `folder`; `tries`, the first token of each piece of the tries; `texts` and `titles`,
+how many references each piece of the texts and of the titles has; `title`, the field of the titles; and `sizes`,
+the bytes of each piece, those of the tries first and those of the titles last. A piece of the tries is an object of tokens, each
+with a list for each field: the number of a reference and its frequency in turn. A piece of the texts is a list of stored
+documents, and one of the titles a list of their texts in the field of the titles, empty where a document has none. There are
+pieces of titles where there are texts, and the index has such a field. The folder is called after the SHA-256 of the texts of
+all its pieces, one after another in this order.
 """
 import hashlib
 import json
@@ -16,7 +19,8 @@ import os
 from tools import repository
 
 HEAD = "search.json"
-SIZE = 16384  # bytes that a piece of the tries may have; a piece of the texts may have a quarter of it
+SIZE = 8192  # bytes that a piece of the tries may have; one of the texts may have an eighth of it, and one of the titles a 32nd
+TITLE = "title"  # the field of the titles
 NO_TOKENS = ("docs", "df")  # the members of a node that aren't its children
 
 
@@ -58,6 +62,14 @@ def entries_of_texts(store, references):
             yield number, compact(store["docs"][reference])
 
 
+def entries_of_titles(index, references, field):
+    """The number of each reference, and the text of its document's title."""
+    store = index["documentStore"]
+    if store["save"] and field in index["fields"]:
+        for number, reference in enumerate(references):
+            yield number, compact(store["docs"][reference].get(field, ""))
+
+
 def joined(entries, brackets):
     return brackets[0] + ",".join(text for _, text in entries) + brackets[1]
 
@@ -78,19 +90,22 @@ def lengths(store, fields, references):
     return [[store["docInfo"].get(reference, {}).get(field) for reference in references] for field in fields]
 
 
-def files(text, size=SIZE):
+def files(text, size=SIZE, title=TITLE):
     """The text of each file by its name, for the text of a whole index."""
     index = json.loads(text)
     store = index["documentStore"]
     references = sorted(store["docs"])
     tries = cut(entries_of_tries(index, references), size, "{}")
-    texts = cut(entries_of_texts(store, references), size // 4, "[]")
+    texts = cut(entries_of_texts(store, references), size // 8, "[]")
+    titles = cut(entries_of_titles(index, references, title), size // 32, "[]")
     pieces = {f"t{number}.json": joined(piece, "{}") for number, piece in enumerate(tries)}
     pieces.update({f"d{number}.json": joined(piece, "[]") for number, piece in enumerate(texts)})
+    pieces.update({f"h{number}.json": joined(piece, "[]") for number, piece in enumerate(titles)})
     folder = "pieces-" + hashlib.sha256("".join(pieces.values()).encode()).hexdigest()[:16]
     head = {key: index[key] for key in ("version", "lang", "fields", "ref", "pipeline")}
     head.update(save=store["save"], references=references, lengths=lengths(store, index["fields"], references), folder=folder)
-    head.update(tries=[piece[0][0] for piece in tries], texts=[piece[0][0] for piece in texts])
+    head.update(tries=[piece[0][0] for piece in tries], texts=[len(piece) for piece in texts], titles=[len(piece) for piece in titles])
+    head.update(title=title, sizes=[len(piece.encode()) for piece in pieces.values()])
     return {HEAD: compact(head), **{f"{folder}/{name}": piece for name, piece in pieces.items()}}
 
 

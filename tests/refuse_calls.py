@@ -3,7 +3,7 @@
 
 usage: refuse_calls.py [-v] [WORD ..]
 
-The built test of `elasticlunr_test_calls` makes the calls that its input lists. It writes a call right before it makes it
+The built test of `elasticlunr_tests` makes the calls that its input lists. It writes a call right before it makes it
 and ` -> ` right after, so the requests of the call alone are counted (count_requests.c). A row passes if
 
 - each call answers what the table says;
@@ -35,7 +35,7 @@ from tests.memory_shim import Shim
 from tests.report import Results
 from tools import repository
 
-PROGRAM = repository.program("elasticlunr_test_calls", "elasticlunr_test_calls_tests")
+PROGRAM = repository.program("elasticlunr_tests", "elasticlunr_tests_tests")
 TEST = "table::calls"
 PASSED = b"\n\ntest result: ok\n"  # what a test prints at its end
 
@@ -110,7 +110,7 @@ class Refused(NamedTuple):
 
 
 def refuse(program, row, number, wanted, may_go_on):
-    """Refuses each request of a call of a row in turn. Out of memory, it must answer what is wanted."""
+    """Refuses each request of a call of a row in turn. Out of memory, it must answer `wanted`."""
     shown, answers = after(row, number)
     before = shown if answers is None else []
     listed = [*row.calls[:number], *before, row.calls[number], *shown]

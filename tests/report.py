@@ -24,6 +24,11 @@ class Results:
         if not good and self.failed <= self.most:
             print(f"{FAILED}{failure}", flush=True)
 
+    def skip(self, name, lacking, number=1):
+        """Counts cases that cannot be tried here, and says what they lack."""
+        self.skipped += number
+        print(f"{name}: skipped, without {' and '.join(sorted(lacking))}", flush=True)
+
     def report(self):
         """Prints the last line of the check, and gives the status of its script. A check that tried nothing fails."""
         if self.passed + self.failed + self.skipped == 0:

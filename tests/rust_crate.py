@@ -37,6 +37,7 @@ from tools.repository import TOP, lines_of, printed, program, read, run
 CRATE = os.path.join(TOP, "rust/elasticlunr-rs")
 ORIGINAL = os.path.join(CRATE, "tests/original.jsonl")
 BELOW = ("serde", "serde_derive", "serde_json", "regex")  # the crates that must be there
+TABLES = os.path.join(TOP, "crates/elasticlunr_vectors/data")
 REGISTRIES = ["/usr/share/cargo/registry", os.path.join(TOP, "out/compare/*/registry")]
 MODES = {"plain": [], "as-original": ["--features", "as-original"]}
 MISSING = ("bin", "hu", "ja", "rust-stemmers", "zh")
@@ -62,7 +63,8 @@ class Cargo:
     def __init__(self, crates, lib):
         self.source = ["--config", 'source.crates-io.replace-with="debian"', "--config", f'source.debian.directory="{crates}"']
         self.target = os.path.join(TOP, "out/rust")
-        self.environment = {**os.environ, "CARGO_TARGET_DIR": self.target, "ELASTICLUNR_LIB_DIR": os.path.abspath(lib), "RUST_BACKTRACE": "0"}
+        own = {"CARGO_TARGET_DIR": self.target, "ELASTICLUNR_LIB_DIR": os.path.abspath(lib), "ELASTICLUNR_TABLES": TABLES, "RUST_BACKTRACE": "0"}
+        self.environment = {**os.environ, **own}
         self.copy = os.path.join(self.target, "crate")
         shutil.rmtree(self.copy, ignore_errors=True)
         shutil.copytree(CRATE, self.copy, ignore=shutil.ignore_patterns("Cargo.lock", "target"))
@@ -144,8 +146,7 @@ def check_sites(cargo, results):
     if os.path.exists(program("elasticlunr_index")):
         check_site("a site in each language", plain, list(site_rows()), results)
     else:
-        print("rust: elasticlunr_index is not built, so no site is compared with it", flush=True)
-        results.skipped += len(PAGES)
+        results.skip("rust, a site in each language", ["elasticlunr_index"], len(PAGES))
     check_memory(plain, results)
     check_site("the original's texts", cargo.site("as-original"), list(original_rows()), results)
 
@@ -184,9 +185,10 @@ def check_missing(cargo, results):
 def main():
     results = Results("rust", most=20)
     crates = registry()
-    if not shutil.which("cargo") or not crates:
-        print("rust: no cargo, or none of Debian's packages of " + ", ".join(BELOW), flush=True)
-        results.skipped += 1
+    there = {"cargo": shutil.which("cargo"), f"Debian's packages of {', '.join(BELOW)}": crates}
+    lacking = [name for name, is_there in there.items() if not is_there]
+    if lacking:
+        results.skip("rust", lacking)
         return results.report()
     try:
         if "--built" not in sys.argv:

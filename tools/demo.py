@@ -17,9 +17,8 @@ import sys
 
 sys.path.insert(0, os.path.join(os.path.dirname(__file__), ".."))
 
-from tests import pieces_model
 from tools import search_page
-from tools.repository import TOP, printed, read, write
+from tools.repository import TOP, printed, program, read, write
 
 DEMO = os.path.join(search_page.FETCHED, "demo")
 SITES = {"english": "job.json", "german": "german.json", "korean": "korean.json"}
@@ -48,7 +47,8 @@ def make_large_site():
     job = json.loads(made.stdout)
     search_page.copy(folder)
     search_page.take_pieces(os.path.join(folder, "search.html"))
-    pieces_model.write(printed(job), os.path.join(folder, "search"))
+    command = [program("elasticlunr_cli"), "build", "--format", "job", "--pieces", os.path.join(folder, "search")]
+    subprocess.run(command, input=made.stdout, check=True)
     write_pages(folder, job)
 
 

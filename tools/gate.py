@@ -4,9 +4,9 @@ shows the progress.
 
 usage: gate.py LOG
 
-A crate has a line once it is proved, with the seconds since the beginning. Some kits keep what `rt ci` passed on a
-machine: then what an earlier run proved of the very same files is not proved again, and such a mutant is not tried again. A crate
-of which that is so has a line that says so. Tests and programs run each time.
+A crate has a line once it is proved, with the seconds since the beginning. The kit keeps on the machine what `rt ci` passed:
+what an earlier run proved of the very same files is not proved again, and such a mutant is not tried again. A crate of which that
+is so has a line that says so. Tests and programs run each time. Kits older than 13f keep nothing: then all is proved and tried.
 
 Everything that `rt ci` says goes to the log. What it says of a crate that is not proved, of a mutant that was not refused
 or of a test that failed is shown, too; then the checks are stopped and count for nothing. What the checks say
@@ -40,8 +40,8 @@ from tools import build
 from tools.crates import crates, folder
 from tools.repository import TOP, read
 
-CALLS = "elasticlunr_test_calls"  # its test makes single calls, and a check runs it
-UNUSED = ("elasticlunr_bench", "elasticlunr_vectors")  # programs that no check runs
+CALLS = "elasticlunr_tests"  # a check runs its test of single calls
+UNUSED = ("elasticlunr_bench",)  # a program that no check runs
 PATIENCE = 75  # minutes, after which the library for C is not begun
 SHOWN = 30  # lines that rt said before a failure
 GOOD = re.compile(r"rt: \w+(: its tests( are)?)? (proved|passed)$")

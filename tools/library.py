@@ -29,7 +29,7 @@ Libs: -L${{prefix}}/lib -lelasticlunr
 
 def version():
     """The version of this port, which the command prints."""
-    return re.search(r'VERSION: &str = "(\d+\.\d+\.\d+)', read("crates/elasticlunr_cli/src/words.rt"))[1]
+    return re.search(r'VERSION: &str = "(\d+\.\d+\.\d+)', read("crates/elasticlunr_cli_words/src/words.rt"))[1]
 
 
 def functions():

@@ -7,7 +7,8 @@ mkdir -p out
 log=out/test.log
 : >"$log"
 echo "Proves every crate, tries the mutants, runs the tests and, as soon as the programs are built, the checks of tests/."
-echo "This takes one to three hours on four cores, by how fast they are. Everything that is said goes to $log."
+echo "From nothing this takes one to three hours on four cores, by how fast they are. What passed on this machine before, of the same"
+echo "files, is kept, unless the kit is older than 13f. Everything that is said goes to $log."
 python3 tools/gate.py "$log"
 status=$?
 awk '/^([a-z]+: )?[0-9]+ passed, [0-9]+ failed(, [0-9]+ skipped)?$/ {

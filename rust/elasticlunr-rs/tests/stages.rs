@@ -2,12 +2,17 @@
 //! computed by elasticlunr-rs 3.0.2.
 use elasticlunr::lang::{from_code, languages};
 use elasticlunr::Language;
-use std::fs;
 use std::path::{Path, PathBuf};
+use std::{env, fs};
 
+/// A table of the repository, or of the folder that ELASTICLUNR_TABLES names.
 fn data(name: &str) -> PathBuf {
-    Path::new(env!("CARGO_MANIFEST_DIR"))
-        .join("../../crates/elasticlunr_vectors/data")
+    let own = "../../crates/elasticlunr_vectors/data";
+    env::var_os("ELASTICLUNR_TABLES")
+        .map_or_else(
+            || Path::new(env!("CARGO_MANIFEST_DIR")).join(own),
+            PathBuf::from,
+        )
         .join(name)
 }
 

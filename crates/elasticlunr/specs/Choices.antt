@@ -122,7 +122,7 @@ module _ {L T : Type 0} (tokens_of : L → Text → List Text) (answers : T → 
   IsMadeAt language (Some None) value made = made ≡ tokens_of language (chars value)
   IsMadeAt language (Some (Some tokenizer)) value made = answers tokenizer value made
 
-  -- the pipeline may leave these tokens of those that are made of the value for the field of this
+  -- the pipeline may make these tokens of those that are made of the value for the field of this
   -- number
   pub record Reads {P : Type 0} (runs : P → List Text → List Text → Type 0) (c : Choices L P T)
       (i : ℕ) (value : Bytes) (tokens : List Text) : Type 0 where

@@ -53,7 +53,7 @@ pub record EndCompacting (calls : List Call) : Type 0 where
   pub earlier : List Call
   pub are : calls ≡ earlier ++ compacting ∷ []
 
--- nothing is left of a document that is not current
+-- no posting, text or length is of a document that is not current
 abbrev pub LeaveOnlyCurrent : List Call → Type 0
 LeaveOnlyCurrent calls = EndCompacting calls ⊎ AddEachOnce calls
 

@@ -4,16 +4,16 @@ use Rattle.std.specs.List.{AllZip}
 use Rattle.std.specs.Str.{chars}
 use Rattle.elasticlunr_text.specs.Text.{Text, Bytes}
 
--- whatever the field, these are what is left of the tokens that the language makes of the value;
--- `leaves_of` relates a token to what may be left of it
+-- whatever the field, these are what the stages make of the tokens that the language makes of the
+-- value; `leaves_of` relates a token to what its stages may make of it
 pub record LanguageReads (tokens_of : Text → List Text) (leaves_of : Text → Option Text → Type 0)
     (i : ℕ) (value : Bytes) (tokens : List Text) : Type 0 where
   pub lefts : List (Option Text)
   pub each : AllZip leaves_of (tokens_of (chars value)) lefts
   pub are : tokens ≡ filter_map (λ left. left) lefts
 
--- these are what is left of tokens that are given; `leaves_of` relates a token to what may be left
--- of it
+-- these are what the stages make of tokens that are given; `leaves_of` relates a token to what its
+-- stages may make of it
 pub record LanguageLeaves (leaves_of : Text → Option Text → Type 0) (given tokens : List Text)
     : Type 0 where
   pub lefts : List (Option Text)

@@ -24,8 +24,8 @@ one_field_plan language stages reference_field field = record {
   stages = stages;
 }
 
--- the tree where this is left of the token: a node for each character, and at the end the posting
--- of the reference, the root of 1
+-- the tree where the stages make this of the token: a node for each character, and at the end the
+-- posting of the reference, the root of 1
 abbrev pub word_tree : (left : Text) (reference : Bytes) → Data
 word_tree [] reference = object (member (codes "df") (number (unsigned 1))
     (member (codes "docs") (object (frequencies ((reference, 1000000) ∷ []))) no_members))

@@ -42,7 +42,7 @@ kind_name english_stemmer = codes "stemmer"
 kind_name arabic_stemmer = codes "stemmer-ar"
 kind_name (keep name) = name
 
--- what it may leave of a token
+-- what it may make of a token
 abbrev pub KindLeaves : Kind → Text → Option Text → Type 0
 KindLeaves english_trimmer token left = left ≡ Some (trimmed is_word_char token)
 KindLeaves (stop_words filter) token left = left ≡ without filter token
@@ -51,7 +51,7 @@ KindLeaves english_stemmer token left = IsSomeAnd left (Stem token)
 KindLeaves arabic_stemmer token left = left ≡ arabic_stem token
 KindLeaves (keep name) token left = left ≡ Some token
 
--- what several may leave of a token, one after the other: what one drops stays dropped
+-- what several may make of a token, one after the other: what one drops stays dropped
 abbrev pub KindsLeave : List Kind → Text → Option Text → Type 0
 KindsLeave [] token left = left ≡ Some token
 KindsLeave (kind ∷ kinds) token left = (first : Option Text) × KindLeaves kind token first
@@ -71,8 +71,8 @@ abbrev pub HoldsKinds : List Kind → List Data → Type 0
 HoldsKinds kinds ds = (each : List (Option Data)) × AllZip HoldsKind kinds each
     × (ds ≡ filter_map (λ d. d) each)
 
--- these are stages of the language: they have the names of its stages, and leave of each token what
--- it leaves
+-- these are stages of the language: they have the names of its stages, and make of each token what
+-- it makes
 pub record AreStagesOf (language : AnyLanguage) (kinds : List Kind) : Type 0 where
   pub names : map kind_name kinds ≡ language_stages language
   pub leave : (token : Text) (left : Option Text) → IsTrue (all_scalars token)
@@ -91,7 +91,7 @@ HoldsLanguages (language ∷ languages) ds =
     (its : List Data) × (others : List Data) × HoldsLanguage language its
     × HoldsLanguages languages others × (ds ≡ its ++ others)
 
--- the kind of a stage that is none of a user's own
+-- the kind of a stage that is no custom one
 abbrev pub kind_of : {f x p calls : _} → Stage f x p calls → Option Kind
 kind_of EnglishTrimmer = Some english_trimmer
 kind_of (StopWords filter) = Some (stop_words filter)
@@ -102,7 +102,7 @@ kind_of (Keep name) = Some (keep (string_bytes name))
 kind_of (Function wrapper) = None
 kind_of (Own step) = None
 
--- what a script holds of a stage: what it holds of its kind, and nothing of a user's own
+-- what a script holds of a stage: what it holds of its kind, and nothing of a custom stage
 abbrev pub HoldsStage : {f x p calls : _} → Stage f x p calls → Option Data → Type 0
 HoldsStage stage d = MatchOption (kind_of stage) (d ≡ None) (λ kind. HoldsKind kind d)
 

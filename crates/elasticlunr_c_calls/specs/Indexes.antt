@@ -35,7 +35,7 @@ plan_in input language = record {
   stages = stages_in language;
 }
 
--- a text may have these tokens: what the language reads of it, what the language leaves of given
+-- a text may have these tokens: what the language reads of it, what the language makes of given
 -- tokens, or given tokens as they are
 abbrev pub MayHave : InputLanguage → flat.Tokens → ℕ → (text : Bytes) → (tokens : List Text)
     → Type 0

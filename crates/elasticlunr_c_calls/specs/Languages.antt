@@ -21,7 +21,7 @@ abbrev pub stages_in : InputLanguage → List Bytes
 stages_in (BuiltIn language) = language_stages language
 stages_in (Own name stages) = bytes_of stages.items
 
--- what its stages may leave of a token: those of a custom language leave it as it is
+-- what its stages may make of a token: those of a custom language change none
 abbrev pub leaves_in : InputLanguage → Text → Option Text → Type 0
 leaves_in (BuiltIn language) token left = language_leaves language token left
 leaves_in (Own name stages) token left = left ≡ Some token

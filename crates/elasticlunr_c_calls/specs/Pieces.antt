@@ -24,7 +24,7 @@ IsNoCutting bytes = (cutting : flat.Cutting) → ¬ IsFormOfCutting bytes cuttin
 abbrev pub IsFolderOf : flat.Cutting → InPieces → Type 0
 IsFolderOf cutting made = IsMadeOf cutting.input (HasFolderAfter cutting.title cutting.size made)
 
--- a head and pieces have this outcome, and this tells them
+-- a head and pieces have this outcome, and this is their flat form
 abbrev pub IsTold : InPieces → PiecesOutcome → Bytes → Type 0
 IsTold made Made answer = IsFlatFolder (folder_told made)
     × (answer ≡ flat_folder (folder_told made))

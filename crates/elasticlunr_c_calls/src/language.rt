@@ -9,7 +9,7 @@ use elasticlunr::pipeline::{Pipeline, Stage};
 use std::alloc::{AllocError, Global};
 
 /// A language that an input names. The caller runs a custom language before the call: here its
-/// tokens are words, and its stages leave each token as it is.
+/// tokens are words, and its stages change no token.
 #[derive(Drop)]
 pub enum InputLanguage {
     BuiltIn(AnyLanguage),
@@ -60,7 +60,7 @@ impl Language for InputLanguage {
     }
 }
 
-/// A pipeline of stages with these names that leave each token as it is.
+/// A pipeline of stages with these names that change no token.
 fn named_stages(alloc: Global, names: &[String], empty: Pipeline) -> Result<Pipeline, AllocError>
     ensures names { IfOk result (λ pipeline. names_by name_text pipeline ≡ bytes_of names.now) }
     ensures leaves { IfOk result (λ pipeline. LeavesBy leaves pipeline

@@ -48,7 +48,7 @@ impl Make for Cutter<'_> {
     }
 }
 
-/// What answers where there are a head and pieces: their flat form, or that it can't tell them.
+/// What answers where there are a head and pieces: their flat form, or that they don't fit into it.
 fn told(alloc: Global, made: &InPieces) -> Result<(PiecesOutcome, Vec<u8>), FlatError>
     ensures ok { IfOk result (λ a. IsTold made.now a.0 a.1.items) }
     ensures err { IfErr result (λ fault. fault ≡ Memory) }

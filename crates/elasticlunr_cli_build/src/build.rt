@@ -173,7 +173,7 @@ fn number_of(text: &str) -> Option<usize> {
     }
 }
 
-/// Builds the index of an input, and does with it what is wanted.
+/// Builds the index of an input, and does with it what the options ask for.
 fn build_of(
     rt: &HostRuntime,
     task: &Task<'_, '_>,
@@ -257,7 +257,7 @@ fn is_refused(rt: &HostRuntime, task: &Task<'_, '_>, notes: &Notes) -> io::Resul
     Ok(task.given.get_flag("strict") && !notes.warnings.is_empty())
 }
 
-/// Does with the text of an index what is wanted.
+/// Does with the text of an index what the options ask for.
 fn use_index(
     rt: &HostRuntime,
     task: &Task<'_, '_>,
@@ -320,8 +320,8 @@ fn output_name<'a>(task: &'a Task<'_, '_>) -> &'a str {
     }
 }
 
-/// Writes the text of an index where that is wanted, publishes the pieces, and says how many there
-/// are.
+/// Writes the text of an index where that is asked for, publishes the pieces, and says how many
+/// there are.
 fn use_pieces(
     task: &Task<'_, '_>,
     cutting: &Cutting<'_>,

@@ -34,8 +34,8 @@ impl From<IndexError> for Stop {
     }
 }
 
-/// What is asked for: the folder, the bytes of a piece, and whether the text of the index is wanted
-/// as well.
+/// What the options ask for: the folder, the bytes of a piece, and whether the text of the index is
+/// written as well.
 #[derive(Drop)]
 pub struct Cutting<'r> {
     pub rt: &'r HostRuntime,
@@ -53,7 +53,7 @@ pub struct Cutting<'r> {
 pub struct Cut {
     pub head: Head,
     pub sizes: Sizes,
-    /// The text of the index, and a line feed, where it is wanted.
+    /// The text of the index, and a line feed, where it is asked for.
     pub text: Option<String>,
 }
 

@@ -66,7 +66,7 @@ end_warnings notes fields = if notes.taken == 0
 abbrev pub last_number : Notes → Bytes → Option ℕ
 last_number notes reference = get_by_text notes.references reference
 
--- the warning that the document of this number takes the place of an earlier one
+-- the warning that the document of this number replaces an earlier one
 abbrev pub replacing_text : (number : ℕ) (reference : Bytes) (before : ℕ) → Bytes
 replacing_text number reference before = codes "document " ++ (decimal number ++ (codes " (\""
     ++ (reference ++ (codes "\") replaces document " ++ (decimal before

@@ -223,7 +223,7 @@ impl Notes {
         self.property(reference)
     }
 
-    /// Takes whether the document takes the place of an earlier one.
+    /// Takes whether the document replaces an earlier one.
     fn replacing(&mut self, reference: &str) -> Result<(), AllocError>
         ensures warnings { OnOk result (warnings_of self.new ≡ warnings_of self.old
             ++ replacing_warnings self.old.taken reference.now (last_number self.old reference.now)) }

@@ -50,7 +50,7 @@ kept_at rules fields i value = option_map_or (λ field. kept_words rules field v
     (slice_get fields i) (words (chars value))
 
 -- the tokens that may be read of a value: what the language reads of it, or, where there are rules,
--- what the language leaves of the words that they keep
+-- what the language makes of the words that they keep
 abbrev pub ReadsBy : Option WordRules → List Bytes → AnyLanguage → ℕ → Bytes → List Text → Type 0
 ReadsBy None fields language = LanguageReads (language_tokens language) (language_leaves language)
 ReadsBy (Some rules) fields language = λ i value tokens. LanguageLeaves (language_leaves language)

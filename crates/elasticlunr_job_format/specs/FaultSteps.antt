@@ -25,7 +25,7 @@ pub record HasJobKeys (d : Data) : Type 0 where
   pub is_object : IsSome (as_object d)
   pub only : HasOnly job_keys d
 
--- the member under the key, if there is one, is what is wanted
+-- the member under the key, if there is one, is what has to stand there
 abbrev pub IsFitUnder : Data → Key → Type 0
 IsFitUnder d key = IfSome (get (key_name key) d) (IsWanted (wanted_under key))
 

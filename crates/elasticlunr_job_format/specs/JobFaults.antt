@@ -49,7 +49,7 @@ pub record IsFirstNoDocument (items : List Data) (i : ℕ) (fault : DocumentFaul
   pub there : slice_get items i ≡ Some item
   pub has : HasDocumentFault item fault
 
--- what keeps a value from being what is wanted: it is of another kind, or it has an item that is no
+-- why a value is not what it has to be: it is of another kind, or it has an item that is no
 -- text, or no document
 abbrev pub HasMemberFault : Wanted → Data → MemberFault → Type 0
 HasMemberFault Text d (Other found) = (as_str d ≡ None) × (found ≡ kind_of d)

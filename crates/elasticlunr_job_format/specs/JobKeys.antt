@@ -32,7 +32,7 @@ wanted_under Pretty = Truth
 wanted_under Remove = Texts
 wanted_under Compact = Truth
 
--- the value is what is wanted
+-- the value is what has to stand there
 abbrev pub IsWanted : Wanted → Data → Type 0
 IsWanted Text d = (text : Bytes) × (d ≡ string text)
 IsWanted Truth d = (truth : Bool) × (d ≡ boolean truth)

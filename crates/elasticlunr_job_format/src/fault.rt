@@ -28,16 +28,16 @@ pub enum Fault<'a> {
     NotAnObject(Kind),
     /// It has this key, which is none of a job.
     UnknownKey(&'a str),
-    /// The member under this key is not what is wanted there.
+    /// The member under this key is not what has to stand there.
     Member(Key, MemberFault),
     /// It is an object without this key, which a job has.
     Missing(Key),
 }
 
-/// What keeps a member from being what is wanted. Items are numbered from 0.
+/// Why a member is not what it has to be. Items are numbered from 0.
 #[derive(Clone, Copy)]
 pub enum MemberFault {
-    /// It is of this kind, where another is wanted.
+    /// It is of this kind, where another has to stand.
     Other(Kind),
     /// The first item that is no text, and what it is.
     Item(usize, Kind),
@@ -121,7 +121,7 @@ fn documents_fault(value: &Value) -> Option<MemberFault>
     Some(MemberFault::Document(number, fault))
 }
 
-/// What keeps a value from being what is wanted.
+/// Why a value is not what it has to be.
 fn member_fault(value: &Value, wanted: Wanted) -> Option<MemberFault>
     ensures some { IfSome result (HasMemberFault wanted (view value.now)) }
     ensures none { IfNone result (IsWanted wanted (view value.now)) }

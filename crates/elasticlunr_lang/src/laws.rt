@@ -71,7 +71,7 @@ pub fn a_name_names_one_language()
     ensures { (one other : AnyLanguage) → language_name one ≡ language_name other → one ≡ other }
 {}
 
-/// The stages of a built-in language leave one answer of a token.
+/// The stages of a built-in language give a token one answer.
 pub fn a_kept_language_leaves_one_answer()
     ensures { (language : AnyLanguage) (token : Text) (left other : Option Text)
         → language_leaves language token left → language_leaves language token other → left
@@ -79,7 +79,7 @@ pub fn a_kept_language_leaves_one_answer()
 {}
 
 /// A language whose meaning is that of some pipeline, as `make_pipeline` says of the one that it
-/// answers, leaves one answer of a token.
+/// answers, gives a token one answer.
 pub fn a_language_leaves_one_answer<L: Language>(language: &L, pipeline: &Pipeline)
     ensures { LeavesBy leaves pipeline.now (L.leaves_of language.now)
         → LeavesOne (L.leaves_of language.now) }

@@ -1,5 +1,5 @@
-//! The stages of the built-in languages. Their names and classes are good, so that memory alone can
-//! be wanting.
+//! The stages of the built-in languages. Their names and classes are good, so that they fail for
+//! lack of memory alone.
 ghost use Rattle.std.specs.Prelude.{◌≡◌, ◌++◌, ℕ, codes, string_bytes, IfOk};
 ghost use Rattle.elasticlunr_text.specs.Text.{word_texts};
 ghost use Rattle.elasticlunr_text.specs.StopWords.{filter_name, HasWords};

@@ -7,13 +7,13 @@ use Rattle.elasticlunr_store.specs.Contents.{field_length}
 use Rattle.elasticlunr_store.specs.Options.{Options}
 use Rattle.elasticlunr_trie.specs.Table.{postings, IsPrefix}
 
--- a token can stand for a word: for itself, or with `expand` for what it begins
+-- a token can match a word: for itself, or with `expand` for what it begins
 abbrev pub CanStandFor : (expand : Bool) → (token word : Text) → Type 0
 CanStandFor false token word = word ≡ token
 CanStandFor true token word = IsPrefix token word
 
 -- The fields are searched alike, have as many documents with the same lengths, and the same
--- postings at each word that one of the tokens can stand for.
+-- postings at each word that one of the tokens can match.
 pub record AreAlike (tokens : List Text) (field other : Field) : Type 0 where
   pub name : field.name ≡ other.name
   pub join : field.join ≡ other.join

@@ -69,7 +69,7 @@ pub fn a_piece_adds_its_postings()
 {}
 
 /// Tables with the postings of all pieces that tokens need have, at each word that one of the
-/// tokens can stand for, the postings of the index.
+/// tokens can match, the postings of the index.
 pub fn needed_pieces_are_enough()
     ensures { (parts : Parts) (field : Bytes) (size : ℕ) (tries : List (List Bytes))
         (texts : List (List TextMap)) (titles : List (List Bytes))

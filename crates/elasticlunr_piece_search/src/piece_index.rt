@@ -110,7 +110,7 @@ impl<'h> PieceIndex<'h> {
 }
 
 /// The printed text of an index with the settings of a head, and no document. A searcher of it
-/// tells the tokens of a query.
+/// answers with the tokens of a query.
 pub fn empty_text(alloc: Global, head: &PieceHead) -> Result<String, PieceFault>
     ensures { IfOk result (λ text. (tables : List Table) × (contents : Contents)
         × IsTextOf compact_text (plan_of head.now contents) tables contents (string_bytes text)) }

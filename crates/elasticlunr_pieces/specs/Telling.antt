@@ -1,4 +1,4 @@
--- When the entries of pieces tell what the index has.
+-- When the entries of pieces determine what the index has.
 use Rattle.std.specs.Prelude.{ℕ, List, [], ◌∷◌, IsSome}
 use Rattle.elasticlunr_error.specs.Text.{Bytes}
 use Rattle.elasticlunr_pieces.specs.Entries.{number_of}

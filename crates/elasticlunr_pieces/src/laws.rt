@@ -43,8 +43,8 @@ pub fn tokens_with_one_beginning_are_neighbours()
         → BeginsWith token beginning }
 {}
 
-/// The list of a token in a field tells its postings, where their references have numbers: tables
-/// with one list have the same postings.
+/// The list of a token in a field determines its postings, where their references have numbers:
+/// tables with one list have the same postings.
 pub fn lists_tell_postings()
     ensures { (names : List Bytes) (table other : Table) (token : Bytes)
         → HasNumbers names (entries (postings table (chars token)))
@@ -53,10 +53,10 @@ pub fn lists_tell_postings()
         → postings table (chars token) ≡ postings other (chars token) }
 {}
 
-/// The values of the pieces and of the head tell what they were made of. Pieces of the tries with
-/// the same members have the same tokens, and each has the same lists; heads with the same lengths
-/// are of documents with these lengths; and pieces of the texts with the same items have the same
-/// documents.
+/// The values of the pieces and of the head determine what they were made of. Pieces of the tries
+/// with the same members have the same tokens, and each has the same lists; heads with the same
+/// lengths are of documents with these lengths; and pieces of the texts with the same items have
+/// the same documents.
 pub fn pieces_tell_the_index()
     ensures tokens { (names tokens others : List Bytes) (tables more : List Table)
         → token_members names tables tokens ≡ token_members names more others → tokens ≡ others }

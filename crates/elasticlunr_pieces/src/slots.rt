@@ -113,7 +113,7 @@ fn put_text(slots: &mut [Slot], texts: &[&str], place: usize)
     put_slot(slots, hash_of(text), slot);
 }
 
-// Puts a slot in the place of a free one of its hash, if one is.
+// Puts a slot where a free one of its hash is, if one is.
 fn put_slot(slots: &mut [Slot], hash: u64, slot: Slot)
     ensures { (texts : List Bytes) → All (HasPlace texts) slots.old → HasPlace texts slot
         → All (HasPlace texts) slots.new }

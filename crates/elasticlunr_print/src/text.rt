@@ -11,7 +11,7 @@ use elasticlunr_error::IndexError;
 use elasticlunr_json::{CompactText, PrettyText};
 use std::alloc::Global;
 
-// What the names and the keys beside the tries and the store take, unless there are many fields.
+// What the names and the keys next to the tries and the store take, unless there are many fields.
 const HEAD: usize = 1024;
 
 // Room for about the whole compact text. It is a power of two, which is where a text that grows by

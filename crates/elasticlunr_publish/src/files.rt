@@ -1,4 +1,4 @@
-//! A file that takes the place of another one.
+//! A file that replaces another one.
 
 use crate::temporary::{Kind, make_temporary};
 use std::fs::{File, Permissions};

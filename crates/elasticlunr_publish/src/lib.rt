@@ -1,5 +1,5 @@
-//! Files that readers find whole: a file that takes the place of another one, and an index in
-//! pieces, whose head takes the place of an earlier head.
+//! Files that readers find whole: a file that replaces another one, and an index in
+//! pieces, whose head replaces an earlier head.
 #![tactic(auto)]
 
 pub mod files;

@@ -19,7 +19,7 @@ use Rattle.elasticlunr_ranking.specs.Fields.{Field}
 use Rattle.elasticlunr_ranking.specs.Logarithm.{logarithm_of}
 use Rattle.elasticlunr_ranking.specs.Numbers.{zero_double, one_double, expanded, first_of_two_units}
 
--- the words that a token stands for: itself, or the tokens that begin with it, in the order of
+-- the words that a token matches: itself, or the tokens that begin with it, in the order of
 -- their characters
 abbrev pub AreWordsOf : Table → (expand : Bool) → Text → List Text → Type 0
 AreWordsOf table false token words = words ≡ token ∷ []

@@ -35,7 +35,7 @@ pub(crate) fn token_scores<'a>(
     Ok(entries)
 }
 
-// The words that a token stands for.
+// The words that a token matches.
 fn words_of(alloc: Global, field: &SearchedField, token: &str) -> Result<Vec<String>, AllocError>
     ensures { IfOk result (λ words. AreWordsOf field.now.trie.now field.now.expand
         (chars token.now)

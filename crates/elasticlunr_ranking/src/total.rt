@@ -16,7 +16,7 @@ use std::collections::BTreeMap;
 /// The documents that the tokens find in one or more of the fields, the best first, and equally
 /// good ones in the order of their references' bytes.
 ///
-/// It costs the postings of the words that the tokens stand for, each with a look-up among the
+/// It costs the postings of the words that the tokens match, each with a look-up among the
 /// references that were found, and a sort of these.
 pub fn ranked_hits(
     alloc: Global,

@@ -12,7 +12,7 @@ pub record AreTokensOf (reads : ℕ → Bytes → List Text → Type 0) (i : ℕ
   pub are : tokens ≡ filter is_not_empty all
 
 -- whatever the field, the tokens that a language makes of a text are run to these; `runs` relates
--- tokens to what stages leave of them
+-- tokens to what stages make of them
 abbrev pub RunReads : (tokens_of : Text → List Text) → (runs : List Text → List Text → Type 0) → ℕ
     → Bytes → List Text → Type 0
 RunReads tokens_of runs i value tokens = runs (tokens_of (chars value)) tokens

@@ -34,7 +34,7 @@ module _ {L P X : Type 0} {O : X → Type 0} {p : _} where
         → IsRankingOf Are (LanguageReads (tokens_of language) (leaves_of language)) s query options
         hits
 
-    -- whatever language and pipeline it has, by what the pipeline leaves of the language's tokens
+    -- whatever language and pipeline it has, by what the pipeline makes of the language's tokens
     abbrev pub AreHitsAsChosen : (query : Bytes) → Options → (hits : List (Bytes × Float)) → Type 0
     AreHitsAsChosen query options hits = (language : L) (pipeline : Pipeline P X O p)
         → IsChosen s language pipeline

@@ -82,7 +82,7 @@ module _ {L P X : Type 0} {O : X → Type 0} {p : _} where
       → Searches s plan commands
       → (i : ℕ) × (slice_get plan.fields i ≡ Some field) × FindsJoined join commands i tokens found
 
-  -- it speaks this language: that is its own, and its pipeline leaves what the language does;
+  -- it speaks this language: that is its own, and its pipeline makes what the language makes;
   -- `leaves_of` is the output of a language's stages for a token, `leaves` that of a boxed stage
   pub record Speaks (leaves_of : L → Text → Option Text → Type 0) (leaves : (v : X) × O v → Text
       → Option Text) (s : Searcher L P X O p) (language : L) : Type 0 where
@@ -104,7 +104,7 @@ module _ {L P X : Type 0} {O : X → Type 0} {p : _} where
         → FindsInTrie (LanguageReads (tokens_of language) (leaves_of language)) (fields_of s)
         s.printed.tries.items join field query found
 
-    -- whatever language and pipeline it has, these references are found of what the pipeline leaves
+    -- whatever language and pipeline it has, these references are found of what the pipeline makes
     -- of the language's tokens, in the trie of the field
     abbrev pub AreFoundAsChosen : Join → (field query : Bytes) → (found : List Bytes) → Type 0
     AreFoundAsChosen join field query found = (language : L) (pipeline : Pipeline P X O p)

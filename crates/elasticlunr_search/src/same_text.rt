@@ -15,7 +15,7 @@ use std::marker::Model;
 /// Takes the tokens of a text, one after another, and stops at the first one that the text has not
 /// next. The stop is reported as out of memory, the one error that a printer has.
 ///
-/// A clause sees the text and the tokens that are left of it.
+/// A clause sees the text and the tokens that the pipeline makes of it.
 #[derive(Drop)]
 pub(crate) struct SameText<'a> {
     text: &'a str,

@@ -53,7 +53,7 @@ use std::collections::{BTreeMap, BTreeSet};
 /// A printed index, the language that it was built with, and the pipeline of that language.
 ///
 /// It keeps the allocator that its constructor was handed. The tokens of a query are what the
-/// language makes of it and its pipeline leaves, without empty ones, which no index has. What is
+/// language and its pipeline make of it, without empty ones, which no index has. What is
 /// found is what the tries have at these, whoever printed the index.
 #[derive(Drop)]
 pub struct Searcher<L> {
@@ -434,7 +434,7 @@ impl<L: Language> Searcher<L> {
     /// The documents that the query's tokens find in the fields that the options choose, each with
     /// its score, the best first: in all fields, or in those for which there are options. Equally
     /// good ones stand in the order of their references' bytes. It costs the postings of the words
-    /// that the tokens stand for, and a sort of what is found.
+    /// that the tokens match, and a sort of what is found.
     pub fn search(&self, query: &str, options: &SearchOptions) -> Result<Vec<Hit>, SearchError>
         ensures no_field { result ≡ Err NoSuchField
             → LacksFieldOf self.now (named_fields (options_of options.now)) }

@@ -7,7 +7,7 @@ use Rattle.std.specs.FinMap as finite
 use Rattle.elasticlunr_error.specs.Text.{Text, Bytes, texts_of}
 use Rattle.elasticlunr_store.specs.Contents.{Contents, TextMap, with_length}
 
--- the texts of the tokens that are left of a value, none where there are no tokens
+-- the texts of the tokens of a value, none where there are no tokens
 abbrev pub texts_left : Option (Vec (String Global) Global) → Option (List Text)
 texts_left tokens = option_map (λ left. texts_of left.items) tokens
 

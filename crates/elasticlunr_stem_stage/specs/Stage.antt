@@ -1,4 +1,4 @@
--- What a stage that stems is called, and what it leaves.
+-- What a stage that stems is called, and what it makes of a token.
 use Rattle.std.specs.Prelude.{◌≡◌, ◌++◌, Option, Some, codes}
 use Rattle.std.specs.Str.{chars}
 use Rattle.elasticlunr_error.specs.Text.{Text, Bytes}

@@ -11,7 +11,7 @@ use elasticlunr_stems::{Stemmer, TableError};
 use elasticlunr_text::pipeline::PipelineFn;
 use std::alloc::{AllocError, Global};
 
-/// A stage that makes a token its stem, and drops it where nothing is left of it. It goes after the
+/// A stage that makes a token its stem, and drops it where the stem is empty. It goes after the
 /// trimmer and the stop words of its language, as `Stage::Own`. Tokens must be in lower case, as
 /// those of the built-in languages are.
 ///

@@ -4,7 +4,7 @@ use Rattle.std.specs.Prelude.{IfSome}
 use Rattle.elasticlunr_error.specs.Text.{Text}
 use Rattle.elasticlunr_stems.specs.Tables.{Row}
 
--- the length that is left of the text, which itself stays, where the step applies
+-- the length of the text after the step; the text itself stays, where the step applies
 abbrev pub Shortens : Option Text → Text → Option ℕ → Type 0
 Shortens wanted text None = wanted ≡ None
 Shortens wanted text (Some len) = (len ≤ length text) × (wanted ≡ Some (take len text))

@@ -12,7 +12,7 @@ pub enum Answer {
     Flag(bool),
     Number(u64),
     Text(String),
-    /// What is left of a token.
+    /// What the stages make of a token.
     Left(Option<String>),
     Texts(Vec<String>),
     /// The one or two characters of a lower case.

@@ -23,7 +23,7 @@ impl<'a> Line<'a> {
     }
 }
 
-/// What is left of the lines, and how many calls answered as their lines say, or otherwise.
+/// The remaining lines, and how many calls answered as their lines say, or otherwise.
 #[derive(Drop)]
 pub struct Listed<'a> {
     // `None`: the lines of standard input
@@ -61,7 +61,7 @@ impl<'a> Listed<'a> {
         Ok(!rest.is_empty())
     }
 
-    /// Counts an answer to a line that says what it has to be, and tells a wrong one.
+    /// Counts an answer to a line that says what it has to be, and prints a wrong one.
     pub fn note(&mut self, rt: &HostRuntime, line: Line<'_>, answer: &str) -> io::Result<()> {
         let Some(wanted) = line.wanted else {
             return Ok(());

@@ -1,4 +1,4 @@
-//! Functions, stages and tokenizers of the user's own.
+//! Custom functions, stages and tokenizers.
 ghost use Rattle.std.specs.Prelude.{◌≡◌, ◌++◌, ◌∷◌, [], IfOk, None, Some, codes, option_map};
 ghost use Rattle.std.specs.Prelude.{string_bytes, if◌then◌else◌};
 ghost use Rattle.std.specs.Str.{bytes_eq, chars, encode_utf8_all};
@@ -17,7 +17,7 @@ use std::alloc::{AllocError, Global};
 use std::process::Abort;
 use std::test::Fail;
 
-/// What is left of a token: none of `x`, and else the token followed by `!`.
+/// What the stage makes of a token: nothing of `x`, and else the token followed by `!`.
 fn marked(_alloc: Global, mut token: String) -> Result<Option<String>, AllocError>
     ensures { IfOk result (λ left. option_map string_bytes left
         ≡ (if bytes_eq (string_bytes token) (codes "x") then None else Some

@@ -1,4 +1,4 @@
-//! A language of the user's own.
+//! A custom language.
 use elasticlunr::lang::Language;
 use elasticlunr::pipeline::{Pipeline, Stage};
 use elasticlunr::{Index, IndexError};

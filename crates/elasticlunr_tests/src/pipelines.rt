@@ -1,4 +1,4 @@
-//! Pipelines, with functions and objects of the user's own too.
+//! Pipelines, with custom functions and objects too.
 ghost use Rattle.std.specs.Prelude.{◌≡◌, IfOk, Some, option_map};
 ghost use Rattle.elasticlunr_text.specs.Text.{text_of};
 ghost use Rattle.elasticlunr_text.specs.Trimmed.{unless_empty};

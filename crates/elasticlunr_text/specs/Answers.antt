@@ -1,4 +1,4 @@
--- What a function of the user's own may answer.
+-- What a custom function may answer.
 use Rattle.std.specs.Prelude.{◌≡◌, ℕ, List, Option, option_map, Ok}
 use Rattle.std.specs.declared.string.String.{String}
 use Rattle.std.specs.declared.alloc.Global.{Global}

@@ -1,4 +1,4 @@
--- The nodes below a place, in the order of their texts, and what is left of them; for private
+-- The nodes below a place, in the order of their texts, and the rest of them; for private
 -- clauses.
 use Rattle.std.specs.Prelude.{◌≡◌, ◌≢◌, ℕ, zero, suc, ◌+◌, ◌*◌, Bool, List, [], ◌∷◌, ◌++◌, length}
 use Rattle.std.specs.Prelude.{take, slice_get, nat_lt, if◌then◌else◌}

@@ -6,8 +6,8 @@ use Rattle.elasticlunr.specs.Known.{language_leaves}
 use Rattle.elasticlunr.specs.Reading.{LanguageReads}
 use Rattle.elasticlunr.specs.Text.{Text, Bytes}
 
--- the tokens of a title are what English leaves of what the tokenizer gives for it, and those of a
--- body what it leaves of its words
+-- the tokens of a title are what English makes of what the tokenizer gives for it, and those of a
+-- body what it makes of its words
 abbrev pub ReadsTitles : (gives : Bytes → List Text → Type 0) → ℕ → Bytes → List Text → Type 0
 ReadsTitles gives zero value tokens = (made : List Text) × gives value made
     × LanguageReads (λ _. made) (language_leaves english) zero value tokens

@@ -20,7 +20,7 @@ pub fn values_without_tokens_make_the_same_documents<L: Language>(index: &Index<
         ↔ IsDocument L.tokens_of leaves index.now reference (value_texts values) document }
 {}
 
-/// An index that reads what a language reads, and whose pipeline leaves what the language leaves,
+/// An index that reads what a language reads, and whose pipeline makes what the language makes,
 /// makes of values with tokens only the documents that the language makes of them.
 pub fn values_with_tokens_make_what_a_language_makes<L: Language>(index: &Index<L>)
     ensures { (lang : L) (reference : Bytes) (values : List FieldValue) (document : Document)

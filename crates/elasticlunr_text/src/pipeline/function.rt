@@ -1,4 +1,4 @@
-//! What a pipeline calls on a token: the trait, and a function of the user's own.
+//! What a pipeline calls on a token: the trait, and a custom function.
 ghost use Rattle.std.specs.Prelude.{◌≡◌, Option, String, Ok, option_map};
 ghost use Rattle.std.specs.declared.alloc.Global.{Global};
 ghost use Rattle.elasticlunr_text.specs.Text.{text_of};

@@ -27,7 +27,7 @@ impl Pipeline {
         Ok(names)
     }
 
-    /// What the stages leave of one token.
+    /// What the stages make of one token.
     fn filter(&self, alloc: Global, token: String) -> Result<Option<String>, AllocError>
         ensures { IfOk result (λ left. MayFilterTo leaves self.now (text_of token)
             (option_map text_of left)) }
@@ -42,7 +42,7 @@ impl Pipeline {
         Ok(Some(token))
     }
 
-    /// Puts what the stages leave of one more token after what was kept of others. A token that a
+    /// Puts what the stages make of one more token after what was kept of others. A token that a
     /// stage drops adds nothing; one that a stage empties is added.
     pub fn run_on(
         &self,
@@ -60,7 +60,7 @@ impl Pipeline {
         Ok(())
     }
 
-    /// What the stages leave of each token, in order. A token that a stage drops is gone; one that
+    /// What the stages make of each token, in order. A token that a stage drops is gone; one that
     /// a stage empties stays.
     pub fn run(&self, alloc: Global, tokens: Vec<String>) -> Result<Vec<String>, AllocError>
         ensures { IfOk result (λ left. IsRun leaves self.now (texts_of tokens.items)

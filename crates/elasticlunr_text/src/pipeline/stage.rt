@@ -8,7 +8,7 @@ use crate::lang::common::{RegexTrimmer, StopWordFilter};
 use crate::lang::{ar, en};
 use std::alloc::{AllocError, Global};
 
-/// A stage of a pipeline: of a kind that the library knows, or of the user's own.
+/// A stage of a pipeline: of a kind that the library knows, or a custom one.
 #[derive(Drop)]
 pub enum Stage {
     /// `lang::en::trimmer`, with the name `trimmer`.
@@ -23,9 +23,9 @@ pub enum Stage {
     ArabicStemmer,
     /// Keeps every token; the text is the name.
     Keep(String),
-    /// A function of the user's own; with the wrapper's name.
+    /// A custom function; with the wrapper's name.
     Function(FnWrapper),
-    /// An object of the user's own, with its own name. Its type holds no function pointer and no
+    /// A custom object, with its own name. Its type holds no function pointer and no
     /// boxed object.
     Own(Box<dyn PipelineFn>),
 }

@@ -76,7 +76,7 @@ pub struct TokenCache {
 }
 
 impl TokenCache {
-    // Nothing is remembered, and no memory requested.
+    // Nothing is remembered, and no memory is taken.
     pub(super) fn new(alloc: Global) -> Self
         ensures { (step : Step) → AreEnds step result }
     {

@@ -88,7 +88,7 @@ fn is_own_key(key: &str) -> bool
     key == "docs" || key == "df"
 }
 
-// The children that the members tell, numbered on from the values that wait. Their values wait
+// The children that the members describe, numbered on from the values that wait. Their values wait
 // after these. Keys come in the order of their bytes, which is that of the characters, so each
 // child goes last.
 fn read_children<'a>(

@@ -18,7 +18,7 @@ impl InvertedIndex {
     /// characters. All tokens begin with the empty text.
     ///
     /// A step for each character of the text and for each node below it, with no recursion, and a
-    /// copy of each token. Beside the tokens it takes a copy of the longest one, and 16 bytes for
+    /// copy of each token. Besides the tokens it takes a copy of the longest one, and 16 bytes for
     /// each of its characters.
     pub fn tokens(&self, alloc: Global, prefix: &str) -> Result<Vec<String>, AllocError>
         ensures order { IfOk result (λ v. IsStrictlySortedBy text_cmp (texts_of v.items)) }

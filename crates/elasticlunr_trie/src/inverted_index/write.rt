@@ -107,7 +107,7 @@ fn write_members<W: Tokens>(
     Ok(())
 }
 
-// Writes the first tokens of what is left of an object, and keeps the rest.
+// Writes the first tokens of the rest of an object, and keeps the rest.
 fn write_next<'a, W: Tokens>(
     order: Order,
     nodes: &'a [Node],

@@ -361,7 +361,7 @@
       const entry = { bytes: 0, coming: null }, cache = this.failed.has(name) ? "reload" : "default";
       entry.coming = fetchValue(this.get, name, cache).then(({ value, bytes }) => {
         const size = this.sizes.get(file);
-        if (size !== undefined && size !== bytes) throw fault(name, `has ${bytes} bytes in place of ${size}, which ${HEAD} says`);
+        if (size !== undefined && size !== bytes) throw fault(name, `has ${bytes} bytes instead of ${size}, which ${HEAD} says`);
         const made = read(value, name);
         this.take(entry, bytes);
         return made;

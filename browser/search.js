@@ -651,8 +651,8 @@
     document.addEventListener("keydown", key);
   }
 
-  // An address begins with its scheme or server. Any other name is the path of a file or a folder, in which `#`, `?` and `%` stand
-  // for themselves.
+  // An address begins with its scheme or server. Any other name is the path of a file or a folder, in which `#`, `?` and `%`
+  // have no special meaning.
   function addressOf(name) {
     return /^(https?:)?\/\//i.test(name) ? name : name.split("/").map(encodeURIComponent).join("/");
   }

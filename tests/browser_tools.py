@@ -73,7 +73,7 @@ def ended(handler, _content):
 
 
 def answered(content):
-    """Answers with this in place of the file."""
+    """Answers with this instead of the file."""
     def answer(handler, _content):
         handler.send_response(200)
         handler.send_header("Content-Length", str(len(content)))
@@ -82,7 +82,7 @@ def answered(content):
     return answer
 
 
-# What a server may answer once in place of a file
+# What a server may answer once instead of a file
 WRONG = {
     "no connection": ended,
     "an error of the server": lambda handler, _content: handler.send_error(503),

@@ -163,7 +163,7 @@ def linked(folder, made, name, *flags):
 
 
 def check_answers(name, command, call, rows, results):
-    """Whether each input has its answer. A program of C can't be told more than these."""
+    """Whether each input has its answer, and there is no other answer."""
     ended = run([*command, "answers", call], listed(rows), seconds=SECONDS)
     found = answers_in(ended.out)
     results.note(ended.status == 0 and len(found) == len(rows), f"c, {name}: status {ended.status}, {len(found)} answers, {ended.err[-300:]}")

@@ -1,8 +1,8 @@
 """How much longer a program takes for an input twice as long.
 
-The seconds of the processor tell it quickly. Where they say too many times, other programs that run at the same time may be
-why: then valgrind counts the instructions of a run of each, and these decide. If a run is too long to be counted, or valgrind
-is not there, the seconds decide.
+The seconds of the processor come first. Where the longer input takes too many times as long, other programs that ran at the
+same time may be why: then valgrind counts the instructions of a run of each, and these decide. If a run is too long to be
+counted, or valgrind is not there, the seconds decide.
 """
 import glob
 import math

@@ -280,7 +280,7 @@ def stages(language):
 
 
 def left(language, token):
-    """What the stages of a language leave of a token: a text, or None."""
+    """What the stages of a language output for a token: a text, or None."""
     if language.code == "ar":
         return arabic_stem(token) or None
     if language.code == "en":

@@ -18,7 +18,7 @@ const { open } = require(path.resolve(reader))(elasticlunr);
 
 const HEAD = "search.json";
 
-// A server of files, in place of a network. It counts what is fetched, and some answers are wrong.
+// A server of files, instead of a network. It counts what is fetched, and some answers are wrong.
 class Server {
   constructor(files) {
     this.files = files;
@@ -329,7 +329,7 @@ const CASES = {
         if (members.length < 2 || answer === files[name]) continue;
         const server = new Server(files), opened = await open(server.get);
         server.answerOnce(name, answer);
-        await assert.rejects(() => opened.search(token, {}), (error) => error.file === name && / has \d+ bytes in place of \d+, which /.test(error.message));
+        await assert.rejects(() => opened.search(token, {}), (error) => error.file === name && / has \d+ bytes instead of \d+, which /.test(error.message));
         const believing = new Server({ ...withOlderHead(files), [name]: answer });
         await (await open(believing.get)).search(token, {});
         tried++;

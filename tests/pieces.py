@@ -363,7 +363,7 @@ def compare(options, library, results):
     for name, wrong in told["cases"]:
         results.note(wrong is None, f"pieces, {name}: {wrong}")
     if len(told["cases"]) != CASES:
-        results.note(False, f"pieces: {len(told['cases'])} cases in place of {CASES}")
+        results.note(False, f"pieces: {len(told['cases'])} cases instead of {CASES}")
     for kind in LEAST:
         answers = [answer for query, answer in zip(tried.queries, told["queries"]) if tried.kind(query) == kind]
         note_kind(kind, tried, answers, results)

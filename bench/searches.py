@@ -76,11 +76,11 @@ def row(index, folder, query, rounds):
     return len(found), mine, theirs, statistics.median(inner)
 
 
-def told(runs):
+def medians(runs):
     return statistics.median(it.seconds for it in runs), statistics.median(it.megabytes for it in runs)
 
 
-def tell(site, folder, rounds):
+def show(site, folder, rounds):
     """Prints the table of a site."""
     index = os.path.join(folder, "index.json")
     timed([program("elasticlunr_cli"), "build", "--format", "job", job_of(site, folder), "-o", index], os.devnull)
@@ -88,7 +88,7 @@ def tell(site, folder, rounds):
     for query in OF_BOOK if site == "book" else OF_PAGES:
         count, mine, theirs, inner = row(index, folder, query, rounds)
         name = f"`{query}`" + (", `--expand`" if query in EXPANDED else "")
-        (own, own_megabytes), (other, other_megabytes) = told(mine), told(theirs)
+        (own, own_megabytes), (other, other_megabytes) = medians(mine), medians(theirs)
         both = f"{own:.3f}, {own_megabytes:.0f} | {other:.3f}, {other_megabytes:.0f}"
         print(f"| {name} | {count} | {both} | {own / other:.2f} | {inner:.1f} |", flush=True)
 
@@ -103,7 +103,7 @@ def main():
     for site in options.sites:
         with tempfile.TemporaryDirectory() as folder:
             write(os.path.join(folder, "driver.js"), SCRIPT)
-            tell(site, folder, options.rounds)
+            show(site, folder, options.rounds)
 
 
 if __name__ == "__main__":

@@ -24,7 +24,10 @@ from tools import crates
 from tools.repository import TOP, say
 
 NOTES = os.path.join(TOP, "out")  # what was said, and what was built
-FIRST = {"elasticlunr_index": "12 to 30 minutes on four cores, by how fast they are"}  # a build from nothing
+FIRST = {  # a build from nothing
+    "elasticlunr_index": "12 to 30 minutes on four cores, by how fast they are",
+    "elasticlunr_cli": "up to two hours on four cores",
+}
 SHOWN = 40  # lines of the log if a crate isn't proved
 CRATE = re.compile(r"crate (\w+): modules loaded=")
 PROVED = "logic=proved "  # follows the line of a crate

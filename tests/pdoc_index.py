@@ -7,20 +7,20 @@ pdoc 15.0.1 is Debian's package python3-pdoc of trixie. It and what it needs are
 own sources name (tools/apt_beside.sh), and unpacked in a folder of its own; nothing is installed. Needs node, the network and
 out/lib/libelasticlunr.so (`make lib`).
 
-- Each file but search.js is the same, byte for byte, but for what pdoc itself writes in another way in each run.
-- For each query the search of both pages finds the same documents, and none that is better by pdoc's own scores comes later.
+- Each file but search.js is the same, byte for byte, but for addresses in memory. pdoc writes mail addresses by random numbers, which
+  begin with one seed here.
+- For each query the search of both pages finds the same documents with equal scores, and the best come first.
 
-Left out are documents whose name another one has as well (elasticlunr.js keeps the words of the first one), and queries that find
-the word "constructor", of which elasticlunr.js can't count how often it stands in a text.
+Several documents of pdoc's may have one name. The last one counts here, and pdoc's own index is made of these as well: elasticlunr.js
+would keep the words of the others, which nobody finds then, and count them. Queries that find the word "constructor" are left out:
+elasticlunr.js can't count how often it stands in a text.
 """
-import html
 import json
 import os
 import re
 import subprocess
 import sys
 import tempfile
-from collections import Counter
 
 sys.path.insert(0, os.path.join(os.path.dirname(__file__), ".."))
 
@@ -37,13 +37,21 @@ apt_of "$0/apt" "$(archive)" trixie
 cd "$0" && apt-get -qq download {PACKAGES} >&2
 for package in *.deb; do dpkg-deb -x "$package" root; done
 """
+SEEDED = """
+import random, runpy, sys
+random.seed(271828)
+del sys.argv[0]
+runpy.run_path(sys.argv[0], run_name="__main__")
+"""
 KEPT = """
-import json, sys
+import json, random, sys
+random.seed(271828)
 import pdoc.__main__, pdoc.render
 made = pdoc.render.precompile_index
 def kept(documents, script):
-    json.dump([document["fullname"] for document in documents], open(sys.argv[-1] + ".names", "w"))
-    return made(documents, script)
+    last = list({document["fullname"]: document for document in documents}.values())
+    json.dump([len(documents), len(last)], open(sys.argv[-1] + ".numbers", "w"))
+    return made(last, script)
 pdoc.render.precompile_index = kept
 pdoc.__main__.cli()
 """
@@ -56,7 +64,7 @@ const answers = JSON.parse(fs.readFileSync(process.argv[3])).map((query) => pdoc
 process.stdout.write(JSON.stringify(answers));
 """
 QUERIES, LEAST_FOUND, LEAST_DOCUMENTS = 400, 250, 1_500
-CLOSE = 0.05  # of a score: the documents that are left out change how rare a word is
+SCALE, EQUAL = 1e6, 1e-6  # frequencies are whole millionths here: so many times the score, and as exact
 
 
 def built(root, script, folder):
@@ -70,22 +78,21 @@ def found(folder, queries, name):
     return json.loads(library.ran(["node", program, os.path.join(folder, name, "search.js"), queries]))
 
 
-def without_chance(page):
-    """A page without what differs from run to run: addresses in memory, and how the letters of mail addresses are written."""
-    return html.unescape(re.sub(r"0x[0-9a-f]{6,}", "", page.decode()))
+def without_addresses(page):
+    """A page without addresses in memory, which differ from run to run."""
+    return re.sub(rb"0x[0-9a-f]{6,}", b"", page)
 
 
 def is_counted(query):
     return not any("constructor".startswith(part) for part in re.split("[^a-z]+", query.lower()) if part)
 
 
-def check_query(query, theirs, ours, left_out, results):
-    scores, refs = ({ref: score for ref, score in answer if ref not in left_out} for answer in (theirs, ours))
-    refs = list(refs)
-    results.note(sorted(scores) == sorted(refs), f"pdoc, {query!r}: {len(refs)} documents instead of {len(scores)}")
-    if sorted(scores) == sorted(refs):
-        worse = [ref for ref, after in zip(refs, refs[1:]) if scores[ref] < scores[after] * (1 - CLOSE)]
-        results.note(not worse, f"pdoc, {query!r}: {worse[:3]} come before better ones")
+def check_query(query, theirs, ours, results):
+    theirs, scores = {ref: SCALE * score for ref, score in theirs}, [score for _, score in ours]
+    results.note(sorted(theirs) == sorted(ref for ref, _ in ours), f"pdoc, {query!r}: {len(ours)} documents instead of {len(theirs)}")
+    differ = [ref for ref, score in ours if abs(score - theirs.get(ref, score)) > EQUAL * score]
+    results.note(not differ, f"pdoc, {query!r}: other scores of {differ[:3]}")
+    results.note(scores == sorted(scores, reverse=True), f"pdoc, {query!r}: the best don't come first")
 
 
 def main():
@@ -95,24 +102,23 @@ def main():
             subprocess.run(["bash", "-euc", UNPACK, folder], check=True)
             theirs, ours = (os.path.join(folder, name) for name in ("theirs", "ours"))
             built(folder, ["-c", KEPT], theirs)
-            built(folder, [os.path.join(TOP, "examples/python/pdoc_index.py")], ours)
+            built(folder, ["-c", SEEDED, os.path.join(TOP, "examples/python/pdoc_index.py")], ours)
             files, others = files_in(theirs), files_in(ours)
             indexes = [files.pop("search.js"), others.pop("search.js")]
-            differ = [name for name in files if name not in others or without_chance(files[name]) != without_chance(others[name])]
+            differ = [name for name in files if name not in others or without_addresses(files[name]) != without_addresses(others[name])]
             results.note(not differ and len(others) == len(files) >= len(MODULES), f"pdoc: other files than search.js differ: {differ}")
             words = sorted(set(re.findall(r"[A-Za-z_]{2,12}", re.sub(r"<[^>]*>", " ", b" ".join(files.values()).decode()))))
             words = list(filter(is_counted, words))
             queries = [*words[:: len(words) // QUERIES], "event loop", "json.dumps", "assertEqual", "read_input", "(fp, *", "-"]
             asked = write(os.path.join(folder, "queries"), json.dumps(queries))
             answers = [found(folder, asked, name) for name in ("theirs", "ours")]
-            names = json.loads(read(theirs + ".names"))
-            twice = {name for name, count in Counter(names).items() if count > 1}
+            documents, last = json.loads(read(theirs + ".numbers"))
             for query, *both in zip(queries, *answers):
-                check_query(query, *both, twice, results)
+                check_query(query, *both, results)
             many = sum(map(bool, answers[0]))
             results.note(many >= LEAST_FOUND, f"pdoc: {many} queries find something")
-            results.note(len(names) >= LEAST_DOCUMENTS, f"pdoc: {len(names)} documents")
-            print(f"pdoc: {len(names)} documents, {len(queries)} queries; {len(indexes[0])} bytes by node, {len(indexes[1])} here", flush=True)
+            results.note(last >= LEAST_DOCUMENTS, f"pdoc: {last} documents")
+            print(f"pdoc: {last} of {documents} documents, {len(queries)} queries; {len(indexes[0])} bytes by node, {len(indexes[1])} here", flush=True)
     except (OSError, ValueError, subprocess.SubprocessError) as error:
         results.note(False, f"pdoc: {error!r}")
     return results.report()

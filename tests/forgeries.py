@@ -143,6 +143,7 @@ CHANGES = {  # whose program is run, what is changed of its run, and how
         CHANGES_WORDS,
         'words = [str(1 + int(word)) if before == "--max-token" else word for before, word in zip(["", *words], words)]',
     ),
+    "a command that indexes no reference": (COMMAND, CHANGES_WORDS, 'words = [word for word in words if word != "--index-ref"]'),
     "always ends well": (COMMAND, CHANGES_ANSWER, "status = 0"),
     "stems after one version": (STEMS, CHANGES_WORDS, 'words[1:] = ["current"]'),
     "stems one word less": (STEMS, CHANGES_ANSWER, 'out = out[: out[:-1].rfind(b"\\n") + 1]'),
@@ -280,6 +281,8 @@ def forged_commands(folder):
         yield Forgery(name, "command", f"^command, {said}: ", name, rest, COMMAND)
     longer = "a command that allows a character more"
     yield Forgery(longer, "command", "^command, kept, short, lines, English: ", longer, (few, "check_kept"), COMMAND)
+    hidden = "a command that indexes no reference"
+    yield Forgery(hidden, "command", "^command, kept, the reference is indexed, objects, English: ", hidden, (few, "check_kept"), COMMAND)
     yield Forgery("a table of commands cut short", "command", f"^command, table: {COMMANDS - 1} rows instead of {COMMANDS}", arguments=(cut, "none"))
 
 

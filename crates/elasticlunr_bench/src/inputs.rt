@@ -94,6 +94,7 @@ fn take_lines(alloc: Global, lines: &str, digest: &mut Digest) -> Result<(), Fai
         drops_texts: false,
         pretty: false,
         rules: None,
+        indexes_reference: false,
     };
     let mut notes = Notes::new(alloc);
     let mut reader = lines.as_bytes();

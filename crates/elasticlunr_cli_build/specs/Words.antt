@@ -35,3 +35,4 @@ pub record AreSettings (words : ArgMatches) (language : Option Bytes) (longest :
   pub pretty : IsFlag words (codes "pretty") settings.pretty
   pub rules : settings.rules
       ≡ rules_in (option_map names_in (first_value (found_of words) (codes "store"))) longest
+  pub indexes_reference : IsFlag words (codes "index-ref") settings.indexes_reference

@@ -27,6 +27,7 @@ pub fn settings_given(
         drops_texts: given.get_flag("no-save"),
         pretty: given.get_flag("pretty"),
         rules: rules_given(alloc, stored, longest),
+        indexes_reference: given.get_flag("index-ref"),
     })
 }
 

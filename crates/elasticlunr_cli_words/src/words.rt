@@ -70,6 +70,7 @@ fn input_words<'a>(alloc: Global, command: Command<'a>) -> Result<Command<'a>, A
     let reference = "The key of an object's reference [default: id]";
     let fields = "The fields, with a comma between them";
     let language = "A name or a code of `elasticlunr languages`";
+    let indexed = "Indexes the reference as well";
     let store = "Members that are stored and not indexed, with a comma between them";
     let longest = "Leaves out words of more characters than this";
     let progress = "Reports when the input is read and the index is made";
@@ -77,6 +78,7 @@ fn input_words<'a>(alloc: Global, command: Command<'a>) -> Result<Command<'a>, A
         Arg::new(alloc, "file").value_name("FILE").help(file),
         option(alloc, "format", "FORM", format).value_parser(forms),
         option(alloc, "ref", "KEY", reference),
+        flag(alloc, "index-ref", indexed),
         option(alloc, "fields", "KEYS", fields),
         option(alloc, "lang", "LANGUAGE", language),
         option(alloc, "store", "KEYS", store),

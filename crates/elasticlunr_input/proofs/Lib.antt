@@ -1,3 +1,5 @@
+pub mod FreeNames
+pub mod Numbered
 pub mod FieldKeys
 pub mod LinesBy
 pub mod LineLemmas

@@ -16,7 +16,7 @@ use Rattle.elasticlunr_job_format.specs.declared.objects.ObjectFault.{ObjectFaul
 use Rattle.elasticlunr_job_format.specs.declared.outcome.Refusal.{Refusal}
 use Rattle.elasticlunr_job_format.specs.declared.outcome.Refusal.TheVariants.{NotJson, NotAJob, UnknownLanguage}
 use Rattle.elasticlunr_job_format.specs.declared.outcome.Refusal.TheVariants.{DuplicateField, TooManyValues}
-use Rattle.elasticlunr_input.specs.Asked.{options_of, reference_key_of}
+use Rattle.elasticlunr_input.specs.Asked.{options_of, options_with, reference_key_of}
 use Rattle.elasticlunr_input.specs.Fields.{fields_of_first, text_keys}
 use Rattle.elasticlunr_input.specs.Lines.{IsLinesMadeWith}
 use Rattle.elasticlunr_input.specs.Refused.{FailLines, FailObjects, HasUnreadLine}
@@ -73,8 +73,7 @@ first_alike key (v ∷ first) (d ∷ items) e = let same : v ≡ d = cc in ap (t
 module _ (settings : Settings) (text : Bytes) (options : objects.Options) (first : List Data) (begins : map Some first
     ≡ take 1 (readings text)) (told : options ≡ options_of settings first) where
   pub first_options : (items : List Data) → AreLineValues text items → options ≡ options_of settings items
-  first_options items are = told ∙ ap (λ fs. record (options_of settings first)
-      { fields = with_stored settings.rules (reference_key_of settings) (unwrap_or settings.fields fs) })
+  first_options items are = told ∙ ap (options_with settings)
       (first_alike (reference_key_of settings) first items (begins ∙ ap (take 1) (sym are)))
 
   pub made_with : (Is : OfIndex) → IsMadeOfLines options text Is → IsLinesMadeWith settings text Is
@@ -91,8 +90,7 @@ module _ (settings : Settings) (text : Bytes) (options : objects.Options) (first
         let key = reference_key_of settings in
         let one : map Some first ≡ take 1 (map Some (d ∷ before)) = begins ∙ ap (take 1) (sym lines) in
         let same : options ≡ options_of settings (d ∷ before) = told
-        ∙ ap (λ fs. record (options_of settings first)
-        { fields = with_stored settings.rules (reference_key_of settings) (unwrap_or settings.fields fs) })
+        ∙ ap (options_with settings)
         (first_alike key first (d ∷ before) one) in
         subst (λ (o : objects.Options). AreDocumentsOf o (d ∷ before) docs) same are
 

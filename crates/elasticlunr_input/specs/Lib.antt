@@ -1,3 +1,4 @@
+pub mod References
 pub mod Settled
 pub mod Counts
 pub mod Fields

@@ -9,6 +9,7 @@ use Rattle.elasticlunr_job.specs.Answer.{FailsAt, IsMadeBy, OfIndex}
 use Rattle.elasticlunr_job_format.specs.Rules.{WordRules}
 use Rattle.elasticlunr_job_format.specs.declared.outcome.Refusal.{Refusal}
 use Rattle.elasticlunr_job_format.specs.declared.outcome.Refusal.TheVariants.{NotJson, NotAJob}
+use Rattle.elasticlunr_input.specs.References.{reference_name}
 use Rattle.elasticlunr_input.specs.declared.settings.Rules as declared_rules
 use Rattle.elasticlunr_input.specs.declared.settings.Settings as declared
 
@@ -20,6 +21,7 @@ pub record Settings : Type 0 where
   pub drops_texts : Bool
   pub pretty : Bool
   pub rules : Option WordRules
+  pub indexes_reference : Bool
 
 -- the rules that the program holds, if there are any, as their texts
 abbrev pub own_rules : Option declared_rules.Rules → Option WordRules
@@ -37,6 +39,7 @@ settings_told s = record {
   drops_texts = s.drops_texts;
   pretty = s.pretty;
   rules = own_rules s.rules;
+  indexes_reference = s.indexes_reference;
 }
 
 -- fields, and after them those that the rules only store and that are not among them; the reference
@@ -46,12 +49,21 @@ with_stored None reference_field fields = fields
 with_stored (Some rules) reference_field fields = fields ++ filter
     (λ name. not (has_name name (reference_field ∷ fields))) rules.stored
 
+-- the fields of a job with the settings
+abbrev pub job_fields : Settings → Job → List Bytes
+job_fields settings job = with_stored settings.rules
+    (unwrap_or settings.reference job.reference_field) (unwrap_or settings.fields job.fields)
+
+-- the name under which the index of a job has the references
+abbrev pub job_reference : Settings → Job → Bytes
+job_reference settings job = reference_name settings.indexes_reference
+    (unwrap_or settings.reference job.reference_field) (job_fields settings job)
+
 -- each setting that is given stands instead of the job's
 abbrev pub settled : Settings → Job → Job
 settled settings job = record job {
-  fields = with_stored settings.rules (unwrap_or settings.reference job.reference_field)
-      (unwrap_or settings.fields job.fields);
-  reference_field = unwrap_or settings.reference job.reference_field;
+  fields = job_fields settings job;
+  reference_field = job_reference settings job;
   language = unwrap_or settings.language job.language;
   save = if settings.drops_texts then false else job.save;
   pretty = if settings.pretty then true else job.pretty;

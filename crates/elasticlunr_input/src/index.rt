@@ -29,6 +29,7 @@ use crate::jobs::{job_made_of, job_refused, note_job};
 use crate::lines::{check_first, first_value, lines_made_of, read_head};
 use crate::mark::{read_start, without_mark};
 use crate::notes::Notes;
+use crate::references::{reference_name, with_reference};
 use crate::settings::{Settings, rules_of, text_or, texts_of, with_stored};
 use elasticlunr_diagnostics::form::{Form, asked_or_told, read_value};
 use elasticlunr_diagnostics::message::{InputError, wants};
@@ -240,8 +241,10 @@ fn made_of_lines<R: MarkedRead, M: Make>(
         → AreRefusedFrom (settings_told settings.now) (head.now ++ rest) e)) }
 {
     let first = first_value(alloc, last)?;
-    let options = options_of(alloc, settings, &first)?;
-    check_first(alloc, &options, &first, last)?;
+    let items = first.as_slice();
+    let reference = reference_field_of(alloc, settings, items)?;
+    let options = options_of(alloc, settings, items, reference.as_str())?;
+    check_first(alloc, &options, items, last)?;
     notes.begin(&options, settings)?;
     lines_made_of(alloc, &options, head, last, reader, notes, maker)
 }
@@ -262,28 +265,62 @@ fn made_of_objects<M: Make>(
     ensures place { IfErr result (IfPlaced (IsPlaceInObjects text.now
         (options_of (settings_told settings.now) (map view items.now)) (map view items.now))) }
 {
-    let options = options_of(alloc, settings, items)?;
+    let reference = reference_field_of(alloc, settings, items)?;
+    let options = options_of(alloc, settings, items, reference.as_str())?;
     let made = objects_made_of(alloc, text, items, &options, maker)?;
     notes.begin(&options, settings)?;
     note_objects(alloc, &options, items, notes)?;
     Ok(made)
 }
 
-/// How objects are read: the fields of the first one, where the settings name none.
+/// The fields of objects: those of the first one, where the settings name none.
+fn fields_of<'a>(
+    alloc: Global,
+    settings: &'a Settings,
+    items: &'a [Value],
+) -> Result<Vec<&'a str>, AllocError>
+    ensures { IfOk result (λ fields. texts_told fields.items
+        ≡ (options_of (settings_told settings.now) (map view items.now)).fields) }
+{
+    let key = text_or(&settings.reference, "id");
+    let fields = fields_or_first(alloc, settings, items, key)?;
+    let fields = with_reference(settings.indexes_reference, key, fields)?;
+    with_stored(alloc, &settings.rules, key, fields)
+}
+
+/// The name under which the index of objects has the references.
+fn reference_field_of(
+    alloc: Global,
+    settings: &Settings,
+    items: &[Value],
+) -> Result<String, AllocError>
+    ensures { IfOk result (λ name. string_bytes name
+        ≡ (options_of (settings_told settings.now) (map view items.now)).reference_field) }
+{
+    let key = text_or(&settings.reference, "id");
+    if !settings.indexes_reference {
+        return String::from_str(alloc, key);
+    }
+    let fields = fields_of(alloc, settings, items)?;
+    reference_name(alloc, key, &fields)
+}
+
+/// How objects are read. Their index has the references under this name.
 fn options_of<'a>(
     alloc: Global,
     settings: &'a Settings,
     items: &'a [Value],
+    reference_field: &'a str,
 ) -> Result<Options<'a>, AllocError>
     ensures { IfOk result (λ options.
-        options_told options ≡ options_of (settings_told settings.now) (map view items.now)) }
+        reference_field.now
+        ≡ (options_of (settings_told settings.now) (map view items.now)).reference_field
+        → options_told options ≡ options_of (settings_told settings.now) (map view items.now)) }
 {
-    let reference_key = text_or(&settings.reference, "id");
-    let fields = fields_or_first(alloc, settings, items, reference_key)?;
     Ok(Options {
-        reference_key,
-        reference_field: reference_key,
-        fields: with_stored(alloc, &settings.rules, reference_key, fields)?,
+        reference_key: text_or(&settings.reference, "id"),
+        reference_field,
+        fields: fields_of(alloc, settings, items)?,
         language: text_or(&settings.language, "English"),
         save: !settings.drops_texts,
         pretty: settings.pretty,

@@ -12,7 +12,7 @@ ghost use Rattle.elasticlunr_input.specs.Settled.{IsMadeWith, IsRefusedWith, set
 ghost use Rattle.serde_json.specs.View.{view};
 
 use crate::notes::Notes;
-use crate::settings::{Settings, rules_of, settle};
+use crate::settings::{Settings, job_reference, rules_of, settle};
 use elasticlunr_diagnostics::job_fault::fault_message;
 use elasticlunr_diagnostics::language::unknown_language;
 use elasticlunr_diagnostics::message::{InputError, Message, counted, message_at, unplaced};
@@ -37,17 +37,19 @@ pub(crate) fn job_made_of<'a, M: Make>(
     ensures err { IfErr result (StopsWithReason
         (IsRefusedWith (settings_told settings.now) (view value.now))) }
 {
-    let job = settle(alloc, parse(alloc, value)?, settings)?;
+    let own = parse(alloc, value)?;
+    let reference = job_reference(alloc, &own, settings)?;
+    let job = settle(alloc, own, settings, reference.as_str())?;
     let rules = rules_of(alloc, &settings.rules)?;
     job_made_by(alloc, &job, &rules, maker)
 }
 
 /// The message of a refusal of a job, with the settings instead of its members.
-pub(crate) fn job_refused(
+pub(crate) fn job_refused<'a>(
     alloc: Global,
     text: &[u8],
-    value: &Value,
-    settings: &Settings,
+    value: &'a Value,
+    settings: &'a Settings,
     refusal: Refusal,
 ) -> Result<Message, AllocError>
     ensures { IfOk result (λ message. IfSome message.place
@@ -57,8 +59,9 @@ pub(crate) fn job_refused(
         return fault_message(alloc, text, value, fault);
     }
     match parse(alloc, value) {
-        Ok(job) => {
-            let job = settle(alloc, job, settings)?;
+        Ok(own) => {
+            let reference = job_reference(alloc, &own, settings)?;
+            let job = settle(alloc, own, settings, reference.as_str())?;
             job_fault(alloc, text, &job, settings, refusal)
         }
         Err(JobError::Memory) => Err(AllocError),
@@ -180,18 +183,19 @@ fn too_many_values(alloc: Global, text: &[u8], job: &Job<'_>) -> Result<Message,
 }
 
 /// Notes what is suspicious in the documents of a job.
-pub(crate) fn note_job(
+pub(crate) fn note_job<'a>(
     alloc: Global,
-    value: &Value,
-    settings: &Settings,
+    value: &'a Value,
+    settings: &'a Settings,
     notes: &mut Notes,
 ) -> Result<(), AllocError> {
-    let job = match parse(alloc, value) {
+    let own = match parse(alloc, value) {
         Ok(job) => job,
         Err(JobError::Memory) => return Err(AllocError),
         Err(JobError::Refused(_)) => return Ok(()),
     };
-    let job = settle(alloc, job, settings)?;
+    let reference = job_reference(alloc, &own, settings)?;
+    let job = settle(alloc, own, settings, reference.as_str())?;
     notes.rules(&job.fields, settings)?;
     for doc in &job.docs {
         notes.document(doc.reference, &doc.values)?;

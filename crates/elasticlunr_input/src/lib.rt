@@ -13,4 +13,5 @@ mod jobs;
 mod lines;
 pub mod mark;
 pub mod notes;
+mod references;
 pub mod settings;

@@ -4,8 +4,10 @@ ghost use Rattle.elasticlunr.specs.Fields.{borrowed, has_name};
 ghost use Rattle.elasticlunr_text.specs.Text.{bytes_of};
 ghost use Rattle.elasticlunr_job_format.specs.JobTold.{job_told};
 ghost use Rattle.elasticlunr_job_format.specs.Rules.{given_rules};
-ghost use Rattle.elasticlunr_input.specs.Settled.{own_rules, settled, settings_told, with_stored};
+ghost use Rattle.elasticlunr_input.specs.Settled.{job_fields, job_reference, own_rules, settled};
+ghost use Rattle.elasticlunr_input.specs.Settled.{settings_told, with_stored};
 
+use crate::references::reference_name;
 use elasticlunr_job::job::Job;
 use elasticlunr_job::kept::has_name;
 use elasticlunr_job::rules::WordRules;
@@ -35,6 +37,8 @@ pub struct Settings {
     pub pretty: bool,
     /// Which words are indexed: all, where there are no rules.
     pub rules: Option<Rules>,
+    /// Whether the reference is a field as well, whose words are indexed.
+    pub indexes_reference: bool,
 }
 
 /// The texts of strings.
@@ -117,19 +121,52 @@ pub(crate) fn with_stored<'a>(
     Ok(all)
 }
 
-/// The job with the settings instead of what it says itself.
+/// The fields of a job with the settings.
+fn job_fields<'a>(
+    alloc: Global,
+    job: &Job<'a>,
+    settings: &'a Settings,
+) -> Result<Vec<&'a str>, AllocError>
+    ensures { IfOk result (λ fields. borrowed fields.items
+        ≡ job_fields (settings_told settings.now) (job_told job.now)) }
+{
+    let own = Vec::from_slice(alloc, &job.fields)?;
+    let fields = texts_or(alloc, &settings.fields, own)?;
+    let key = text_or(&settings.reference, job.reference_field);
+    with_stored(alloc, &settings.rules, key, fields)
+}
+
+/// The name under which the index of a job has the references.
+pub(crate) fn job_reference<'a>(
+    alloc: Global,
+    job: &Job<'a>,
+    settings: &'a Settings,
+) -> Result<String, AllocError>
+    ensures { IfOk result (λ name. string_bytes name
+        ≡ job_reference (settings_told settings.now) (job_told job.now)) }
+{
+    let key = text_or(&settings.reference, job.reference_field);
+    if !settings.indexes_reference {
+        return String::from_str(alloc, key);
+    }
+    let fields = job_fields(alloc, job, settings)?;
+    reference_name(alloc, key, &fields)
+}
+
+/// The job with the settings instead of what it says itself; its index has the references under
+/// this name.
 pub(crate) fn settle<'a>(
     alloc: Global,
     job: Job<'a>,
     settings: &'a Settings,
+    reference_field: &'a str,
 ) -> Result<Job<'a>, AllocError>
     ensures { IfOk result (λ settled_job.
-        job_told settled_job ≡ settled (settings_told settings.now) (job_told job.entry)) }
+        reference_field.now ≡ job_reference (settings_told settings.now) (job_told job.entry)
+        → job_told settled_job ≡ settled (settings_told settings.now) (job_told job.entry)) }
 {
-    let reference_field = text_or(&settings.reference, job.reference_field);
-    let fields = texts_or(alloc, &settings.fields, job.fields)?;
     Ok(Job {
-        fields: with_stored(alloc, &settings.rules, reference_field, fields)?,
+        fields: job_fields(alloc, &job, settings)?,
         docs: job.docs,
         reference_field,
         save: job.save && !settings.drops_texts,

@@ -1,8 +1,7 @@
-use Rattle.std.proofs.Common.{map, ap, subst, sym, ◌∙◌, Some}
+use Rattle.std.proofs.Common.{map, ap, ◌∙◌, Some}
 use Rattle.serde_json.specs.View.{view}
 use Rattle.elasticlunr_job.proofs.Stops.{err_more, ok_more}
 use Rattle.elasticlunr_job_format.specs.ObjectsTold.{options_told}
-use Rattle.elasticlunr_input.specs.Inputs.{IsRefusedFirst}
 use Rattle.elasticlunr_input.specs.Settled.{settings_told}
 use Rattle.elasticlunr_input.proofs.HeadLemmas.{chained_first, chained_made, chained_lines, chained_unread, exit_at}
 use Rattle.elasticlunr_input.proofs.index.made_of_lines.Goals as goal
@@ -15,32 +14,29 @@ returns-in_err-first-clause-err g c =
 
 pub returns-in_err-check_first-clause-err : goal.returns-in_err-check_first-clause-err
 returns-in_err-check_first-clause-err g c =
-    let are = ap (λ vs. map Some (map view vs)) c.deref.ensures.value ∙ c.in_ok-first.ensures.ok in
+    let are = ap (λ vs. map Some (map view vs)) c.as_slice-items.ensures.value ∙ c.in_ok-first.ensures.ok in
     exit_at c.from_residual-in_err-check_first.result _ c.in_err-check_first.field-0.0
     c.from_residual-in_err-check_first.ensures.1
     (chained_first c.args.head.now (g.R.Read.remaining c.args.reader.now) (settings_told c.args.settings.now)
     c.args.last.now c.in_err-check_first.field-0.0 (options_told c.in_ok-options.options)
-    (map view c.deref.result.now) are c.in_ok-options.ensures
-    (subst (λ vs. IsRefusedFirst (options_told c.in_ok-options.options) (map view vs) c.args.last.now
-    c.in_err-check_first.field-0.0) (c.deref-2.ensures.value ∙ sym c.deref.ensures.value)
-    c.in_err-check_first.ensures.err))
+    (map view c.as_slice-items.result.now) are (c.in_ok-options.ensures (c.as_str.ensures.value ∙ c.in_ok-reference.ensures))
+    c.in_err-check_first.ensures.err)
 
 pub returns-clause-ok : goal.returns-clause-ok
 returns-clause-ok g c =
-    let are = ap (λ vs. map Some (map view vs)) c.deref.ensures.value ∙ c.in_ok-first.ensures.ok in
+    let are = ap (λ vs. map Some (map view vs)) c.as_slice-items.ensures.value ∙ c.in_ok-first.ensures.ok in
     ok_more c.lines_made_of.result _ _
     (λ made is. chained_made c.args.head.now (g.R.Read.remaining c.args.reader.now) (settings_told c.args.settings.now)
-    (options_told c.in_ok-options.options) (map view c.deref.result.now) c.args.last.now (g.M.Make.makes c.args.maker.now made) are
-    c.in_ok-options.ensures is)
+    (options_told c.in_ok-options.options) (map view c.as_slice-items.result.now) c.args.last.now (g.M.Make.makes c.args.maker.now made) are
+    (c.in_ok-options.ensures (c.as_str.ensures.value ∙ c.in_ok-reference.ensures)) is)
     c.lines_made_of.ensures.ok
 
 pub returns-clause-err : goal.returns-clause-err
 returns-clause-err g c =
-    let are = ap (λ vs. map Some (map view vs)) c.deref.ensures.value ∙ c.in_ok-first.ensures.ok in
+    let are = ap (λ vs. map Some (map view vs)) c.as_slice-items.ensures.value ∙ c.in_ok-first.ensures.ok in
     err_more c.lines_made_of.result _ _
     (λ e is. chained_lines c.args.head.now (g.R.Read.remaining c.args.reader.now) (settings_told c.args.settings.now)
-    c.args.last.now (options_told c.in_ok-options.options) (map view c.deref.result.now) are
-    c.in_ok-options.ensures
-    (λ d rest same. c.in_ok-check_first.ensures.ok d rest
-    (ap (map view) (c.deref-2.ensures.value ∙ sym c.deref.ensures.value) ∙ same)) e is)
+    c.args.last.now (options_told c.in_ok-options.options) (map view c.as_slice-items.result.now) are
+    (c.in_ok-options.ensures (c.as_str.ensures.value ∙ c.in_ok-reference.ensures))
+    c.in_ok-check_first.ensures.ok e is)
     c.lines_made_of.ensures.err

@@ -1,4 +1,4 @@
-use Rattle.std.proofs.Common.{map, subst}
+use Rattle.std.proofs.Common.{map, subst, ◌∙◌}
 use Rattle.serde_json.specs.View.{view}
 use Rattle.elasticlunr_documents.specs.Objects.{IsMadeOfObjects}
 use Rattle.elasticlunr_job_format.specs.Objects as spec
@@ -17,12 +17,12 @@ returns-in_err-made-clause-err g c =
     refused_again (FailObjects (options_told c.in_ok-options.options) items)
     (FailObjects (options_of (settings_told c.args.settings.now) items) items) c.in_err-made.field-0.0
     c.from_residual-in_err-made.result
-    (λ fails. subst (λ (o : spec.Options). FailObjects o items) c.in_ok-options.ensures fails)
+    (λ fails. subst (λ (o : spec.Options). FailObjects o items) (c.in_ok-options.ensures (c.as_str.ensures.value ∙ c.in_ok-reference.ensures)) fails)
     c.from_residual-in_err-made.ensures.1 c.in_err-made.ensures.err
 
 pub returns-clause-ok : goal.returns-clause-ok
 returns-clause-ok g c = subst (λ (o : spec.Options). IsMadeOfObjects o (map view c.args.items.now)
-    (g.M.Make.makes c.args.maker.now c.in_ok-made.made)) c.in_ok-options.ensures c.in_ok-made.ensures.ok
+    (g.M.Make.makes c.args.maker.now c.in_ok-made.made)) (c.in_ok-options.ensures (c.as_str.ensures.value ∙ c.in_ok-reference.ensures)) c.in_ok-made.ensures.ok
 
 pub returns-in_err-made-clause-place : goal.returns-in_err-made-clause-place
 returns-in_err-made-clause-place g c =
@@ -31,5 +31,5 @@ returns-in_err-made-clause-place g c =
     placed_again (place_in (options_told c.in_ok-options.options))
     (place_in (options_of (settings_told c.args.settings.now) items)) c.in_err-made.field-0.0
     c.from_residual-in_err-made.result
-    (λ place is. subst (λ (o : spec.Options). place_in o place) c.in_ok-options.ensures is)
+    (λ place is. subst (λ (o : spec.Options). place_in o place) (c.in_ok-options.ensures (c.as_str.ensures.value ∙ c.in_ok-reference.ensures)) is)
     c.from_residual-in_err-made.ensures.1 c.in_err-made.ensures.place

@@ -6,11 +6,11 @@ not_if true = refl
 not_if false = refl
 
 pub returns : goal.returns
-returns c = rw (
-  c.in_ok-with_stored.ensures,
+returns c named = rw (
+  c.in_ok-fields_of.ensures,
   c.in_ok-rules_of.ensures,
-  c.in_ok-fields.ensures,
-  c.text_or-reference_key.ensures,
   c.text_or.ensures,
+  c.text_or-2.ensures,
+  named,
   ← not_if c.args.settings.now.drops_texts,
 ) refl

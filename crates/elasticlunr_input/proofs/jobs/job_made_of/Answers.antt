@@ -1,4 +1,4 @@
-use Rattle.std.proofs.Common.{subst}
+use Rattle.std.proofs.Common.{subst, ◌∙◌}
 use Rattle.serde_json.specs.Data.{Data}
 use Rattle.serde_json.specs.View.{view}
 use Rattle.elasticlunr_job.specs.Answer.{FailsAt, IsMadeBy}
@@ -25,10 +25,10 @@ stops_with settings d job is (Refused refusal.TooManyValues) fails = (job, is, f
 pub returns-clause-ok : goal.returns-clause-ok
 returns-clause-ok g c = ok_more c.job_made_by.result _ _
     (λ made is. (
-      job_told c.in_ok-parse.field-0,
-      c.in_ok-parse.ensures.ok,
+      job_told c.in_ok-own.own,
+      c.in_ok-own.ensures.ok,
       subst (λ job. IsMadeBy (own_rules c.args.settings.now.rules) job (g.M.Make.makes c.args.maker.now made))
-          c.in_ok-job.ensures
+          (c.in_ok-job.ensures (c.as_str.ensures.value ∙ c.in_ok-reference.ensures))
           (subst (λ rules. IsMadeBy rules (job_told c.in_ok-job.job) (g.M.Make.makes c.args.maker.now made))
           c.in_ok-rules.ensures is),
     )) c.job_made_by.ensures.ok
@@ -36,5 +36,5 @@ returns-clause-ok g c = ok_more c.job_made_by.result _ _
 pub returns-clause-err : goal.returns-clause-err
 returns-clause-err g c = err_more c.job_made_by.result _ _
     (λ stop fails. stops_with (settings_told c.args.settings.now) (view c.args.value.now)
-    (job_told c.in_ok-parse.field-0) c.in_ok-parse.ensures.ok stop
-    (subst (λ job. StopsWithReason (FailsAt job) stop) c.in_ok-job.ensures fails)) c.job_made_by.ensures.err
+    (job_told c.in_ok-own.own) c.in_ok-own.ensures.ok stop
+    (subst (λ job. StopsWithReason (FailsAt job) stop) (c.in_ok-job.ensures (c.as_str.ensures.value ∙ c.in_ok-reference.ensures)) fails)) c.job_made_by.ensures.err

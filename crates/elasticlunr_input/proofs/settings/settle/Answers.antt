@@ -19,7 +19,7 @@ given_pretty own true is = refl
 given_pretty own false is = sym is
 
 pub returns : goal.returns
-returns c =
+returns c named =
     let save : c.if-job.result ≡ (if c.args.settings.now.drops_texts then false else c.args.job.save) =
     elim c.if-job.branch [
       | then-job w ↦ w.result-is ∙ saved _ _ w.if-job.true
@@ -30,4 +30,4 @@ returns c =
       | then-job-2 w ↦ w.result-is ∙ w.if-job-2.true ∙ own_pretty _ _ w.if-job-2.true
       | else-job-2 w ↦ w.result-is ∙ given_pretty _ _ w.if-job-2.false
     ] in
-    rw (c.in_ok-with_stored.ensures, c.in_ok-fields.ensures, c.text_or-reference_field.ensures, c.text_or.ensures, save, pretty) refl
+    rw (c.in_ok-job_fields.ensures, named, c.text_or.ensures, save, pretty) refl

@@ -3,3 +3,8 @@ pub mod Order
 pub mod Choosing
 pub mod Splitting
 pub mod Numbers
+pub mod Holders
+pub mod Faults
+pub mod Holding
+pub mod Differing
+pub mod Sums

@@ -1,5 +1,5 @@
 -- Sets of numbers.
-use Rattle.std.proofs.Common.{◌≡◌, ◌<◌, ◌≤◌, ◌+◌, if◌then◌else◌, ◌↔◌, ◌⊎◌, inl, inr, ℕ, Bool, true, false, refl, sym, ap, ◌∙◌, subst, arith}
+use Rattle.std.proofs.Common.{◌≡◌, ◌<◌, ◌≤◌, ◌+◌, if◌then◌else◌, ◌↔◌, ◌⊎◌, inl, inr, ℕ, Bool, true, false, Some, None, refl, sym, ap, ◌∙◌, subst, arith}
 use Rattle.std.proofs.Common.{Less, Equal, Greater}
 use Rattle.std.specs.Prelude.{IsTrue}
 use Rattle.std.specs.BTreeSet.{BTreeSet, Updates, contains}
@@ -82,15 +82,36 @@ range_all first s from end number past how so_far q = (there, back)
     back (inl h) = (so_far q).1 (inl h)
     back (inr h) = let high = h.1 in (so_far q).1 (inr (h.0, omega arith))
 
--- what one token more needs
-pub token_more : (P : ℕ → ℕ → Type 0) (s n : BTreeSet ℕ) (i from end : ℕ)
-    → ((q : ℕ) → IsTrue (contains nat_cmp n q) ↔ (IsTrue (contains nat_cmp s q) ⊎ ((from ≤ q) × (q < end))))
-    → ((q : ℕ) → ((from ≤ q) × (q < end)) ↔ P i q)
+-- a number, if there is one
+pub number_more : (s n : BTreeSet ℕ) (number : ℕ) → Updates nat_cmp s n number true → (q : ℕ)
+    → IsTrue (contains nat_cmp n q) ↔ (IsTrue (contains nat_cmp s q) ⊎ (Some number ≡ Some q))
+number_more s n number updates q = (λ h. there ((one_more s n number updates q).0 h), λ h. (one_more s n number updates q).1 (back h))
+  where
+    there : IsTrue (contains nat_cmp s q) ⊎ (number ≡ q) → IsTrue (contains nat_cmp s q) ⊎ (Some number ≡ Some q)
+    there (inl h) = inl h
+    there (inr e) = inr (ap Some e)
+
+    back : IsTrue (contains nat_cmp s q) ⊎ (Some number ≡ Some q) → IsTrue (contains nat_cmp s q) ⊎ (number ≡ q)
+    back (inl h) = inl h
+    back (inr e) = let same : number ≡ q = cc (e) in inr same
+
+pub no_number : (s : BTreeSet ℕ) (q : ℕ)
+    → IsTrue (contains nat_cmp s q) ↔ (IsTrue (contains nat_cmp s q) ⊎ (None ≡ Some q))
+no_number s q = (λ h. inl h, back)
+  where
+    back : IsTrue (contains nat_cmp s q) ⊎ (None ≡ Some q) → IsTrue (contains nat_cmp s q)
+    back (inl h) = h
+    back (inr e) = absurd (cc (e))
+
+-- what one more of the things that are asked for needs
+pub token_more : (P : ℕ → ℕ → Type 0) (R : ℕ → Type 0) (s n : BTreeSet ℕ) (i : ℕ)
+    → ((q : ℕ) → IsTrue (contains nat_cmp n q) ↔ (IsTrue (contains nat_cmp s q) ⊎ R q))
+    → ((q : ℕ) → R q ↔ P i q)
     → ((q : ℕ) → IsTrue (contains nat_cmp s q) ↔ ((k : ℕ) × (k < i) × P k q))
     → (q : ℕ) → IsTrue (contains nat_cmp n q) ↔ ((k : ℕ) × (k < i + 1) × P k q)
-token_more P s n i from end put needed so_far q = (λ h. there ((put q).0 h), λ found. back found.0 found.1 found.2)
+token_more P R s n i put needed so_far q = (λ h. there ((put q).0 h), λ found. back found.0 found.1 found.2)
   where
-    there : IsTrue (contains nat_cmp s q) ⊎ ((from ≤ q) × (q < end)) → (k : ℕ) × (k < i + 1) × P k q
+    there : IsTrue (contains nat_cmp s q) ⊎ R q → (k : ℕ) × (k < i + 1) × P k q
     there (inl h) = let found = (so_far q).0 h in let low = found.1 in (found.0, omega arith, found.2)
     there (inr h) = (i, omega arith, (needed q).0 h)
 

@@ -1,14 +1,16 @@
 -- Where a binary search among texts that rise ends.
 use Rattle.std.proofs.Common.{◌≡◌, ◌≢◌, ◌<◌, ◌≤◌, ◌+◌, ◌-◌, ℕ, Bool, [], List, length, get_or, String, Global, ◌⊎◌, inl, inr}
-use Rattle.std.proofs.Common.{Ok, Err, Less, Equal, Greater, string_bytes, sym, ap, ◌∙◌, arith, subst}
+use Rattle.std.proofs.Common.{Ok, Err, Some, Less, Equal, Greater, string_bytes, sym, ap, ◌∙◌, arith, subst}
 use Rattle.std.specs.List.Sorted.{IsBinarySearchResult, IsSearchInRange, IsSortedBy, IsStrictlySortedBy}
 use Rattle.std.specs.Ordering.{is_lt, ordering_reverse}
-use Rattle.std.specs.Prelude.{nat_eq, string_cmp}
+use Rattle.std.specs.Prelude.{nat_eq, slice_get, string_cmp}
 use Rattle.std.specs.List.{starts_with}
 use Rattle.std.proofs.lemmas.Bool.{cases_lt}
 use Rattle.std.proofs.lemmas.Cmp.{nat_list_cmp_total}
 use Rattle.std.proofs.lemmas.List.{get_or-map, length-map}
 use Rattle.std.proofs.lemmas.List.Sorted.{searchable_from_sorted}
+use Rattle.std.proofs.lemmas.Map.Lookups.{exact_bytes}
+use Rattle.std.proofs.lemmas.Option.{get_or_from_slice_get, slice_get-get_or, slice_get_within}
 use Rattle.std.proofs.lemmas.Map.Keys.{Less-from_sorted, sorted_from_all_adjacent}
 use Rattle.elasticlunr_error.specs.Text.{bytes_of, text_cmp}
 use Rattle.elasticlunr_piece_head.specs.Choice.{Splits}
@@ -54,6 +56,18 @@ pub all_rise : (texts : List (String Global)) (place : ℕ) → length texts ≤
     → IsStrictlySortedBy text_cmp (bytes_of texts)
 all_rise texts place past rising = sorted_from_all_adjacent nat_list_cmp_total (bytes_of texts) []
     (λ k lt. rising k (omega (arith, length-map texts string_bytes)))
+
+-- two texts next to one another of which the second is not above the first
+pub no_rise : (texts : List (String Global)) (place : ℕ) (a b : String Global) → 1 ≤ place → place < length texts
+    → a ≡ get_or texts (place - 1) a → b ≡ get_or texts place b
+    → text_cmp (string_bytes a) (string_bytes b) ≢ Less → IsStrictlySortedBy text_cmp (bytes_of texts) → ⊥
+no_rise texts place a b some lt first second none sorted =
+    let counted = length-map texts string_bytes in
+    let one : get_or (bytes_of texts) (place - 1) [] ≡ string_bytes a =
+    bytes_at texts (place - 1) a (omega (arith, some, lt)) ∙ ap string_bytes (sym first) in
+    let other : get_or (bytes_of texts) place [] ≡ string_bytes b = bytes_at texts place b lt ∙ ap string_bytes (sym second) in
+    none ((λ j. text_cmp (sym one j) (sym other j)) ∙ Less-from_sorted text_cmp (bytes_of texts) (place - 1) place []
+    sorted (omega (arith, some)) (omega (arith, lt, counted)))
 
 module _ (x : String Global) (xs : List (String Global)) (sorted : IsStrictlySortedBy text_cmp (bytes_of xs)) where
   counted : length (bytes_of xs) ≡ length xs
@@ -126,3 +140,52 @@ module _ (x : String Global) (xs : List (String Global)) (sorted : IsStrictlySor
   split_missing i le point =
       let parts = point (searchable_from_sorted nat_list_cmp_total string_bytes xs (string_bytes x) in_order) in
       missing i le (λ k l. parts.0 k x (omega arith) l) (λ k g lt. parts.1 k x g lt)
+
+  -- the text stands where it is found, and nowhere else
+  pub found_there : (i : ℕ) → IsSearchInRange (Ok i) (length xs)
+      → IsBinarySearchResult (λ y. string_cmp y x) xs (Ok i) → slice_get (bytes_of xs) i ≡ Some (string_bytes x)
+  found_there i lt at = slice_get-get_or (bytes_of xs) i [] (omega (arith, lt, counted))
+      ∙ ap Some (bytes_at xs i x lt ∙ exact_bytes (string_bytes (get_or xs i x)) (string_bytes x) (at x))
+
+  pub only_there : (i : ℕ) → IsSearchInRange (Ok i) (length xs) → IsBinarySearchResult (λ y. string_cmp y x) xs (Ok i)
+      → (k : ℕ) → slice_get (bytes_of xs) k ≡ Some (string_bytes x) → k ≡ i
+  only_there i lt at k is = by (cases_lt k i) (cases_lt i k)
+    where
+      at_k : get_or (bytes_of xs) k [] ≡ string_bytes x
+      at_k = get_or_from_slice_get (bytes_of xs) k (string_bytes x) [] is
+
+      at_i : get_or (bytes_of xs) i [] ≡ string_bytes x
+      at_i = get_or_from_slice_get (bytes_of xs) i (string_bytes x) [] (found_there i lt at)
+
+      within : k < length (bytes_of xs)
+      within = slice_get_within (bytes_of xs) k (string_bytes x) is
+
+      by : (k < i) ⊎ (i ≤ k) → (i < k) ⊎ (k ≤ i) → k ≡ i
+      by (inl l) other = absurd (not_below_itself (string_bytes x) ((λ j. text_cmp (sym at_k j) (sym at_i j))
+          ∙ Less-from_sorted text_cmp (bytes_of xs) k i [] sorted l (omega (arith, lt, counted))))
+      by (inr g) (inl l) = absurd (not_below_itself (string_bytes x) ((λ j. text_cmp (sym at_i j) (sym at_k j))
+          ∙ Less-from_sorted text_cmp (bytes_of xs) i k [] sorted l within))
+      by (inr g) (inr h) = omega (arith, g, h)
+
+  -- the text stands nowhere where it is not found
+  pub absent : (i : ℕ) → IsSearchInRange (Err i) (length xs) → IsBinarySearchResult (λ y. string_cmp y x) xs (Err i)
+      → (k : ℕ) → slice_get (bytes_of xs) k ≡ Some (string_bytes x) → ⊥
+  absent i le point k is = by (cases_lt k i)
+    where
+      within : k < length xs
+      within = let lt = slice_get_within (bytes_of xs) k (string_bytes x) is in omega (arith, lt, counted)
+
+      here : string_bytes (get_or xs k x) ≡ string_bytes x
+      here = sym (bytes_at xs k x within) ∙ get_or_from_slice_get (bytes_of xs) k (string_bytes x) [] is
+
+      itself : text_cmp (string_bytes (get_or xs k x)) (string_bytes x) ≡ text_cmp (string_bytes x) (string_bytes x)
+      itself = ap (λ y. text_cmp y (string_bytes x)) here
+
+      by : (k < i) ⊎ (i ≤ k) → ⊥
+      by (inl l) =
+          let parts = point (searchable_from_sorted nat_list_cmp_total string_bytes xs (string_bytes x) in_order) in
+          not_below_itself (string_bytes x) (sym itself ∙ parts.0 k x (omega (arith, within)) l)
+      by (inr g) =
+          let parts = point (searchable_from_sorted nat_list_cmp_total string_bytes xs (string_bytes x) in_order) in
+          let above = sym itself ∙ parts.1 k x g within in
+          not_below_itself (string_bytes x) (reversed (string_bytes x) (string_bytes x) ∙ ap ordering_reverse above)

@@ -1,5 +1,5 @@
 -- What the head of an index in pieces says.
-use Rattle.std.specs.Prelude.{◌+◌, ℕ, List, Option, None, map, codes, nat_lt, slice_get, string_bytes}
+use Rattle.std.specs.Prelude.{◌+◌, ◌<◌, ◌≤◌, ℕ, List, Option, None, map, codes, nat_lt, slice_get, string_bytes}
 use Rattle.std.specs.Prelude.{sum, take, vec_len, if◌then◌else◌}
 use Rattle.serde_json.specs.Data.{Data, boolean, string}
 use Rattle.elasticlunr_error.specs.Text.{bytes_of}
@@ -36,3 +36,8 @@ texts_size head number = if nat_lt number (vec_len head.texts) then slice_get he
 -- how many documents the pieces before the one with this number have
 abbrev pub documents_before : List ℕ → ℕ → ℕ
 documents_before counts number = sum (take number counts)
+
+-- there is a piece of the texts with this number, and it ends among the references
+abbrev pub HasDocumentsAt : PieceHead → ℕ → Type 0
+HasDocumentsAt head number = (number < vec_len head.texts)
+    × (documents_before head.texts.items (number + 1) ≤ vec_len head.references)

@@ -1,5 +1,5 @@
 //! Which pieces can have a token.
-ghost use Rattle.std.specs.Prelude.{◌≡◌, ◌<◌, ◌≤◌, ◌↔◌, ◌⊎◌, ℕ, IsTrue, OnOk, length, nat_eq};
+ghost use Rattle.std.specs.Prelude.{◌≡◌, ◌<◌, ◌≤◌, ◌↔◌, ◌⊎◌, ℕ, IsTrue, OnOk, Some, length, nat_eq};
 ghost use Rattle.std.specs.Prelude.{string_bytes};
 ghost use Rattle.std.specs.BTreeSet.{contains};
 ghost use Rattle.std.specs.List.{starts_with};
@@ -43,6 +43,20 @@ pub(crate) fn put_range(range: PieceRange, numbers: &mut BTreeSet<usize>) -> Res
         ↔ (IsTrue (contains nat_cmp numbers.old n) ⊎ ((range.from ≤ n) × (n < range.end)))) }
 {
     for number in range.from..range.end {
+        numbers.insert(number)?;
+    }
+    Ok(())
+}
+
+/// Puts a number, if there is one, into a set.
+pub(crate) fn put_number(
+    number: Option<usize>,
+    numbers: &mut BTreeSet<usize>,
+) -> Result<(), AllocError>
+    ensures { OnOk result ((n : ℕ) → IsTrue (contains nat_cmp numbers.new n)
+        ↔ (IsTrue (contains nat_cmp numbers.old n) ⊎ (number ≡ Some n))) }
+{
+    if let Some(number) = number {
         numbers.insert(number)?;
     }
     Ok(())

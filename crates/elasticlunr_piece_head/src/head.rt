@@ -1,18 +1,25 @@
 //! The head of an index in pieces.
-ghost use Rattle.std.specs.Prelude.{◌≡◌, ◌+◌, ◌<◌, ◌≤◌, ◌↔◌, ℕ, Contains, Some, IfOk, IfSome};
-ghost use Rattle.std.specs.Prelude.{codes, slice_get, slice_range, string_bytes, vec_len};
+ghost use Rattle.std.specs.Prelude.{◌≡◌, ◌≢◌, ◌+◌, ◌<◌, ◌≤◌, ◌↔◌, ℕ, List, Contains, Some, IfErr};
+ghost use Rattle.std.specs.Prelude.{AllPairs, Decides, IfNone, IfOk, IfSome, OnOk, codes, map, slice_get};
+ghost use Rattle.std.specs.Prelude.{slice_range, string_bytes, vec_len};
+ghost use Rattle.std.specs.Ordering.{nat_cmp};
 ghost use Rattle.std.specs.List.Sorted.{IsStrictlySortedBy};
-ghost use Rattle.elasticlunr_error.specs.Text.{bytes_of, text_cmp};
+ghost use Rattle.elasticlunr_error.specs.Text.{Bytes, bytes_of, text_cmp};
 ghost use Rattle.elasticlunr_json.specs.Maps.{count};
 ghost use Rattle.elasticlunr_piece_head.specs.Choice.{IsNeeded, IsNeededForOne};
-ghost use Rattle.elasticlunr_piece_head.specs.Head.{Says, documents_before, texts_size, tries_size};
+ghost use Rattle.elasticlunr_piece_head.specs.Fault.{IsHeadFault, IsOfMember, IsSizesFault};
+ghost use Rattle.elasticlunr_piece_head.specs.Fault.{IsUnfit, IsValueFault};
+ghost use Rattle.elasticlunr_piece_head.specs.Fit.{FitLengths, FitNumbers, FitSizes, FitTexts, Fits};
+ghost use Rattle.elasticlunr_piece_head.specs.Fit.{FitTitles, stored};
+ghost use Rattle.elasticlunr_piece_head.specs.Holders.{HasDocument, HasOneDocument, holders_from};
+ghost use Rattle.elasticlunr_piece_head.specs.Head.{HasDocumentsAt, Says, documents_before, texts_size, tries_size};
 ghost use Rattle.elasticlunr_piece_head.specs.Values.{Has, array_of};
 ghost use Rattle.serde_json.specs.Data.{Data, string};
 ghost use Rattle.serde_json.specs.Read.{read};
 ghost use Rattle.serde_json.specs.View.{view};
 
-use crate::choice::{PieceRange, put_range, range_for};
-use crate::counts::{holders_of, total_of};
+use crate::choice::{PieceRange, put_number, put_range, range_for};
+use crate::counts::{holders_of, sum_of, total_of};
 use crate::fault::HeadFault;
 use crate::members::{bool_in, lengths_in, numbers_in, text_in, texts_in};
 use crate::names::{are_different, rise};
@@ -55,6 +62,8 @@ impl PieceHead {
             IsStrictlySortedBy text_cmp (bytes_of head.references.items)) }
         ensures rising { IfOk result (λ head.
             IsStrictlySortedBy text_cmp (bytes_of head.tries.items)) }
+        ensures fits { IfOk result Fits }
+        ensures fault { IfErr result (IsHeadFault text.now) }
     {
         let value = match Value::from_str(alloc, text) {
             Ok(value) => value,
@@ -73,6 +82,9 @@ impl PieceHead {
             IsStrictlySortedBy text_cmp (bytes_of head.references.items)) }
         ensures rising { IfOk result (λ head.
             IsStrictlySortedBy text_cmp (bytes_of head.tries.items)) }
+        ensures differ { IfOk result (λ head.
+            AllPairs (λ name other. name ≢ other) (bytes_of head.fields.items)) }
+        ensures fault { IfErr result (IsValueFault (view value.now)) }
     {
         Ok(PieceHead {
             fields: fields_in(alloc, value)?,
@@ -91,27 +103,67 @@ impl PieceHead {
     }
 
     /// Whether the numbers of its members fit together.
-    fn check_numbers(&self) -> Result<(), HeadFault> {
-        let documents = self.references.len();
-        let are_whole = self.lengths.iter().all(|it| it.len() == documents);
-        if self.lengths.len() != self.fields.len() || !are_whole {
+    fn check_numbers(&self) -> Result<(), HeadFault>
+        ensures fit { OnOk result (FitNumbers self.now) }
+        ensures fault { IfErr result (IsUnfit self.now) }
+    {
+        if !self.lengths_fit() {
             return Err(HeadFault::Member("lengths"));
         }
-        let stored = if self.save { documents } else { 0 };
-        if total_of(&self.texts) != Some(stored) {
+        if !self.texts_fit() {
             return Err(HeadFault::Member("texts"));
         }
-        let Some(titled) = total_of(&self.titles) else {
-            return Err(HeadFault::Member("titles"));
-        };
-        if titled != 0 && titled != stored {
+        if !self.titles_fit() {
             return Err(HeadFault::Member("titles"));
         }
-        let pieces = self.tries.len().saturating_add(self.texts.len());
-        if self.sizes.len() != pieces.saturating_add(self.titles.len()) {
+        if !self.sizes_fit() {
             return Err(HeadFault::Member("sizes"));
         }
         Ok(())
+    }
+
+    /// Whether each field has a length for each reference.
+    fn lengths_fit(&self) -> bool
+        ensures { Decides result (FitLengths self.now) }
+    {
+        let documents = self.references.len();
+        let are_whole = self.lengths.iter().all(|it| it.len() == documents);
+        are_whole && self.lengths.len() == self.fields.len()
+    }
+
+    /// How many documents have texts.
+    fn stored(&self) -> usize
+        ensures { result ≡ stored self.now }
+    {
+        if self.save { self.references.len() } else { 0 }
+    }
+
+    /// Whether the pieces of the texts have the documents that have texts.
+    fn texts_fit(&self) -> bool
+        ensures { Decides result (FitTexts self.now) }
+    {
+        match total_of(&self.texts) {
+            Some(total) => total == self.stored(),
+            None => false,
+        }
+    }
+
+    /// Whether the pieces of the titles have as many documents, if there are any.
+    fn titles_fit(&self) -> bool
+        ensures { Decides result (FitTitles self.now) }
+    {
+        match total_of(&self.titles) {
+            Some(total) => total == 0 || total == self.stored(),
+            None => false,
+        }
+    }
+
+    /// Whether there is a size for each piece.
+    fn sizes_fit(&self) -> bool
+        ensures { Decides result (FitSizes self.now) }
+    {
+        let pieces = self.tries.len().saturating_add(self.texts.len());
+        self.sizes.len() == pieces.saturating_add(self.titles.len())
     }
 
     /// The pieces of the tries that can have this token, or with `expand` a token that begins with
@@ -132,9 +184,11 @@ impl PieceHead {
         tokens: &[String],
         expand: bool,
     ) -> Result<Vec<usize>, AllocError>
-        ensures { IfOk result (λ numbers. IsStrictlySortedBy text_cmp (bytes_of self.now.tries.items)
+        ensures needed { IfOk result (λ numbers.
+            IsStrictlySortedBy text_cmp (bytes_of self.now.tries.items)
             → (n : ℕ) → Contains numbers.items n
             ↔ IsNeededForOne (bytes_of self.now.tries.items) expand (bytes_of tokens.now) n) }
+        ensures order { IfOk result (λ numbers. IsStrictlySortedBy nat_cmp numbers.items) }
     {
         let mut numbers = BTreeSet::new(alloc);
         for token in tokens {
@@ -150,18 +204,36 @@ impl PieceHead {
         &self,
         alloc: Global,
         references: &[&String],
-    ) -> Result<Vec<usize>, AllocError> {
+    ) -> Result<Vec<usize>, AllocError>
+        ensures needed { IfOk result (λ numbers.
+            IsStrictlySortedBy text_cmp (bytes_of self.now.references.items)
+            → (n : ℕ) → Contains numbers.items n
+            ↔ HasOneDocument self.now (map (λ r. string_bytes r.now) references.now) n) }
+        ensures order { IfOk result (λ numbers. IsStrictlySortedBy nat_cmp numbers.items) }
+    {
         let holders = holders_of(alloc, &self.texts)?;
         let mut numbers = BTreeSet::new(alloc);
         for reference in references {
-            if let Ok(place) = self.references.binary_search(*reference) {
-                if let Some(holder) = holders.get(place) {
-                    numbers.insert(*holder)?;
-                }
-            }
+            put_number(self.holder_in(&holders, *reference), &mut numbers)?;
         }
         let numbers = numbers.into_iter().collect(alloc)?;
         Ok(numbers)
+    }
+
+    /// The number of the piece of the texts that has the document of a reference.
+    fn holder_in(&self, holders: &[usize], reference: &String) -> Option<usize>
+        requires { holders.now ≡ holders_from 0 self.now.texts.items }
+        ensures { IsStrictlySortedBy text_cmp (bytes_of self.now.references.items) → (number : ℕ)
+            → (result ≡ Some number)
+            ↔ HasDocument self.now number (string_bytes reference.now) }
+    {
+        match self.references.binary_search(reference) {
+            Ok(place) => match holders.get(place) {
+                Some(number) => Some(*number),
+                None => None,
+            },
+            Err(_) => None,
+        }
     }
 
     /// The bytes of a piece of the tries.
@@ -195,8 +267,10 @@ impl PieceHead {
         ensures some { IfSome result (λ references. references.now ≡ slice_range
             self.now.references.items (documents_before self.now.texts.items number)
             (documents_before self.now.texts.items (number + 1))) }
+        ensures there { IfSome result (λ _. HasDocumentsAt self.now number) }
+        ensures none { IfNone result (¬ HasDocumentsAt self.now number) }
     {
-        let before = total_of(self.texts.get(..number)?)?;
+        let before = sum_of(self.texts.get(..number)?)?;
         let end = before.checked_add(*self.texts.get(number)?)?;
         self.references.get(before..end)
     }
@@ -204,8 +278,13 @@ impl PieceHead {
 
 /// The names of the fields, which differ.
 fn fields_in(alloc: Global, value: &Value) -> Result<Vec<String>, HeadFault>
-    ensures { IfOk result (λ fields.
+    ensures has { IfOk result (λ fields.
         Has (view value.now) (codes "fields") (array_of string (bytes_of fields.items))) }
+    ensures differ { IfOk result (λ fields.
+        AllPairs (λ name other. name ≢ other) (bytes_of fields.items)) }
+    ensures fault { IfErr result (IsOfMember (codes "fields") ((names : List Bytes)
+        → Has (view value.now) (codes "fields") (array_of string names)
+        → ¬ AllPairs (λ name other. name ≢ other) names)) }
 {
     let fields = texts_in(alloc, value, "fields")?;
     if are_different(alloc, &fields)? {
@@ -220,6 +299,9 @@ fn rising_in(alloc: Global, value: &Value, key: &'static str) -> Result<Vec<Stri
     ensures has { IfOk result (λ texts.
         Has (view value.now) key.now (array_of string (bytes_of texts.items))) }
     ensures rise { IfOk result (λ texts. IsStrictlySortedBy text_cmp (bytes_of texts.items)) }
+    ensures fault { IfErr result (IsOfMember key.now ((texts : List Bytes)
+        → Has (view value.now) key.now (array_of string texts)
+        → ¬ IsStrictlySortedBy text_cmp texts)) }
 {
     let texts = texts_in(alloc, value, key)?;
     if rise(&texts) {
@@ -231,8 +313,9 @@ fn rising_in(alloc: Global, value: &Value, key: &'static str) -> Result<Vec<Stri
 
 /// The bytes of each piece.
 fn sizes_in(alloc: Global, value: &Value) -> Result<Vec<usize>, HeadFault>
-    ensures { IfOk result (λ sizes.
+    ensures has { IfOk result (λ sizes.
         Has (view value.now) (codes "sizes") (array_of count sizes.items)) }
+    ensures fault { IfErr result (IsSizesFault (view value.now)) }
 {
     if value.get("sizes").is_none() {
         return Err(HeadFault::Older);

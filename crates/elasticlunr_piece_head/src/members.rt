@@ -1,9 +1,10 @@
 //! The members of the JSON value of a head.
-ghost use Rattle.std.specs.Prelude.{◌≡◌, map, IfOk, string_bytes};
-ghost use Rattle.serde_json.specs.Data.{array, boolean, string};
+ghost use Rattle.std.specs.Prelude.{◌≡◌, ◌≢◌, ℕ, Bool, List, Option, map, IfErr, IfOk, string_bytes};
+ghost use Rattle.serde_json.specs.Data.{Items, array, boolean, string};
 ghost use Rattle.serde_json.specs.View.{view, items_view};
-ghost use Rattle.elasticlunr_error.specs.Text.{bytes_of};
+ghost use Rattle.elasticlunr_error.specs.Text.{Bytes, bytes_of};
 ghost use Rattle.elasticlunr_json.specs.Maps.{count};
+ghost use Rattle.elasticlunr_piece_head.specs.Fault.{IsOfMember};
 ghost use Rattle.elasticlunr_piece_head.specs.Values.{Has, array_of, items_of, length_value};
 
 use crate::fault::HeadFault;
@@ -12,7 +13,9 @@ use std::alloc::Global;
 
 /// The text under a key.
 pub(crate) fn text_in(alloc: Global, value: &Value, key: &'static str) -> Result<String, HeadFault>
-    ensures { IfOk result (λ text. Has (view value.now) key.now (string (string_bytes text))) }
+    ensures has { IfOk result (λ text. Has (view value.now) key.now (string (string_bytes text))) }
+    ensures fault { IfErr result (IsOfMember key.now ((text : Bytes)
+        → ¬ Has (view value.now) key.now (string text))) }
 {
     let Some(member) = value.get(key) else {
         return Err(HeadFault::Member(key));
@@ -25,7 +28,9 @@ pub(crate) fn text_in(alloc: Global, value: &Value, key: &'static str) -> Result
 
 /// Whether it is true or false what stands under a key.
 pub(crate) fn bool_in(value: &Value, key: &'static str) -> Result<bool, HeadFault>
-    ensures { IfOk result (λ is. Has (view value.now) key.now (boolean is)) }
+    ensures has { IfOk result (λ is. Has (view value.now) key.now (boolean is)) }
+    ensures fault { IfErr result (IsOfMember key.now ((is : Bool)
+        → ¬ Has (view value.now) key.now (boolean is))) }
 {
     let Some(member) = value.get(key) else {
         return Err(HeadFault::Member(key));
@@ -38,7 +43,10 @@ pub(crate) fn bool_in(value: &Value, key: &'static str) -> Result<bool, HeadFaul
 
 /// The items of the array under a key.
 fn items_in<'a>(value: &'a Value, key: &'static str) -> Result<&'a [Value], HeadFault>
-    ensures { IfOk result (λ items. Has (view value.now) key.now (array (items_view items.now))) }
+    ensures has { IfOk result (λ items.
+        Has (view value.now) key.now (array (items_view items.now))) }
+    ensures fault { IfErr result (IsOfMember key.now ((items : Items)
+        → ¬ Has (view value.now) key.now (array items))) }
 {
     let Some(member) = value.get(key) else {
         return Err(HeadFault::Member(key));
@@ -55,16 +63,20 @@ pub(crate) fn texts_in(
     value: &Value,
     key: &'static str,
 ) -> Result<Vec<String>, HeadFault>
-    ensures { IfOk result (λ texts.
+    ensures has { IfOk result (λ texts.
         Has (view value.now) key.now (array_of string (bytes_of texts.items))) }
+    ensures fault { IfErr result (IsOfMember key.now ((texts : List Bytes)
+        → ¬ Has (view value.now) key.now (array_of string texts))) }
 {
     texts_of(alloc, items_in(value, key)?, key)
 }
 
 /// The texts that items are.
 fn texts_of(alloc: Global, items: &[Value], key: &'static str) -> Result<Vec<String>, HeadFault>
-    ensures { IfOk result (λ texts.
+    ensures are { IfOk result (λ texts.
         items_view items.now ≡ items_of string (bytes_of texts.items)) }
+    ensures fault { IfErr result (IsOfMember key.now ((texts : List Bytes)
+        → items_view items.now ≢ items_of string texts)) }
 {
     let mut texts = Vec::with_capacity(alloc, items.len())?;
     for item in items {
@@ -82,14 +94,19 @@ pub(crate) fn numbers_in(
     value: &Value,
     key: &'static str,
 ) -> Result<Vec<usize>, HeadFault>
-    ensures { IfOk result (λ numbers. Has (view value.now) key.now (array_of count numbers.items)) }
+    ensures has { IfOk result (λ numbers.
+        Has (view value.now) key.now (array_of count numbers.items)) }
+    ensures fault { IfErr result (IsOfMember key.now ((numbers : List ℕ)
+        → ¬ Has (view value.now) key.now (array_of count numbers))) }
 {
     numbers_of(alloc, items_in(value, key)?, key)
 }
 
 /// The numbers that items are.
 fn numbers_of(alloc: Global, items: &[Value], key: &'static str) -> Result<Vec<usize>, HeadFault>
-    ensures { IfOk result (λ numbers. items_view items.now ≡ items_of count numbers.items) }
+    ensures are { IfOk result (λ numbers. items_view items.now ≡ items_of count numbers.items) }
+    ensures fault { IfErr result (IsOfMember key.now ((numbers : List ℕ)
+        → items_view items.now ≢ items_of count numbers)) }
 {
     let mut numbers = Vec::with_capacity(alloc, items.len())?;
     for item in items {
@@ -107,8 +124,10 @@ pub(crate) fn lengths_in(
     value: &Value,
     key: &'static str,
 ) -> Result<Vec<Vec<Option<usize>>>, HeadFault>
-    ensures { IfOk result (λ lengths. Has (view value.now) key.now
+    ensures has { IfOk result (λ lengths. Has (view value.now) key.now
         (array_of (array_of length_value) (map (λ column. column.items) lengths.items))) }
+    ensures fault { IfErr result (IsOfMember key.now ((columns : List (List (Option ℕ)))
+        → ¬ Has (view value.now) key.now (array_of (array_of length_value) columns))) }
 {
     columns_of(alloc, items_in(value, key)?, key)
 }
@@ -119,8 +138,10 @@ fn columns_of(
     items: &[Value],
     key: &'static str,
 ) -> Result<Vec<Vec<Option<usize>>>, HeadFault>
-    ensures { IfOk result (λ lengths. items_view items.now
+    ensures are { IfOk result (λ lengths. items_view items.now
         ≡ items_of (array_of length_value) (map (λ column. column.items) lengths.items)) }
+    ensures fault { IfErr result (IsOfMember key.now ((columns : List (List (Option ℕ)))
+        → items_view items.now ≢ items_of (array_of length_value) columns)) }
 {
     let mut lengths = Vec::with_capacity(alloc, items.len())?;
     for item in items {
@@ -135,7 +156,9 @@ fn column_of(
     column: &Value,
     key: &'static str,
 ) -> Result<Vec<Option<usize>>, HeadFault>
-    ensures { IfOk result (λ lengths. view column.now ≡ array_of length_value lengths.items) }
+    ensures are { IfOk result (λ lengths. view column.now ≡ array_of length_value lengths.items) }
+    ensures fault { IfErr result (IsOfMember key.now ((lengths : List (Option ℕ))
+        → view column.now ≢ array_of length_value lengths)) }
 {
     match column.as_array() {
         Some(items) => lengths_of(alloc, items.as_slice(), key),
@@ -149,7 +172,10 @@ fn lengths_of(
     items: &[Value],
     key: &'static str,
 ) -> Result<Vec<Option<usize>>, HeadFault>
-    ensures { IfOk result (λ lengths. items_view items.now ≡ items_of length_value lengths.items) }
+    ensures are { IfOk result (λ lengths.
+        items_view items.now ≡ items_of length_value lengths.items) }
+    ensures fault { IfErr result (IsOfMember key.now ((lengths : List (Option ℕ))
+        → items_view items.now ≢ items_of length_value lengths)) }
 {
     let mut lengths = Vec::with_capacity(alloc, items.len())?;
     for item in items {
@@ -160,7 +186,9 @@ fn lengths_of(
 
 /// The length of a field of a document, `None` where it has none.
 fn length_of(value: &Value, key: &'static str) -> Result<Option<usize>, HeadFault>
-    ensures { IfOk result (λ length. view value.now ≡ length_value length) }
+    ensures is { IfOk result (λ length. view value.now ≡ length_value length) }
+    ensures fault { IfErr result (IsOfMember key.now ((length : Option ℕ)
+        → view value.now ≢ length_value length)) }
 {
     match value {
         Value::Null => Ok(None),

@@ -3,3 +3,4 @@ pub mod Entries
 pub mod Faults
 pub mod Pieces
 pub mod Plan
+pub mod Texts

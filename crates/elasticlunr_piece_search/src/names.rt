@@ -1,11 +1,11 @@
 //! Names of fields.
-ghost use Rattle.std.specs.Prelude.{◌≡◌, true};
+ghost use Rattle.std.specs.Prelude.{◌≡◌};
 ghost use Rattle.elasticlunr_error.specs.Text.{bytes_of};
 ghost use Rattle.elasticlunr_commands.specs.Fields.{all_differ as differ, has_name};
 
 /// Whether no two of the names are the same.
 pub(crate) fn all_differ(names: &[String]) -> bool
-    ensures { result ≡ true → differ (bytes_of names.now) ≡ true }
+    ensures { result ≡ differ (bytes_of names.now) }
 {
     let mut rest = names;
     'names: while let Some((first, others)) = rest.split_first() {

@@ -1,15 +1,21 @@
 //! An index of the pieces that a query needs.
-ghost use Rattle.std.specs.Prelude.{◌≡◌, ◌+◌, List, Some, IfErr, IfOk, OnOk, length, slice_get};
+ghost use Rattle.std.specs.Prelude.{◌≡◌, ◌+◌, List, Some, IfErr, IfOk, IsTrue, OnOk, length};
+ghost use Rattle.std.specs.Prelude.{slice_get};
 ghost use Rattle.std.specs.Prelude.{option_map, replicate, string_bytes, vec_len, true, false};
 ghost use Rattle.elasticlunr_error.specs.Text.{bytes_of};
 ghost use Rattle.elasticlunr_print.specs.Printed.{IsTextOf};
-ghost use Rattle.elasticlunr_store.specs.Contents.{Contents};
-ghost use Rattle.elasticlunr_trie.specs.Table.{Table, new_table};
+ghost use Rattle.elasticlunr_commands.specs.Fields.{all_differ as differ};
+ghost use Rattle.elasticlunr_store.specs.Contents.{TextMap, new_contents};
+ghost use Rattle.elasticlunr_trie.specs.Table.{new_table};
 ghost use Rattle.elasticlunr_piece_search.specs.Documents.{head_contents};
 ghost use Rattle.elasticlunr_piece_search.specs.Entries.{AreEntriesAdded, Entry, tokens_in};
 ghost use Rattle.elasticlunr_piece_search.specs.Pieces.{AreTokensAt, IsNotRead, IsTokensFault};
 ghost use Rattle.elasticlunr_piece_search.specs.Pieces.{IsTokensPiece};
-ghost use Rattle.elasticlunr_piece_search.specs.Plan.{plan_of};
+ghost use Rattle.elasticlunr_piece_search.specs.Faults.{IsOther};
+ghost use Rattle.elasticlunr_piece_search.specs.Plan.{AreFields, plan_of};
+ghost use Rattle.elasticlunr_piece_search.specs.Texts.{IsTextsFault, IsTextsPiece, references_at};
+ghost use Rattle.elasticlunr_piece_search.specs.Texts.{reference_name as name_of_references};
+ghost use Rattle.elasticlunr_piece_search.specs.Texts.{with_texts};
 ghost use Rattle.serde_json.specs.Read.{read};
 ghost use Rattle.serde_json.specs.View.{view};
 ghost use Rattle.serde_json.specs.Written.{compact_text};
@@ -79,6 +85,11 @@ impl<'h> PieceIndex<'h> {
     /// Adds the piece of the texts with this number and this text. After an error some of its
     /// documents may be there.
     pub fn add_texts(&mut self, number: usize, text: &str) -> Result<(), PieceFault>
+        ensures added { OnOk result ((documents : List TextMap)
+            × IsTextsPiece self.old.head.now number text.now documents
+            × (self.new.store ≡ with_texts self.old.store (references_at self.old.head.now number)
+            documents)) }
+        ensures fault { IfErr result (IsTextsFault self.old.head.now number text.now) }
         ensures size { OnOk result (slice_get self.old.head.now.sizes.items
             (vec_len self.old.head.now.tries + number) ≡ Some (length text.now)) }
         ensures tries { self.new.tries ≡ self.old.tries }
@@ -89,21 +100,23 @@ impl<'h> PieceIndex<'h> {
         let Some(references) = head.references_in(number) else {
             return Err(PieceFault::Other);
         };
-        // A field of the name of the reference field has its own text there.
-        let name = if is_among(&head.fields, head.ref_field.as_str()) {
-            None
-        } else {
-            Some(head.ref_field.as_str())
-        };
-        add_documents(self.alloc, &mut self.store, references, &documents, name)
+        add_documents(
+            self.alloc,
+            &mut self.store,
+            references,
+            &documents,
+            reference_name(head),
+        )
     }
 
     /// The printed text of what is there, as an index, which `read_named` of `elasticlunr_search`
     /// reads.
     pub fn text(&self) -> Result<String, PieceFault>
-        ensures { IfOk result (λ text. IsTextOf compact_text
+        ensures text { IfOk result (λ text. IsTextOf compact_text
             (plan_of self.now.head.now self.now.store) self.now.tries.items self.now.store
             (string_bytes text)) }
+        ensures fault { IfErr result (IsOther (¬ AreFields (bytes_of self.now.head.now.fields.items)
+            self.now.tries.items)) }
     {
         text_of(self.alloc, self.head, &self.tries, &self.store)
     }
@@ -112,8 +125,11 @@ impl<'h> PieceIndex<'h> {
 /// The printed text of an index with the settings of a head, and no document. A searcher of it
 /// answers with the tokens of a query.
 pub fn empty_text(alloc: Global, head: &PieceHead) -> Result<String, PieceFault>
-    ensures { IfOk result (λ text. (tables : List Table) × (contents : Contents)
-        × IsTextOf compact_text (plan_of head.now contents) tables contents (string_bytes text)) }
+    ensures text { IfOk result (λ text. IsTextOf compact_text
+        (plan_of head.now (new_contents head.now.save))
+        (replicate (vec_len head.now.fields) new_table) (new_contents head.now.save)
+        (string_bytes text)) }
+    ensures fault { IfErr result (IsOther (¬ IsTrue (differ (bytes_of head.now.fields.items)))) }
 {
     let tries = empty_tries(alloc, head.fields.len())?;
     let store = DocumentStore::new(alloc, head.save);
@@ -128,8 +144,9 @@ fn text_of(
     tries: &[InvertedIndex],
     store: &DocumentStore,
 ) -> Result<String, PieceFault>
-    ensures { IfOk result (λ text. IsTextOf compact_text (plan_of head.now store.now) tries.now
+    ensures text { IfOk result (λ text. IsTextOf compact_text (plan_of head.now store.now) tries.now
         store.now (string_bytes text)) }
+    ensures fault { IfErr result (IsOther (¬ AreFields (bytes_of head.now.fields.items) tries.now)) }
 {
     if tries.len() != head.fields.len() || !all_differ(&head.fields) {
         return Err(PieceFault::Other);
@@ -145,6 +162,17 @@ fn text_of(
     match index_json(alloc, parts) {
         Ok(text) => Ok(text),
         Err(_) => Err(PieceFault::Memory),
+    }
+}
+
+/// The name of the reference field. A field of this name has its own text there.
+fn reference_name(head: &PieceHead) -> Option<&str>
+    ensures { option_map (λ name. name.now) result ≡ name_of_references head.now }
+{
+    if is_among(&head.fields, head.ref_field.as_str()) {
+        None
+    } else {
+        Some(head.ref_field.as_str())
     }
 }
 

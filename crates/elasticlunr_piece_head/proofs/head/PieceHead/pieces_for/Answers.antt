@@ -20,14 +20,15 @@ loop-token-preserved c sorted =
     let i = c.loop-token.token-index in
     let here : string_bytes c.token-item.result ≡ get_or (bytes_of tokens) i [] =
     sym (bytes_at tokens i c.token-item.result c.loop-token-test.true ∙ ap string_bytes (sym c.token-item.is)) in
-    token_more (λ k q. IsNeeded firsts c.args.expand (get_or (bytes_of tokens) k []) q) c.loop-token.numbers
-    c.put_range.new.numbers i c.pieces_with.result.from c.pieces_with.result.end c.in_ok-put_range.ensures
+    token_more (λ k q. IsNeeded firsts c.args.expand (get_or (bytes_of tokens) k []) q)
+    (λ q. (c.pieces_with.result.from ≤ q) × (q < c.pieces_with.result.end)) c.loop-token.numbers
+    c.put_range.new.numbers i c.in_ok-put_range.ensures
     (λ q. subst (λ token. ((c.pieces_with.result.from ≤ q) × (q < c.pieces_with.result.end))
     ↔ IsNeeded firsts c.args.expand token q) here (c.pieces_with.ensures sorted q))
     (c.loop-token.invariant sorted)
 
-pub returns : goal.returns
-returns c sorted n =
+pub returns-clause-needed : goal.returns-clause-needed
+returns-clause-needed c sorted n =
     let keys = c.loop-token.numbers.keys in
     let tokens = c.args.tokens.now in
     let items : c.in_ok-numbers.numbers.items ≡ keys = IfOk-at_ok (λ v. v.items ≡ keys) c.in_ok-numbers.was

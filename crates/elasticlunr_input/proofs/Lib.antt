@@ -10,3 +10,4 @@ pub mod MarkLemmas
 pub mod Counting
 pub mod MadeMore
 pub mod Warned
+pub mod Noting

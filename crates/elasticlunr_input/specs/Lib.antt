@@ -12,3 +12,4 @@ pub mod RefusedPlaces
 pub mod RefusedRead
 pub mod Mark
 pub mod Warnings
+pub mod Noted

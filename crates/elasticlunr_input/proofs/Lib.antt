@@ -11,3 +11,5 @@ pub mod Counting
 pub mod MadeMore
 pub mod Warned
 pub mod Noting
+pub mod NotingAll
+pub mod Tellings

@@ -13,3 +13,4 @@ pub mod RefusedRead
 pub mod Mark
 pub mod Warnings
 pub mod Noted
+pub mod NotedAll

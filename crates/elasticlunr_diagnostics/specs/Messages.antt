@@ -1,6 +1,8 @@
 -- Why there is no index, and the place that a message speaks of.
 use Rattle.std.specs.Option.{SomeIff}
-use Rattle.std.specs.Prelude.{◌≡◌, ◌+◌, ◌<◌, ◌^◌, ⊤, ℕ, Option, Some, None, IfSome, IsSome}
+use Rattle.std.specs.Prelude.{◌≡◌, ◌+◌, ◌<◌, ◌^◌, ◌==◌, ◌++◌, ⊤, ℕ, [], Option, Some, None, IfSome}
+use Rattle.std.specs.Prelude.{IsSome, codes, decimal, if◌then◌else◌}
+use Rattle.elasticlunr_text.specs.Text.{Bytes}
 use Rattle.elasticlunr_diagnostics.specs.declared.message.InputError.{InputError}
 use Rattle.elasticlunr_diagnostics.specs.declared.message.InputError.TheVariants.{Refused, Memory}
 use Rattle.elasticlunr_diagnostics.specs.declared.message.InputError.TheVariants.{Device, TooManyLines}
@@ -39,3 +41,8 @@ IfPlaced Is (Refused message) = IfSome message.place Is
 abbrev pub IsLowered : (at : Option Place) → ℕ → (place : Option Place) → Type 0
 IsLowered None lines place = place ≡ None
 IsLowered (Some at) lines place = SomeIff place (lines + at.line < 2 ^ 64) (below lines at)
+
+-- so many things of this name: `1 field`, or `2 fields`
+abbrev pub counted_text : (count : ℕ) (name : Bytes) → Bytes
+counted_text count name = decimal count ++ (codes " " ++ (name
+    ++ (if count == 1 then [] else codes "s")))

@@ -1,8 +1,8 @@
 //! What is wrong in an input: where, what, and what to do.
-ghost use Rattle.std.specs.Prelude.{◌≡◌, None, IfOk, IfSome, IsSome};
+ghost use Rattle.std.specs.Prelude.{◌≡◌, None, IfOk, IfSome, IsSome, string_bytes};
 ghost use Rattle.elasticlunr_json_place.specs.Members.{path_told, IsPlaceOf};
 ghost use Rattle.elasticlunr_json_place.specs.Places.{IsOffsetOf, IsPlaceIn};
-ghost use Rattle.elasticlunr_diagnostics.specs.Messages.{IsLowered};
+ghost use Rattle.elasticlunr_diagnostics.specs.Messages.{counted_text, IsLowered};
 
 use elasticlunr_job_format::kind::{Kind, kind_of};
 use elasticlunr_job_format::lines::is_blank;
@@ -94,7 +94,9 @@ pub fn unplaced(said: String) -> Message
 }
 
 /// So many things of this name, as `1 field` or `2 fields`.
-pub fn counted(alloc: Global, count: usize, name: &str) -> Result<String, AllocError> {
+pub fn counted(alloc: Global, count: usize, name: &str) -> Result<String, AllocError>
+    ensures { IfOk result (λ said. string_bytes said ≡ counted_text count name.now) }
+{
     let ending = if count == 1 { "" } else { "s" };
     format!(in alloc; "{count} {name}{ending}")
 }

@@ -12,3 +12,6 @@ pub mod MarkLemmas
 pub mod Counting
 pub mod MadeMore
 pub mod Warned
+pub mod Noting
+pub mod NotingAll
+pub mod Tellings

@@ -13,3 +13,5 @@ pub mod RefusedPlaces
 pub mod RefusedRead
 pub mod Mark
 pub mod Warnings
+pub mod Noted
+pub mod NotedAll

@@ -1,12 +1,16 @@
 //! The index of documents that are objects in an array, and what is wrong with documents.
-ghost use Rattle.std.specs.Prelude.{◌≡◌, ◌-◌, ◌∷◌, None, map, take, length};
-ghost use Rattle.std.specs.Prelude.{if◌then◌else◌, IfOk, IfErr, IfSome};
+ghost use Rattle.std.specs.Prelude.{◌≡◌, ◌-◌, ◌∷◌, List, None, map, take, length};
+ghost use Rattle.std.specs.Prelude.{if◌then◌else◌, IfOk, IfErr, IfSome, OnOk};
 ghost use Rattle.elasticlunr_documents.specs.Objects.{IsMadeOfObjects};
+ghost use Rattle.elasticlunr_job_format.specs.Job.{Document};
+ghost use Rattle.elasticlunr_job_format.specs.Objects.{AreDocumentsOf, IsDocumentOf};
 ghost use Rattle.elasticlunr_job_format.specs.ObjectsTold.{options_told, texts_told};
 ghost use Rattle.elasticlunr_input.specs.FaultPlaces.{is_of_member, object_fault_key};
 ghost use Rattle.elasticlunr_input.specs.FaultPlaces.{object_fault_path, IsPlaceInObjects};
 ghost use Rattle.elasticlunr_json_place.specs.Members.{item, IsPlaceOf};
 ghost use Rattle.elasticlunr_input.specs.Fields.{is_field, text_keys};
+ghost use Rattle.elasticlunr_input.specs.NotedAll.{AreNotedWith, AreToldOf, IsNoted};
+ghost use Rattle.elasticlunr_input.specs.NotedAll.{IsToldOf, Told};
 ghost use Rattle.elasticlunr_input.specs.Refused.{IsRefusedObjects};
 ghost use Rattle.elasticlunr_diagnostics.specs.Messages.{IfPlaced};
 ghost use Rattle.serde_json.specs.View.{view};
@@ -192,7 +196,12 @@ pub(crate) fn note_objects(
     options: &Options<'_>,
     items: &[Value],
     notes: &mut Notes,
-) -> Result<(), AllocError> {
+) -> Result<(), AllocError>
+    ensures { OnOk result ((docs : List Document)
+        → AreDocumentsOf (options_told options.now) (map view items.now) docs
+        → (told : List Told) × AreToldOf (options_told options.now) (map view items.now) told
+        × AreNotedWith (options_told options.now).fields told notes.old notes.new) }
+{
     for item in items {
         note_object(alloc, options, item, notes)?;
     }
@@ -205,7 +214,12 @@ pub(crate) fn note_object(
     options: &Options<'_>,
     item: &Value,
     notes: &mut Notes,
-) -> Result<(), AllocError> {
+) -> Result<(), AllocError>
+    ensures { OnOk result ((doc : Document)
+        → IsDocumentOf (options_told options.now) (view item.now) doc
+        → (told : Told) × IsToldOf (options_told options.now) (view item.now) told
+        × IsNoted notes.old notes.new told) }
+{
     match object_of(alloc, options, item) {
         Ok(object) => notes.object(&object),
         Err(AddError::Memory) => Err(AllocError),

@@ -1,6 +1,8 @@
 //! The index of a job.
-ghost use Rattle.std.specs.Prelude.{◌≡◌, true, IfOk, IfErr, IfSome, IfNone};
+ghost use Rattle.std.specs.Prelude.{◌≡◌, true, IfOk, IfErr, IfSome, IfNone, OnOk};
 ghost use Rattle.elasticlunr.specs.Fields.{all_differ, borrowed};
+ghost use Rattle.elasticlunr_job_format.specs.Job as specs;
+ghost use Rattle.elasticlunr_job_format.specs.Job.{IsJob};
 ghost use Rattle.elasticlunr_job_format.specs.JobTold.{job_told};
 ghost use Rattle.elasticlunr_job_format.specs.JobError.{StopsWithReason};
 ghost use Rattle.elasticlunr_job_format.specs.declared.outcome.Refusal.{Refusal};
@@ -8,6 +10,7 @@ ghost use Rattle.elasticlunr_input.specs.FaultPlaces.{IsPlaceInJob, IsPlaceOfFie
 ghost use Rattle.elasticlunr_input.specs.FaultPlaces.{IsPlaceOfLanguage, IsPlaceOfRefusal};
 ghost use Rattle.elasticlunr_input.specs.FaultPlaces.{IsPlaceOfTooLong};
 ghost use Rattle.elasticlunr_input.specs.FirstFaults.{AllFit, IsFirstTooLong, IsFirstTwice};
+ghost use Rattle.elasticlunr_input.specs.NotedAll.{IsNotedJob};
 ghost use Rattle.elasticlunr_input.specs.Settled.{IsMadeWith, IsRefusedWith, settings_told};
 ghost use Rattle.serde_json.specs.View.{view};
 
@@ -188,7 +191,10 @@ pub(crate) fn note_job<'a>(
     value: &'a Value,
     settings: &'a Settings,
     notes: &mut Notes,
-) -> Result<(), AllocError> {
+) -> Result<(), AllocError>
+    ensures { OnOk result ((job : specs.Job) → IsJob (view value.now) job
+        → IsNotedJob (settings_told settings.now) (view value.now) notes.old notes.new) }
+{
     let own = match parse(alloc, value) {
         Ok(job) => job,
         Err(JobError::Memory) => return Err(AllocError),

@@ -1,24 +1,32 @@
 //! What is suspicious in documents that are fine.
-ghost use Rattle.std.specs.Prelude.{◌≡◌, ◌+◌, ◌++◌, ◌||◌, filter, length, map, min, nat_lt};
+ghost use Rattle.std.specs.Prelude.{◌≡◌, ◌+◌, ◌++◌, ◌||◌, ℕ, filter, length, map, min, nat_lt};
 ghost use Rattle.std.specs.Prelude.{IfOk, OnOk};
 ghost use Rattle.std.specs.Str.{bytes_eq, chars};
 ghost use Rattle.elasticlunr_lang.specs.Words.{words};
-ghost use Rattle.elasticlunr_text.specs.Text.{Bytes, bytes_of};
-ghost use Rattle.elasticlunr_job_format.specs.ObjectsTold.{texts_told};
+ghost use Rattle.elasticlunr_text.specs.Text.{Bytes, bytes_of, is_listed};
+ghost use Rattle.elasticlunr_job_format.specs.ObjectsTold.{object_told, options_told, texts_told};
 ghost use Rattle.elasticlunr_input.specs.Counts.{token_count};
+ghost use Rattle.elasticlunr_input.specs.Noted.{document_warnings, has_value, HasSameLimits};
+ghost use Rattle.elasticlunr_input.specs.Noted.{HasSameSeen, HasSameWords, is_expected};
+ghost use Rattle.elasticlunr_input.specs.Noted.{is_only_stored, long_warnings, longest_under};
+ghost use Rattle.elasticlunr_input.specs.Noted.{new_keys, stored_under, texts_keys, too_long_in};
+ghost use Rattle.elasticlunr_input.specs.Noted.{too_long_of, with_text};
+ghost use Rattle.elasticlunr_input.specs.Settled.{settings_told};
 ghost use Rattle.elasticlunr_input.specs.Warnings.{end_warnings, has_text, is_known};
-ghost use Rattle.elasticlunr_input.specs.Warnings.{is_property, unindexed_warnings};
+ghost use Rattle.elasticlunr_input.specs.Warnings.{is_property, unindexed_text, unindexed_warnings};
 ghost use Rattle.elasticlunr_input.specs.Warnings.{last_number, line_feed_warnings};
 ghost use Rattle.elasticlunr_input.specs.Warnings.{NumbersReference, property_document_warnings};
 ghost use Rattle.elasticlunr_input.specs.Warnings.{reference_warnings, replacing_warnings};
 ghost use Rattle.elasticlunr_input.specs.Warnings.{property_names, property_warnings};
 ghost use Rattle.elasticlunr_input.specs.Warnings.{textless_warnings, warnings_of, WarnOfWordless};
+ghost use Rattle.serde_json.specs.View.{view};
 
 use crate::counts::Counts;
 use crate::settings::Settings;
 use elasticlunr_diagnostics::message::counted;
 use elasticlunr_documents::objects::{Object, Options};
 use elasticlunr_lang::tokenize_whitespace;
+use serde_json::Value;
 use std::alloc::{AllocError, Global};
 use std::collections::{BTreeMap, BTreeSet};
 
@@ -69,6 +77,13 @@ fn longer_words(alloc: Global, longest: usize, text: &str) -> Result<usize, Allo
     let mut words = tokenize_whitespace(alloc, text)?;
     words.retain(|word| is_longer(word.as_str(), longest));
     Ok(words.len())
+}
+
+/// Whether a field has one of these names.
+fn is_stored(names: &[String], field: &str) -> bool
+    ensures { result ≡ is_listed field.now (bytes_of names.now) }
+{
+    names.iter().any(|name| field == name.as_str())
 }
 
 /// What was seen of documents, and what is suspicious in them.
@@ -128,9 +143,18 @@ impl Notes {
         &mut self,
         options: &Options<'_>,
         settings: &Settings,
-    ) -> Result<(), AllocError> {
+    ) -> Result<(), AllocError>
+        ensures longest { OnOk result (self.new.longest
+            ≡ longest_under (settings_told settings.now).rules self.old.longest) }
+        ensures stored { OnOk result (self.new.is_stored.items ≡ self.old.is_stored.items
+            ++ stored_under (settings_told settings.now).rules (options_told options.now).fields) }
+        ensures known { OnOk result ((key : Bytes) → is_known self.new key
+            ≡ is_expected (settings_told settings.now) (options_told options.now) key) }
+        ensures seen { HasSameSeen self.old self.new }
+    {
         self.rules(&options.fields, settings)?;
         if settings.fields.is_some() {
+            self.known = None;
             return Ok(());
         }
         let mut known = BTreeSet::new(self.alloc);
@@ -143,30 +167,68 @@ impl Notes {
     }
 
     /// Takes which words are indexed of these fields, before the first document.
-    pub(crate) fn rules(&mut self, fields: &[&str], settings: &Settings) -> Result<(), AllocError> {
+    pub(crate) fn rules(&mut self, fields: &[&str], settings: &Settings) -> Result<(), AllocError>
+        ensures longest { OnOk result (self.new.longest
+            ≡ longest_under (settings_told settings.now).rules self.old.longest) }
+        ensures stored { OnOk result (self.new.is_stored.items ≡ self.old.is_stored.items
+            ++ stored_under (settings_told settings.now).rules (texts_told fields.now)) }
+        ensures seen { HasSameSeen self.old self.new }
+        ensures known { self.new.known ≡ self.old.known }
+    {
         let Some(rules) = &settings.rules else {
             return Ok(());
         };
         self.longest = rules.longest;
         for field in fields {
-            let is_stored = rules.stored.iter().any(|name| name.as_str() == *field);
-            self.is_stored.push(is_stored)?;
+            self.is_stored.push(is_stored(&rules.stored, field))?;
         }
         Ok(())
     }
 
     /// Takes the next document, as read of an object.
-    pub(crate) fn object(&mut self, object: &Object<'_>) -> Result<(), AllocError> {
+    pub(crate) fn object(&mut self, object: &Object<'_>) -> Result<(), AllocError>
+        ensures taken { OnOk result (self.new.taken ≡ min (self.old.taken + 1) usize.MAX) }
+        ensures warnings { OnOk result (let reference = (object_told object.now).reference in
+            warnings_of self.new ≡ warnings_of self.old ++ document_warnings self.new.taken
+            reference (last_number self.old reference) (is_known self.old)
+            (texts_keys (view object.now.value.now))) }
+        ensures number { OnOk result (NumbersReference self.old self.new
+            (object_told object.now).reference self.new.taken) }
+        ensures known { OnOk result ((key : Bytes) → is_known self.new key ≡ (is_known self.old key
+            || is_listed key (texts_keys (view object.now.value.now)))) }
+        ensures texts { OnOk result ((number : ℕ) → has_text self.new number
+            ≡ (has_text self.old number || has_value (object_told object.now).values number)) }
+        ensures words { OnOk result (self.new.longer ≡ min (self.old.longer
+            + too_long_of self.old (object_told object.now).values) usize.MAX) }
+        ensures limits { HasSameLimits self.old self.new }
+    {
         let reference = object.reference.as_str();
         let values = object.values(self.alloc)?;
         self.document(reference, &values)?;
-        let Some(members) = object.value.as_object() else {
+        self.members(reference, object.value)?;
+        Ok(())
+    }
+
+    /// Takes the keys of the texts of the object that was taken last.
+    fn members(&mut self, reference: &str, object: &Value) -> Result<(), AllocError>
+        ensures warnings { OnOk result (warnings_of self.new ≡ warnings_of self.old
+            ++ map (unindexed_text self.old.taken reference.now)
+            (new_keys (is_known self.old) (texts_keys (view object.now)))) }
+        ensures known { OnOk result ((key : Bytes) → is_known self.new key
+            ≡ (is_known self.old key || is_listed key (texts_keys (view object.now)))) }
+        ensures taken { OnOk result (self.new.taken ≡ self.old.taken) }
+        ensures references { OnOk result (self.new.references ≡ self.old.references) }
+        ensures words { HasSameWords self.old self.new }
+    {
+        let Some(members) = object.as_object() else {
             return Ok(());
         };
         for (key, member) in members.iter() {
-            if member.is_string() {
-                self.text_under(reference, key.as_str())?;
+            if !member.is_string() {
+                continue;
             }
+            let name = key.as_str();
+            self.text_under(reference, name)?;
         }
         Ok(())
     }
@@ -178,6 +240,8 @@ impl Notes {
         ensures known { OnOk result ((k : Bytes)
             → is_known self.new k ≡ (is_known self.old k || bytes_eq key.now k)) }
         ensures taken { self.new.taken ≡ self.old.taken }
+        ensures references { self.new.references ≡ self.old.references }
+        ensures words { HasSameWords self.old self.new }
     {
         let number = self.taken;
         let Some(known) = &mut self.known else {
@@ -203,6 +267,12 @@ impl Notes {
             ++ reference_warnings self.new.taken reference.now (last_number self.old reference.now)) }
         ensures number { OnOk result
             (NumbersReference self.old self.new reference.now self.new.taken) }
+        ensures texts { OnOk result ((number : ℕ) → has_text self.new number
+            ≡ (has_text self.old number || has_value (texts_told values.now) number)) }
+        ensures words { OnOk result (self.new.longer
+            ≡ min (self.old.longer + too_long_of self.old (texts_told values.now)) usize.MAX) }
+        ensures known { self.new.known ≡ self.old.known }
+        ensures limits { HasSameLimits self.old self.new }
     {
         self.taken = self.taken.saturating_add(1);
         self.reference(reference)?;
@@ -217,6 +287,8 @@ impl Notes {
             (NumbersReference self.old self.new reference.now self.old.taken) }
         ensures taken { self.new.taken ≡ self.old.taken }
         ensures seen { self.new.has_text ≡ self.old.has_text }
+        ensures words { HasSameWords self.old self.new }
+        ensures known { self.new.known ≡ self.old.known }
     {
         self.replacing(reference)?;
         self.line_feed(reference)?;
@@ -231,6 +303,8 @@ impl Notes {
             (NumbersReference self.old self.new reference.now self.old.taken) }
         ensures taken { self.new.taken ≡ self.old.taken }
         ensures seen { self.new.has_text ≡ self.old.has_text }
+        ensures words { HasSameWords self.old self.new }
+        ensures known { self.new.known ≡ self.old.known }
     {
         let number = self.taken;
         let key = String::from_str(self.alloc, reference)?;
@@ -251,6 +325,8 @@ impl Notes {
         ensures references { self.new.references ≡ self.old.references }
         ensures taken { self.new.taken ≡ self.old.taken }
         ensures seen { self.new.has_text ≡ self.old.has_text }
+        ensures words { HasSameWords self.old self.new }
+        ensures known { self.new.known ≡ self.old.known }
     {
         if !reference.as_bytes().contains(&b'\n') {
             return Ok(());
@@ -270,6 +346,8 @@ impl Notes {
         ensures references { self.new.references ≡ self.old.references }
         ensures taken { self.new.taken ≡ self.old.taken }
         ensures seen { self.new.has_text ≡ self.old.has_text }
+        ensures words { HasSameWords self.old self.new }
+        ensures known { self.new.known ≡ self.old.known }
     {
         if !is_property(reference) {
             return Ok(());
@@ -285,37 +363,85 @@ impl Notes {
         ensures warnings { self.new.warnings ≡ self.old.warnings }
         ensures references { self.new.references ≡ self.old.references }
         ensures taken { self.new.taken ≡ self.old.taken }
+        ensures texts { OnOk result ((number : ℕ) → has_text self.new number
+            ≡ (has_text self.old number || has_value (texts_told values.now) number)) }
+        ensures words { OnOk result (self.new.longer
+            ≡ min (self.old.longer + too_long_of self.old (texts_told values.now)) usize.MAX) }
+        ensures known { self.new.known ≡ self.old.known }
+        ensures limits { HasSameLimits self.old self.new }
     {
         for (field, value) in values.iter().enumerate() {
-            let is_filled = !value.is_empty();
-            match self.has_text.get_mut(field) {
-                Some(seen) => *seen = *seen || is_filled,
-                None => self.has_text.push(is_filled)?,
-            }
+            self.text(field, !value.is_empty())?;
             self.value(field, value)?;
         }
         Ok(())
     }
 
-    /// Takes how many words of a value are too long, where the field of this number is indexed.
+    /// Takes whether a document has a text in the field of this number.
+    fn text(&mut self, field: usize, is_text: bool) -> Result<(), AllocError>
+        ensures texts { OnOk result
+            (self.new.has_text.items ≡ with_text self.old.has_text.items field is_text) }
+        ensures warnings { self.new.warnings ≡ self.old.warnings }
+        ensures references { self.new.references ≡ self.old.references }
+        ensures taken { self.new.taken ≡ self.old.taken }
+        ensures words { self.new.longer ≡ self.old.longer }
+        ensures known { self.new.known ≡ self.old.known }
+        ensures limits { HasSameLimits self.old self.new }
+    {
+        let Some(has_text) = self.has_text.get_mut(field) else {
+            self.has_text.push(is_text)?;
+            return Ok(());
+        };
+        *has_text = *has_text || is_text;
+        Ok(())
+    }
+
+    /// Takes how many words are too long of the value of the field of this number.
     fn value(&mut self, field: usize, value: &str) -> Result<(), AllocError>
         ensures warnings { self.new.warnings ≡ self.old.warnings }
         ensures references { self.new.references ≡ self.old.references }
         ensures taken { self.new.taken ≡ self.old.taken }
         ensures seen { self.new.has_text ≡ self.old.has_text }
+        ensures words { OnOk result (self.new.longer ≡ min (self.old.longer
+            + too_long_in self.old.longest (is_only_stored self.old field) value.now) usize.MAX) }
+        ensures known { self.new.known ≡ self.old.known }
+        ensures limits { HasSameLimits self.old self.new }
     {
-        let Some(longest) = self.longest else {
-            return Ok(());
-        };
-        if self.is_stored.get(field) != Some(&true) {
-            let longer = longer_words(self.alloc, longest, value)?;
-            self.longer = self.longer.saturating_add(longer);
-        }
+        let longer = self.too_long(field, value)?;
+        self.longer = self.longer.saturating_add(longer);
         Ok(())
     }
 
+    /// How many words of a value are too long, where the field of this number is indexed.
+    fn too_long(&self, field: usize, value: &str) -> Result<usize, AllocError>
+        ensures { IfOk result (λ count. count
+            ≡ too_long_in self.now.longest (is_only_stored self.now field) value.now) }
+    {
+        let Some(longest) = self.longest else {
+            return Ok(0);
+        };
+        if self.is_only_stored(field) {
+            return Ok(0);
+        }
+        let longer = longer_words(self.alloc, longest, value)?;
+        Ok(longer)
+    }
+
+    /// Whether the field of this number is only stored.
+    fn is_only_stored(&self, field: usize) -> bool
+        ensures { result ≡ is_only_stored self.now field }
+    {
+        match self.is_stored.get(field) {
+            Some(is_stored) => *is_stored,
+            None => false,
+        }
+    }
+
     /// Takes the end of all words.
-    pub(crate) fn long_words(&mut self) -> Result<(), AllocError> {
+    pub(crate) fn long_words(&mut self) -> Result<(), AllocError>
+        ensures { OnOk result (warnings_of self.new ≡ warnings_of self.old
+            ++ long_warnings self.old.longest self.old.longer) }
+    {
         let (Some(longest), true) = (self.longest, self.longer > 0) else {
             return Ok(());
         };
@@ -330,8 +456,9 @@ impl Notes {
 
     /// Takes the end of the documents, and the fields.
     pub(crate) fn end(&mut self, fields: &[&str]) -> Result<(), AllocError>
-        ensures { OnOk result (warnings_of self.new
+        ensures warnings { OnOk result (warnings_of self.new
             ≡ warnings_of self.old ++ end_warnings self.old (texts_told fields.now)) }
+        ensures words { HasSameWords self.old self.new }
     {
         if self.taken == 0 {
             self.warnings.push(String::from_str(
@@ -352,6 +479,7 @@ impl Notes {
             ++ (textless_warnings (has_text self.old number) field.now
             ++ property_warnings field.now)) }
         ensures seen { self.new.has_text ≡ self.old.has_text }
+        ensures words { HasSameWords self.old self.new }
     {
         self.field_text(number, field)?;
         self.field_name(field)
@@ -362,6 +490,7 @@ impl Notes {
         ensures warnings { OnOk result (warnings_of self.new
             ≡ warnings_of self.old ++ textless_warnings (has_text self.old number) field.now) }
         ensures seen { self.new.has_text ≡ self.old.has_text }
+        ensures words { HasSameWords self.old self.new }
     {
         if self.is_filled(number) {
             return Ok(());
@@ -386,6 +515,7 @@ impl Notes {
         ensures warnings { OnOk result (warnings_of self.new
             ≡ warnings_of self.old ++ property_warnings field.now) }
         ensures seen { self.new.has_text ≡ self.old.has_text }
+        ensures words { HasSameWords self.old self.new }
     {
         if !is_property(field) {
             return Ok(());

@@ -1,11 +1,16 @@
 use Rattle.std.proofs.Common.{◌++◌, [], false, unwrap_or, slice_get, sym, ap, ◌∙◌, append-nil, append_assoc, refl, get_or, take}
 use Rattle.elasticlunr_job_format.specs.ObjectsTold.{texts_told}
 use Rattle.elasticlunr_input.specs.Warnings.{fields_warnings, has_text, property_warnings, textless_warnings, warnings_of}
+use Rattle.elasticlunr_input.proofs.Noting.{same_words}
 use Rattle.elasticlunr_input.proofs.Warned.{fields_step}
 use Rattle.elasticlunr_input.proofs.notes.Notes.end.Goals as goal
 
 pub loop-number-init : goal.loop-number-init
-loop-number-init c = record { warned = sym (append-nil (warnings_of c.args.self.now)); seen = refl }
+loop-number-init c = record {
+  warned = sym (append-nil (warnings_of c.args.self.now));
+  seen = refl;
+  words = (refl, refl, (refl, refl, refl, refl));
+}
 
 pub loop-number-preserved : goal.loop-number-preserved
 loop-number-preserved c =
@@ -24,4 +29,5 @@ loop-number-preserved c =
           ∙ ap (λ ws. warnings_of old ++ ws) (sym (fields_step (has_text old) fields number
           (record { ref_ptr = (0, 0); now = [] }) c.loop-number-test.true)))));
       seen = c.field.ensures.seen ∙ so_far.seen;
+      words = same_words c.args.self.now c.loop-number.self c.field.new.self so_far.words c.field.ensures.words;
     }

@@ -1,5 +1,5 @@
 -- On lines that are read one by one.
-use Rattle.std.proofs.Common.{◌≡◌, ◌+◌, List, [], ◌∷◌, ◌++◌, length, take, map, Option, None, Some, unwrap_or, inl, inr}
+use Rattle.std.proofs.Common.{◌≡◌, ◌+◌, List, [], ◌∷◌, ◌++◌, length, take, map, Option, None, Some, inl, inr}
 use Rattle.std.proofs.Common.{refl, sym, ap, subst, ◌∙◌, arith}
 use Rattle.std.specs.List.{slice_get}
 use Rattle.serde_json.specs.Data.{Data}
@@ -9,7 +9,7 @@ use Rattle.elasticlunr_job_format.specs.Job.{Document}
 use Rattle.elasticlunr_job_format.specs.Lines.{readings, AreLineValues}
 use Rattle.elasticlunr_documents.specs.Lines.{IsMadeOfLines}
 use Rattle.elasticlunr_job_format.specs.Objects as objects
-use Rattle.elasticlunr_job_format.specs.Objects.{AreDocumentsOf, HasProblem, IsDocumentOf, IsFirstProblem}
+use Rattle.elasticlunr_job_format.specs.Objects.{AreDocumentsOf, HasProblem, IsFirstProblem}
 use Rattle.elasticlunr_documents.specs.Objects.{IsMadeOfObjects, job_of}
 use Rattle.elasticlunr_documents.specs.declared.objects.ObjectsError.TheVariants as error
 use Rattle.elasticlunr_job_format.specs.declared.objects.ObjectFault.{ObjectFault}
@@ -20,7 +20,7 @@ use Rattle.elasticlunr_input.specs.Asked.{options_of, options_with, reference_ke
 use Rattle.elasticlunr_input.specs.Fields.{fields_of_first, text_keys}
 use Rattle.elasticlunr_input.specs.Lines.{IsLinesMadeWith}
 use Rattle.elasticlunr_input.specs.Refused.{FailLines, FailObjects, HasUnreadLine}
-use Rattle.elasticlunr_input.specs.Settled.{Settings, with_stored}
+use Rattle.elasticlunr_input.specs.Settled.{Settings}
 use Rattle.elasticlunr_input.proofs.LinesBy.{FailLinesOf}
 
 -- the values of a text begin with those that were read, and the next

@@ -1,6 +1,6 @@
 -- On what one value, one key and one document more leave in the notes.
 use Rattle.std.proofs.Common.{◌≡◌, ◌∷◌, ◌++◌, ◌+◌, ◌<◌, ◌≤◌, ◌||◌, ℕ, suc, Bool, true, false, List, [], length, map, take}
-use Rattle.std.proofs.Common.{get_or, Option, Some, None, min, bytes_eq, not, ◌==◌, zero, set, inl, inr, refl, sym, ap, subst, ◌∙◌, arith}
+use Rattle.std.proofs.Common.{get_or, Option, None, min, bytes_eq, not, ◌==◌, zero, set, inl, inr, refl, sym, ap, subst, ◌∙◌, arith}
 use Rattle.std.proofs.Common.{if◌then◌else◌, append-nil, append_assoc, cond}
 use Rattle.std.proofs.Math.Bool.{or-false, or_assoc}
 use Rattle.std.proofs.Math.Nat.{min-eq_left}

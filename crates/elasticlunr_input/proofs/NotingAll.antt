@@ -1,11 +1,10 @@
 -- On what all documents of an input leave in the notes.
-use Rattle.std.proofs.Common.{◌≡◌, ◌∷◌, ◌++◌, ◌+◌, ◌≤◌, ◌||◌, ◌==◌, ◌^◌, ◌-◌, ℕ, Bool, true, false, List, [], length, map, min}
-use Rattle.std.proofs.Common.{Option, Some, None, bytes_eq, refl, sym, ap, subst, ◌∙◌, arith, if◌then◌else◌}
+use Rattle.std.proofs.Common.{◌≡◌, ◌∷◌, ◌++◌, ◌+◌, ◌||◌, ◌==◌, ◌^◌, ◌-◌, ℕ, Bool, true, List, [], length, map, min}
+use Rattle.std.proofs.Common.{Option, Some, bytes_eq, refl, sym, ap, subst, ◌∙◌, arith, if◌then◌else◌}
 use Rattle.std.proofs.Common.{append-nil, append_assoc, codes, suc, Result, Ok, Err, OnOk}
 use Rattle.std.proofs.Common.{◌<◌, get_or, take}
 use Rattle.std.proofs.Math.Bool.{or-false, or_assoc}
 use Rattle.std.proofs.lemmas.List.{get_or-map, length-map}
-use Rattle.std.specs.List.{list_any}
 use Rattle.elasticlunr_text.specs.Text.{Bytes, is_listed}
 use Rattle.std.specs.BTreeSet.{contains_text}
 use Rattle.std.specs.Option.{option_map_or}

@@ -1,7 +1,7 @@
 -- Numbered names differ, so of more names than fields one is no field.
-use Rattle.std.proofs.Common.{◌≡◌, ◌+◌, ◌*◌, ◌≤◌, ◌<◌, ◌++◌, ◌∷◌, ◌==◌, ◌^◌, ℕ, zero, suc, Bool, true, false, List, []}
-use Rattle.std.proofs.Common.{Option, None, Some, cond, length, map, not, refl, sym, ap, subst, ◌∙◌, arith, codes}
-use Rattle.std.proofs.Common.{◌||◌, if◌then◌else◌, append-nil, inl, inr}
+use Rattle.std.proofs.Common.{◌≡◌, ◌+◌, ◌<◌, ◌++◌, ◌∷◌, ◌==◌, ◌^◌, ℕ, zero, suc, Bool, true, false, List, []}
+use Rattle.std.proofs.Common.{None, Some, cond, length, map, not, refl, sym, ap, ◌∙◌, arith, codes}
+use Rattle.std.proofs.Common.{◌||◌, if◌then◌else◌, append-nil}
 use mathlib.Core.Bool.{false≢true}
 use Rattle.std.specs.Fmt.{decimal}
 use Rattle.std.specs.Cmp.{IsEquivalence}

@@ -1,17 +1,14 @@
 -- On the documents that values are, and the keys of their texts.
-use Rattle.std.proofs.Common.{◌≡◌, ◌∷◌, ◌++◌, ◌+◌, ◌<◌, ℕ, zero, suc, List, [], length, map, take, get_or}
-use Rattle.std.proofs.Common.{Option, Some, None, IsSome, is_some, true≢false, slice_get, refl, sym, ap, subst, ◌∙◌, arith}
-use Rattle.std.specs.List.{AllZip}
+use Rattle.std.proofs.Common.{◌≡◌, ◌∷◌, ◌<◌, ℕ, zero, suc, List, [], length, get_or}
+use Rattle.std.proofs.Common.{Option, Some, None, IsSome, is_some, true≢false, slice_get, sym, ap, subst, ◌∙◌, arith}
 use Rattle.serde_json.specs.Data.{Data}
-use Rattle.serde_json.specs.Find.{get}
 use Rattle.elasticlunr_text.specs.Text.{Bytes}
 use Rattle.elasticlunr_job_format.specs.Job.{Document}
-use Rattle.elasticlunr_job_format.specs.Objects.{Options, AreDocumentsOf, HasProblem, HasReference, HasTexts, IsDocumentOf}
+use Rattle.elasticlunr_job_format.specs.Objects.{Options, AreDocumentsOf, HasProblem, HasTexts, IsDocumentOf}
 use Rattle.elasticlunr_job_format.specs.Objects.{reference_of, text_of}
 use Rattle.elasticlunr_job_format.specs.declared.objects.ObjectFault.{ObjectFault}
 use Rattle.elasticlunr_job_format.specs.declared.objects.ObjectFault.TheVariants.{NotJson, NotAnObject, NoReference}
 use Rattle.elasticlunr_job_format.specs.declared.objects.ObjectFault.TheVariants.{NotAReference, NotAText}
-use Rattle.elasticlunr_job_format.proofs.FieldTexts.{AllZip-push}
 
 -- each of these values is a document
 pub document_at : (options : Options) (items : List Data) (docs : List Document) (i : ℕ) (d : Data) → i < length items

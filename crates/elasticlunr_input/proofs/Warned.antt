@@ -10,12 +10,6 @@ use Rattle.elasticlunr_job_format.specs.ObjectsTold.{texts_told}
 use Rattle.elasticlunr_input.specs.Warnings.{fields_warnings, property_warnings}
 use Rattle.elasticlunr_input.specs.Warnings.{textless_warnings, wordless_text}
 
--- a test of strings, and of their bytes
-pub any_of_strings : (test : Bytes → Bool) (names : List (String Global))
-    → list_any (λ name. test (string_bytes name)) names ≡ list_any test (bytes_of names)
-any_of_strings test [] = refl
-any_of_strings test (name ∷ names) = ap (λ b. test (string_bytes name) || b) (any_of_strings test names)
-
 -- a string more
 pub one_more : (warnings : List (String Global)) (said : String Global) (text : Bytes) → string_bytes said ≡ text
     → bytes_of (warnings ++ said ∷ []) ≡ bytes_of warnings ++ text ∷ []

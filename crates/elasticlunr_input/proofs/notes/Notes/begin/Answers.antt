@@ -1,6 +1,5 @@
-use Rattle.std.proofs.Common.{◌≡◌, ◌+◌, ◌++◌, ◌∷◌, ◌||◌, [], true, false, cond, bytes_eq, get_or, take, refl, sym, ap, ◌∙◌}
+use Rattle.std.proofs.Common.{◌≡◌, ◌+◌, ◌++◌, ◌∷◌, [], true, false, cond, bytes_eq, get_or, take, refl, sym, ap, ◌∙◌}
 use Rattle.std.specs.BTreeSet.{contains_text}
-use Rattle.std.specs.List.{list_any}
 use Rattle.std.proofs.lemmas.Map.Text.{btree_set_updates_text}
 use Rattle.elasticlunr_job_format.specs.ObjectsTold.{texts_told}
 use Rattle.elasticlunr_text.specs.Text.{Bytes, is_listed}

@@ -1,9 +1,9 @@
-use Rattle.std.proofs.Common.{◌≡◌, ◌<◌, ◌≤◌, ◌+◌, ◌||◌, ◌==◌, [], ℕ, not, false, get_or, length, map, min, take, sym, ap, subst, ◌∙◌, refl, arith}
+use Rattle.std.proofs.Common.{◌≡◌, ◌<◌, ◌≤◌, ◌+◌, ◌||◌, ◌==◌, [], not, false, get_or, length, min, take, sym, ap, subst, ◌∙◌, arith}
 use Rattle.std.proofs.Common.{Bool, Global, Vec, slice_get, unwrap_or}
 use Rattle.std.proofs.lemmas.List.{get_or-map, length-map}
 use Rattle.elasticlunr_job_format.specs.ObjectsTold.{texts_told}
 use Rattle.elasticlunr_text.specs.Text.{Bytes}
-use Rattle.elasticlunr_input.specs.Noted.{all_too_long, has_value, is_only_stored, too_long_in}
+use Rattle.elasticlunr_input.specs.Noted.{all_too_long, is_only_stored, too_long_in}
 use Rattle.elasticlunr_input.specs.Warnings.{has_text}
 use Rattle.elasticlunr_input.proofs.Noting.{capped, same_limits, text_at, too_long_step, value_more}
 use Rattle.elasticlunr_input.proofs.Noting.{with_text_here, with_text_long, with_text_others}

@@ -7,3 +7,4 @@ pub mod Printed
 pub mod Ranking
 pub mod Told
 pub mod Whole
+pub mod ReadPieces

@@ -1,6 +1,6 @@
 //! Laws of a search in pieces: each is the contract of a function that does nothing.
 ghost use Rattle.std.specs.Prelude.{◌≡◌, ◌↔◌, ◌<◌, ℕ, Bool, List, Contains, length, replicate};
-ghost use Rattle.std.specs.Prelude.{slice_index_or, [], ◌∷◌, IsTrue, map, string_bytes};
+ghost use Rattle.std.specs.Prelude.{slice_index_or, [], ◌∷◌, IsTrue, map, string_bytes, vec_len};
 ghost use Rattle.std.specs.FinMap.{len};
 ghost use Rattle.std.specs.Float.{Float};
 ghost use Rattle.std.specs.List.{AllZip, zip};
@@ -9,11 +9,14 @@ ghost use Rattle.elasticlunr_error.specs.Text.{Bytes, Text, bytes_of, is_listed}
 ghost use Rattle.elasticlunr_piece_head.specs.Choice.{IsNeededForOne};
 ghost use Rattle.elasticlunr_piece_laws.specs.Alike.{AreAlike, CanStandFor, LeaveExpansion};
 ghost use Rattle.elasticlunr_piece_laws.specs.Held.{HasDocumentsOf, HavePostingsOf};
+ghost use Rattle.elasticlunr_piece_laws.specs.ReadPieces.{AreAdded, IsReadHead};
 ghost use Rattle.elasticlunr_piece_laws.specs.Whole.{IsWhole};
+ghost use Rattle.elasticlunr_piece_texts.specs.Texts.{HasSmallNumbers};
 ghost use Rattle.elasticlunr_piece_search.specs.Entries.{AreEntriesAdded, Entry, piece_value};
 ghost use Rattle.elasticlunr_pieces.specs.Entries.{references, token_members};
 ghost use Rattle.elasticlunr_pieces.specs.Head.{Beginnings, firsts, head_value};
-ghost use Rattle.elasticlunr_pieces.specs.Pieces.{ArePieces};
+ghost use Rattle.elasticlunr_pieces.specs.Pieces.{ArePieces, IsHead, tokens_text};
+ghost use Rattle.elasticlunr_pieces.specs.declared.making.Head.{Head};
 ghost use Rattle.elasticlunr_print.specs.declared.parts.Parts.{Parts};
 ghost use Rattle.elasticlunr_ranking.specs.Fields.{Field};
 ghost use Rattle.elasticlunr_ranking.specs.Order.{AreRanked};
@@ -140,4 +143,33 @@ pub fn a_searcher_has_what_was_printed(searcher: &Searcher<AnyLanguage>)
 {
     one_table_a_value();
     one_contents_a_value();
+}
+
+/// A ranked search over the texts of an index in pieces finds what it finds in the whole index, with
+/// the same scores: where the text of its head was read, and of the texts of its pieces those were
+/// added that the tokens of a query need.
+pub fn texts_rank_as_the_whole()
+    ensures { (parts : Parts) (field : Bytes) (size : ℕ) (tries : List (List Bytes))
+        (texts : List (List TextMap)) (titles : List (List Bytes))
+        → ArePieces parts field size tries texts titles → IsWhole parts
+        → HasSmallNumbers parts tries texts titles
+        → (printed : Head) → IsHead parts field tries texts titles printed
+        → (head : PieceHead) → IsReadHead (string_bytes printed.text) head
+        → (options : Options) → LeaveExpansion options
+        → (asked : List Bytes)
+        → ((k : ℕ) → k < length asked → IsUtf8 (slice_index_or asked k []))
+        → (numbers : List ℕ)
+        → ((n : ℕ) → IsNeededForOne (bytes_of head.tries.items) options.expand asked n
+        → Contains numbers n)
+        → (others : List Table)
+        → AreAdded head (λ n. tokens_text parts (slice_index_or tries n [])) numbers
+        (replicate (vec_len head.fields) new_table) others
+        → (contents : Contents) → HasDocumentsOf (head_contents head) contents
+        → (hits : List (Bytes × Float))
+        → AreRanked (fields_for options contents (zip (bytes_of head.fields.items) others))
+        (map chars asked) hits
+        ↔ AreRanked (fields_for options parts.store.now
+        (zip (map string_bytes parts.fields.now) parts.tries.now)) (map chars asked) hits }
+{
+    pieces_rank_as_the_whole();
 }

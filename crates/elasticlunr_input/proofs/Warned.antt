@@ -1,10 +1,9 @@
 -- On warnings that are added.
 use Rattle.std.proofs.Common.{◌≡◌, ◌∷◌, ◌++◌, ℕ, suc, Bool, true, false, List, [], length, map, String, Global}
 use Rattle.std.proofs.Common.{string_bytes, if◌then◌else◌, refl, sym, ap, ◌∙◌, append_assoc}
-use Rattle.std.proofs.Common.{append-nil, Bor, ◌||◌, ◌+◌, ◌<◌, take, get_or, subst, arith}
+use Rattle.std.proofs.Common.{append-nil, Bor, ◌+◌, ◌<◌, take, get_or, subst, arith}
 use Rattle.std.proofs.lemmas.List.{length-map, get_or-map, length-take-le, take_more}
 use Rattle.std.proofs.lemmas.List.{map-append}
-use Rattle.std.specs.List.{list_any}
 use Rattle.elasticlunr_text.specs.Text.{Bytes, bytes_of}
 use Rattle.elasticlunr_job_format.specs.ObjectsTold.{texts_told}
 use Rattle.elasticlunr_input.specs.Warnings.{fields_warnings, property_warnings}

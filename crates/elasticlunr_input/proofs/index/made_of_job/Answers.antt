@@ -8,9 +8,6 @@ use Rattle.elasticlunr_diagnostics.specs.declared.form.Form.TheVariants.{Job}
 use Rattle.elasticlunr_input.proofs.LinePlaces.{some_for}
 use Rattle.elasticlunr_input.proofs.index.made_of_job.Goals as goal
 
-pub returns-in_ok-note_job-in-Ok-clause-ok : goal.returns-in_ok-note_job-in-Ok-clause-ok
-returns-in_ok-note_job-in-Ok-clause-ok g c = (view c.in_ok-value.value, c.in_ok-value.ensures.ok, c.in-Ok.ensures.ok)
-
 pub returns-clause-err : goal.returns-clause-err
 returns-clause-err g c =
     let settings = settings_told c.args.settings.now in

@@ -51,7 +51,7 @@ def model(fields, stored, longest, lang, ref):
     """The index, and how many words are left out."""
     docs = [Document(doc["id"], tuple(value_of(field, doc.get(field, ""), stored, longest) for field in fields)) for doc in DOCS]
     text, _ = flat_model.answer(flat_model.flat(Input(tuple(fields), tuple(docs), lang, ref=ref)))
-    indexed = [doc[field] for doc in DOCS for field in fields if field not in stored]
+    indexed = [doc.get(field, "") for doc in DOCS for field in fields if field not in stored]
     return text, sum(longest is not None and len(word) > longest for text in indexed for word in words(text))
 
 

@@ -74,7 +74,7 @@ mdbook: lib
 books: command
 	@python3 tests/html_books.py
 
-# Builds documentation by pdoc, as it is and with its index made here, and compares what both find. It needs node and the network.
+# Builds documentation by pdoc, as it is and with its index made here, and compares what both find. It needs node, chromium and the network.
 pdoc: lib
 	@python3 tests/pdoc_index.py
 

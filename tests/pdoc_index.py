@@ -4,12 +4,13 @@
 usage: pdoc_index.py
 
 pdoc 15.0.1 is Debian's package python3-pdoc of trixie. It and what it needs are downloaded from the archive that the machine's
-own sources name (tools/apt_beside.sh), and unpacked in a folder of its own; nothing is installed. Needs node, the network and
+own sources name (tools/apt_beside.sh), and unpacked in a folder of its own; nothing is installed. Needs node, chromium, the network and
 out/lib/libelasticlunr.so (`make lib`).
 
 - Each file but search.js is the same, byte for byte, but for addresses in memory. pdoc writes mail addresses by random numbers, which
   begin with one seed here.
 - For each query the search of both pages finds the same documents with equal scores, and the best come first.
+- In Chromium both pages show the first ten of what they find so, and how many there are.
 
 Several documents of pdoc's may have one name. The last one counts here, and pdoc's own index is made of these as well: elasticlunr.js
 would keep the words of the others, which nobody finds then, and count them. Queries that find the word "constructor" are left out:
@@ -21,6 +22,7 @@ import re
 import subprocess
 import sys
 import tempfile
+import urllib.parse
 
 sys.path.insert(0, os.path.join(os.path.dirname(__file__), ".."))
 
@@ -64,6 +66,9 @@ const answers = JSON.parse(fs.readFileSync(process.argv[3])).map((query) => pdoc
 process.stdout.write(JSON.stringify(answers));
 """
 QUERIES, LEAST_FOUND, LEAST_DOCUMENTS = 400, 250, 1_500
+CHROMIUM = ["chromium", "--headless=new", "--disable-gpu", "--disable-dev-shm-usage", "--virtual-time-budget=60000", "--dump-dom"]
+SHOWN = ["json.dumps", "assertEqual", "event loop", "zero", "xbm", "wrapped", "nowhereinit"]  # what is searched for in Chromium
+FIRST = 10  # documents that a page shows
 SCALE, EQUAL = 1e6, 1e-6  # frequencies are whole millionths here: so many times the score, and as exact
 
 
@@ -76,6 +81,21 @@ def built(root, script, folder):
 def found(folder, queries, name):
     program = write(os.path.join(folder, "search.cjs"), SEARCH.replace("pdocSearch(", "window.pdocSearch("))
     return json.loads(library.ran(["node", program, os.path.join(folder, name, "search.js"), queries]))
+
+
+def shown(folder, name, query):
+    """How many documents a page in Chromium says that it has found, and those that it shows."""
+    page = "file://" + os.path.join(folder, name, "json.html?search=" + urllib.parse.quote(query))
+    dom = library.ran([*CHROMIUM, *["--no-sandbox"] * (os.geteuid() == 0), page]).split("<script>")[0]
+    said = re.search(r"(No|\d+) search results? for", dom)
+    names = re.findall(r'<section class="search-result">\s*<a href="([^"$]*)"', dom)
+    return said and said[1].replace("No", "0"), [re.sub(r"\.html#?", ".", name.replace("/", ".")).rstrip(".") for name in names]
+
+
+def check_shown(folder, name, query, answer, results):
+    found_so = str(len(answer)), [ref for ref, _ in answer[:FIRST]]
+    there = shown(folder, name, query)
+    results.note(there == found_so, f"pdoc, {name} in Chromium, {query!r}: {there} instead of {found_so}")
 
 
 def without_addresses(page):
@@ -115,6 +135,9 @@ def main():
             documents, last = json.loads(read(theirs + ".numbers"))
             for query, *both in zip(queries, *answers):
                 check_query(query, *both, results)
+            for name in ("theirs", "ours"):
+                for query, answer in zip(SHOWN, found(folder, write(os.path.join(folder, "shown"), json.dumps(SHOWN)), name)):
+                    check_shown(folder, name, query, answer, results)
             many = sum(map(bool, answers[0]))
             results.note(many >= LEAST_FOUND, f"pdoc: {many} queries find something")
             results.note(last >= LEAST_DOCUMENTS, f"pdoc: {last} documents")

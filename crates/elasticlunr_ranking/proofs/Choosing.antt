@@ -35,7 +35,7 @@ same_option : (o : Option SearchOptionsField) → option_map (λ own. own) o ≡
 same_option None = refl
 same_option (Some own) = refl
 
-not_zero : (n : ℕ) → n ≢ 0 → (n == 0) ≡ false
+pub not_zero : (n : ℕ) → n ≢ 0 → (n == 0) ≡ false
 not_zero zero h = absurd (h refl)
 not_zero (suc n) h = eqb-suc-zero n
 

@@ -4,4 +4,10 @@ pub mod Tallying
 pub mod Weighing
 pub mod Steps
 pub mod Ranked
+pub mod Sorting
+pub mod Keeping
 pub mod Choosing
+pub mod Finding
+pub mod Bounds
+pub mod LogBounds
+pub mod Finite

@@ -19,7 +19,7 @@ pub count_push : {A : Type 0} (q : A → Bool) (xs : List A) (x : A)
 count_push q xs x = fold-append (λ n y. n + cond (q y) 1 0) 0 xs (x ∷ [])
 
 -- a sum that has a part stays one
-stays : (s : Float) (parts : List (Option Float)) → fold added (Some s) parts ≢ None
+pub stays : (s : Float) (parts : List (Option Float)) → fold added (Some s) parts ≢ None
 stays s [] h = cc
 stays s (None ∷ parts) h = stays s parts h
 stays s (Some x ∷ parts) h = stays (s +ᵈ x) parts h

@@ -36,7 +36,7 @@ not_eq Equal h = absurd h
 not_eq Greater h = absurd h
 
 -- a reference that comes before a key is another one
-apart : (r k : Bytes) → T (is_lt (text_cmp r k)) → bytes_eq k r ≡ false
+pub apart : (r k : Bytes) → T (is_lt (text_cmp r k)) → bytes_eq k r ≡ false
 apart r k h = nat_list_eq_equiv.symm k r ∙ sym (is_eq-slice_cmp r k) ∙ not_eq (text_cmp r k) h
 
 -- what is found of a reference is taken in

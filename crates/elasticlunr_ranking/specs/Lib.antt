@@ -5,5 +5,8 @@ pub mod Weights
 pub mod Held
 pub mod Tallies
 pub mod Order
+pub mod Keys
+pub mod Postings
+pub mod Counts
 pub mod Choice
 pub mod Numbers

@@ -1,6 +1,6 @@
 -- The natural logarithm of a double, as fdlibm computes it: to less than a unit in the last place.
 use Rattle.std.specs.Prelude.{ℕ, ◌+◌, ◌/◌, ◌%◌, cond, ◌||◌, ◌&&◌, ◌==◌, nat_lt, nat_le}
-use Rattle.std.specs.Prelude.{is_nan, to_bits, from_bits}
+use Rattle.std.specs.Prelude.{is_nan, to_bits}
 use Rattle.std.specs.Float.{Float, binary64}
 use Rattle.std.specs.Float.Ieee.{eq}
 use Rattle.elasticlunr_ranking.specs.Doubles.{◌+ᵈ◌, ◌-ᵈ◌, ◌*ᵈ◌, ◌/ᵈ◌, whole}

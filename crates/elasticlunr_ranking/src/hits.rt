@@ -1,13 +1,19 @@
 //! What is found, the best first.
-ghost use Rattle.std.specs.Prelude.{◌≡◌, List, map, take, IfOk};
+ghost use Rattle.std.specs.Prelude.{◌≡◌, ◌<◌, true, List, All, map, take, IfOk, OnOk};
+ghost use Rattle.std.specs.BinaryHeap.{IsHeap, heap_items, heap_len};
+ghost use Rattle.std.specs.Bool.{MatchBool};
 ghost use Rattle.std.specs.Float.{Float};
+ghost use Rattle.std.specs.List.{HoldsAt};
 ghost use Rattle.std.specs.List.Sorted.{IsPermutation, IsSorted};
+ghost use Rattle.std.specs.Ordering.{is_lt};
 ghost use Rattle.elasticlunr_error.specs.Text.{Bytes};
 ghost use Rattle.elasticlunr_ranking.specs.Held.{told};
-ghost use Rattle.elasticlunr_ranking.specs.Order.{best_first, told_hits, told_key};
+ghost use Rattle.elasticlunr_ranking.specs.Keys.{IsKey, IsLastOf, KeepsFirst, key_cmp, told_key};
+ghost use Rattle.elasticlunr_ranking.specs.Order.{best_first, told_hits};
 
 use std::alloc::{AllocError, Global};
 use std::cmp::{OrderedFloat, Reverse};
+use std::collections::BinaryHeap;
 
 /// A document that a search found, and its score.
 #[derive(Drop)]
@@ -16,8 +22,15 @@ pub struct Hit {
     pub score: f64,
 }
 
-// The greater score comes first, and of equal scores the lesser reference.
-type Key<'a> = (Reverse<OrderedFloat<f64>>, &'a str);
+// Whether the score is no number, the score, and the reference: the least key comes first.
+type Key<'a> = (bool, Reverse<OrderedFloat<f64>>, &'a str);
+
+fn key_of<'a>(reference: &'a str, score: f64) -> Key<'a>
+    ensures told { told_key result ≡ (reference.now, score) }
+    ensures key { IsKey result }
+{
+    (score.is_nan(), Reverse(OrderedFloat(score)), reference)
+}
 
 /// These references with their scores, the best first, and equally good ones in the order of their
 /// bytes.
@@ -31,7 +44,8 @@ pub(crate) fn ranked(alloc: Global, scores: &[(&str, f64)]) -> Result<Vec<Hit>, 
     Ok(hits)
 }
 
-/// The first of these. Only their references are copied.
+/// The first of these. No more than `limit` of their keys are kept at a time, and only the
+/// references that are returned are copied.
 pub(crate) fn best(
     alloc: Global,
     scores: &[(&str, f64)],
@@ -41,8 +55,7 @@ pub(crate) fn best(
         × IsPermutation (told scores.now) all × IsSorted best_first all
         × (told_hits hits.items ≡ take limit all)) }
 {
-    let mut keys = sorted_keys(alloc, scores)?;
-    keys.truncate(limit);
+    let keys = first_keys(alloc, scores, limit)?;
     let hits = hits_of(alloc, &keys)?;
     Ok(hits)
 }
@@ -58,20 +71,71 @@ fn sorted_keys<'a>(alloc: Global, scores: &[(&'a str, f64)]) -> Result<Vec<Key<'
 }
 
 fn keys_of<'a>(alloc: Global, scores: &[(&'a str, f64)]) -> Result<Vec<Key<'a>>, AllocError>
-    ensures { IfOk result (λ keys. map told_key keys.items ≡ told scores.now) }
+    ensures told { IfOk result (λ keys. map told_key keys.items ≡ told scores.now) }
+    ensures keys { IfOk result (λ keys. All IsKey keys.items) }
 {
     let mut keys = Vec::with_capacity(alloc, scores.len())?;
     for (reference, score) in scores {
-        keys.push((Reverse(OrderedFloat(*score)), *reference))?;
+        keys.push(key_of(reference, *score))?;
     }
     Ok(keys)
+}
+
+// The first keys in order. The last of those that are kept is on top of the heap.
+fn first_keys<'a>(
+    alloc: Global,
+    scores: &[(&'a str, f64)],
+    limit: usize,
+) -> Result<Vec<Key<'a>>, AllocError>
+    ensures { IfOk result (λ keys. (all : List (Bytes × Float))
+        × IsPermutation (told scores.now) all × IsSorted best_first all
+        × (map told_key keys.items ≡ take limit all)) }
+{
+    let mut kept = BinaryHeap::new(alloc);
+    for (reference, score) in scores {
+        keep_first(&mut kept, key_of(reference, *score), limit)?;
+    }
+    Ok(kept.into_sorted_vec())
+}
+
+// Takes in a key where there is room, or else where it comes before the last one, which goes.
+fn keep_first<'a>(
+    kept: &mut BinaryHeap<Key<'a>>,
+    key: Key<'a>,
+    limit: usize,
+) -> Result<(), AllocError>
+    requires { IsHeap key_cmp (heap_items kept.old) }
+    ensures heap { OnOk result (IsHeap key_cmp (heap_items kept.new)) }
+    ensures keeps { OnOk result (KeepsFirst limit (heap_items kept.old) key.entry
+        (heap_items kept.new)) }
+{
+    if kept.len() < limit {
+        kept.push(key)?;
+    } else if is_before_last(&key, kept) {
+        let _last = kept.pop();
+        kept.push(key)?;
+    }
+    Ok(())
+}
+
+// Whether a key comes before the last one, if there is one.
+fn is_before_last(key: &Key, kept: &BinaryHeap<Key>) -> bool
+    requires { IsHeap key_cmp (heap_items kept.now) }
+    ensures { MatchBool result ((0 < heap_len kept.now)
+        × HoldsAt (λ last. is_lt (key_cmp key.now last) ≡ true) (heap_items kept.now) 0)
+        (IsLastOf key.now (heap_items kept.now)) }
+{
+    match kept.peek() {
+        Some(last) => key < last,
+        None => false,
+    }
 }
 
 fn hits_of(alloc: Global, keys: &[Key]) -> Result<Vec<Hit>, AllocError>
     ensures { IfOk result (λ hits. told_hits hits.items ≡ map told_key keys.now) }
 {
     let mut hits = Vec::with_capacity(alloc, keys.len())?;
-    for (score, reference) in keys {
+    for (_, score, reference) in keys {
         hits.push(Hit {
             reference: String::from_str(alloc, reference)?,
             score: score.0.0,

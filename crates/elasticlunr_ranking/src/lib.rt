@@ -5,6 +5,7 @@ mod choice;
 mod entries;
 mod field;
 mod hits;
+pub mod laws;
 mod logarithm;
 mod tally;
 mod token;

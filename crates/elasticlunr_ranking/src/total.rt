@@ -31,7 +31,10 @@ pub fn ranked_hits(
     Ok(hits)
 }
 
-/// The first of these. Only their references are copied.
+/// The first of these, at most `limit`. Only their references are copied.
+///
+/// In place of the sort, each reference that was found is compared with the last of the best ones
+/// so far, which are kept in a heap.
 pub fn best_hits(
     alloc: Global,
     fields: &[SearchedField],

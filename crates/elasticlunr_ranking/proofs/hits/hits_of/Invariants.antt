@@ -1,5 +1,6 @@
 use Rattle.std.proofs.Common.{◌≡◌, map, take}
-use Rattle.elasticlunr_ranking.specs.Order.{told_hits, told_key}
+use Rattle.elasticlunr_ranking.specs.Order.{told_hits}
+use Rattle.elasticlunr_ranking.specs.Keys.{told_key}
 use Rattle.elasticlunr_ranking.proofs.hits.hits_of.Given as goal
 
 abbrev pub invariant-loop-score : goal.invariant-loop-score

@@ -1,7 +1,8 @@
 use Rattle.std.proofs.Common.{◌∙◌, ap, map, subst, sym}
 use Rattle.std.specs.List.Sorted.{IsPermutation, IsSorted}
 use Rattle.elasticlunr_ranking.specs.Held.{told}
-use Rattle.elasticlunr_ranking.specs.Order.{best_first, told_key}
+use Rattle.elasticlunr_ranking.specs.Order.{best_first}
+use Rattle.elasticlunr_ranking.specs.Keys.{told_key}
 use Rattle.elasticlunr_ranking.proofs.hits.ranked.Goals as goal
 
 pub returns-clause-permutation : goal.returns-clause-permutation

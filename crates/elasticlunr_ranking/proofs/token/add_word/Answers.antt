@@ -2,7 +2,6 @@ use Rattle.std.proofs.Common.{◌∙◌, ℕ, ap, sym}
 use Rattle.std.specs.Str.{chars}
 use Rattle.std.proofs.lemmas.List.{length-map}
 use Rattle.elasticlunr_error.specs.Text.{Bytes}
-use Rattle.elasticlunr_trie.specs.Table.{postings}
 use Rattle.elasticlunr_trie.specs.Tokens.{told_postings}
 use Rattle.std.specs.Borrow.{Bor}
 use Rattle.elasticlunr_ranking.specs.Fields.{field_of}

@@ -4,7 +4,7 @@
 //! white space are passed over.
 
 ghost use Rattle.std.specs.Prelude.{◌≡◌, [], true, Some, None, option_map, string_bytes, IfOk};
-ghost use Rattle.std.specs.Prelude.{IfErr};
+ghost use Rattle.std.specs.Prelude.{IfErr, OnOk};
 ghost use Rattle.elasticlunr.specs.Index.{plan_of, StandsFor};
 ghost use Rattle.elasticlunr.specs.History.{Commands};
 ghost use Rattle.elasticlunr_lang.specs.Known.{language_name};
@@ -17,10 +17,13 @@ ghost use Rattle.elasticlunr_documents.specs.LinesTold.{IsFilledBy, IsTaken, IsU
 ghost use Rattle.elasticlunr_documents.specs.LinesTold.{IsUnreadAfter, IsValueOf, StopsFilling};
 ghost use Rattle.elasticlunr_documents.specs.LinesTold.{StopsOn, StopsReading};
 ghost use Rattle.elasticlunr_documents.specs.Objects.{job_of};
+ghost use Rattle.elasticlunr_documents.specs.Seen.{SawLines};
+ghost use Rattle.elasticlunr_job_format.specs.Job.{Document};
 ghost use Rattle.elasticlunr_job_format.specs.LineRead.{AreAll};
 ghost use Rattle.elasticlunr_job_format.specs.Objects.{HasProblem, IsDocumentOf};
 ghost use Rattle.elasticlunr_job_format.specs.ObjectsTold.{object_told, options_told};
 ghost use Rattle.elasticlunr_job_format.specs.Reading.{reading};
+ghost use Rattle.serde_json.specs.Data.{Data};
 ghost use Rattle.serde_json.specs.View.{view};
 
 use crate::marked::MarkedRead;
@@ -61,8 +64,14 @@ impl LastLine {
 
 /// What sees each document that is added.
 pub trait Watch {
+    /// What the watch sees of a document: the watch before and after it, the value, and the
+    /// document that the value is.
+    ghost sees: { Self → Self → Data → Document → Type 0 };
+
     /// Sees the next document.
-    fn document(&mut self, object: &Object<'_>) -> Result<(), AllocError>;
+    fn document(&mut self, object: &Object<'_>) -> Result<(), AllocError>
+        ensures { OnOk result (sees self.old self.new (view object.now.value.now)
+            (object_told object.now)) };
 }
 
 /// Why the index of lines is not printed.
@@ -167,6 +176,8 @@ fn object_on<'a, W: Watch>(
 ) -> Result<Object<'a>, LinesError>
     ensures ok { IfOk result (λ object. IsDocumentOf (options_told options.now) (view value.now)
         (object_told object)) }
+    ensures seen { IfOk result (λ object.
+        W.sees watch.old watch.new (view value.now) (object_told object)) }
     ensures err { IfErr result (StopsOn number
         (HasProblem (options_told options.now) (view value.now))) }
 {
@@ -210,6 +221,8 @@ fn fill_and_make<R: MarkedRead, W: Watch, M: Make>(
         language_tokens leaves index) (StandsFor language_name name_text index)
         → (text : Bytes) × AreAll (R.remaining reader.old) text
         × IsFilledBy (options_told options.now) language text (M.makes maker.now made)) }
+    ensures seen { OnOk result ((text : Bytes) × AreAll (R.remaining reader.old) text
+        × SawLines W.sees (options_told options.now) text watch.old watch.new) }
     ensures err { IfErr result (StopsFilling (options_told options.now) (R.remaining reader.old)
         last.new) }
     ensures device { IfErr result (IfDevice (R.has_failed reader.new ≡ true)) }
@@ -254,6 +267,8 @@ pub fn lines_made<R: MarkedRead, W: Watch, M: Make>(
 ) -> Result<M::Made, LinesError>
     ensures ok { IfOk result (λ made. (text : Bytes) × AreAll (R.remaining reader.old) text
         × IsMadeOfLines (options_told options.now) text (M.makes maker.now made)) }
+    ensures seen { OnOk result ((text : Bytes) × AreAll (R.remaining reader.old) text
+        × SawLines W.sees (options_told options.now) text watch.old watch.new) }
     ensures err { IfErr result (FailsLines (options_told options.now) (R.remaining reader.old)
         last.new) }
     ensures device { IfErr result (IfDevice (R.has_failed reader.new ≡ true)) }
@@ -280,6 +295,8 @@ pub fn lines_line<R: MarkedRead, W: Watch>(
 ) -> Result<String, LinesError>
     ensures ok { IfOk result (λ line. (text : Bytes) × AreAll (R.remaining reader.old) text
         × IsLineOfLines (options_told options.now) text (string_bytes line)) }
+    ensures seen { OnOk result ((text : Bytes) × AreAll (R.remaining reader.old) text
+        × SawLines W.sees (options_told options.now) text watch.old watch.new) }
     ensures err { IfErr result (FailsLines (options_told options.now) (R.remaining reader.old)
         last.new) }
     ensures device { IfErr result (IfDevice (R.has_failed reader.new ≡ true)) }

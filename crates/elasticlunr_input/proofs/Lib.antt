@@ -15,3 +15,4 @@ pub mod Warned
 pub mod Noting
 pub mod NotingAll
 pub mod Tellings
+pub mod SeenNotes

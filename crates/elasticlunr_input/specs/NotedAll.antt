@@ -5,6 +5,7 @@ use Rattle.std.specs.List.{AllZip, list_any}
 use Rattle.serde_json.specs.Data.{Data}
 use Rattle.elasticlunr_text.specs.Text.{Bytes, is_listed}
 use Rattle.elasticlunr_job_format.specs.Job.{Document, IsJob, Job}
+use Rattle.elasticlunr_job_format.specs.Lines.{AreLineValues}
 use Rattle.elasticlunr_job_format.specs.Objects.{Options, IsDocumentOf}
 use Rattle.elasticlunr_job_format.specs.Rules.{WordRules}
 use Rattle.elasticlunr_input.specs.Noted.{document_warnings, has_value, HasSameLimits, HasSameSeen}
@@ -57,6 +58,10 @@ abbrev pub AreNoted : (old new : Notes) → List Told → Type 0
 AreNoted old new [] = new ≡ old
 AreNoted old new (told ∷ others) = (next : Notes) × IsNoted old next told × AreNoted next new others
 
+-- what the notes see of a value that is a document
+abbrev pub Notices : (old new : Notes) → Data → Document → Type 0
+Notices old new d doc = IsNoted old new (doc, texts_keys d)
+
 -- the number of the document after so many
 abbrev pub next_number : ℕ → ℕ
 next_number taken = min (taken + 1) (2 ^ 64 - 1)
@@ -92,6 +97,11 @@ all_warnings notes told fields = documents_warnings notes.taken (last_number not
 abbrev pub AreNotedWith : List Bytes → List Told → (old new : Notes) → Type 0
 AreNotedWith fields told old new = (last : Notes) × AreNoted old last told
     × (warnings_of new ≡ warnings_of old ++ all_warnings old told fields) × HasSameWords last new
+
+-- the notes after the documents that lines are, in order, and then after these fields
+abbrev pub AreNotedLines : Options → Bytes → (old new : Notes) → Type 0
+AreNotedLines options text old new = (items : List Data) × AreLineValues text items
+    × (told : List Told) × AreToldOf options items told × AreNotedWith options.fields told old new
 
 -- the notes after the documents of a job, in order, and then after its fields, under these rules
 abbrev pub AreNotedUnder : Option WordRules → Job → (old new : Notes) → Type 0

@@ -10,12 +10,14 @@ ghost use Rattle.elasticlunr_job_format.specs.Objects.{HasProblem, IsDocumentOf}
 ghost use Rattle.elasticlunr_job_format.specs.ObjectsTold.{options_told};
 ghost use Rattle.elasticlunr_job_format.specs.Reading.{reading};
 ghost use Rattle.elasticlunr_documents.specs.Lines.{FailsLines, IsMadeOfLines};
+ghost use Rattle.elasticlunr_documents.specs.Seen.{SawLines};
 ghost use Rattle.elasticlunr_json_place.specs.Members.{IsPlaceOf};
 ghost use Rattle.elasticlunr_json_place.specs.Places.{IsPlaceIn};
 ghost use Rattle.elasticlunr_input.specs.FaultPlaces.{object_fault_path};
 ghost use Rattle.elasticlunr_input.specs.Inputs.{AreRefusedLines, HasHead, IsBelow, IsPlacedBelow};
 ghost use Rattle.elasticlunr_input.specs.Inputs.{IsPlaceInLine, IsRefusedFirst, IsTroubleOf};
 ghost use Rattle.elasticlunr_input.specs.Inputs.{IsUnreadLine};
+ghost use Rattle.elasticlunr_input.specs.NotedAll.{AreNotedLines, Notices};
 ghost use Rattle.elasticlunr_diagnostics.specs.Messages.{IfPlaced, IsMemoryOr, IsMemoryOrDevice};
 ghost use Rattle.serde_json.specs.Data.{Data};
 ghost use Rattle.serde_json.specs.View.{view};
@@ -61,15 +63,13 @@ pub(crate) fn read_head<R: BufRead>(
     unreachable!()
 }
 
-/// What notes what is suspicious in documents.
-#[derive(Drop)]
-pub(crate) struct Watcher<'n> {
-    pub notes: &'n mut Notes,
-}
+impl Watch for Notes {
+    ghost use Rattle.elasticlunr_input.specs.NotedAll.{Notices};
 
-impl Watch for Watcher<'_> {
+    ghost sees = { Notices };
+
     fn document(&mut self, object: &Object<'_>) -> Result<(), AllocError> {
-        self.notes.object(object)
+        self.object(object)
     }
 }
 
@@ -243,6 +243,9 @@ pub(crate) fn lines_made_of<R: MarkedRead, M: Make>(
     ensures ok { IfOk result (λ made. (text : Bytes)
         × AreAll (option_append (Some head.now) (R.remaining reader.old)) text
         × IsMadeOfLines (options_told options.now) text (M.makes maker.now made)) }
+    ensures noted { OnOk result ((text : Bytes)
+        × AreAll (option_append (Some head.now) (R.remaining reader.old)) text
+        × AreNotedLines (options_told options.now) text notes.old notes.new) }
     ensures err { IfErr result (AreRefusedLines (options_told options.now)
         (option_append (Some head.now) (R.remaining reader.old))) }
 {
@@ -268,10 +271,12 @@ fn watched<R: MarkedRead, M: Make>(
     ensures ok { IfOk result (λ made. (text : Bytes)
         × AreAll (option_append (Some head.now) (R.remaining reader.old)) text
         × IsMadeOfLines (options_told options.now) text (M.makes maker.now made)) }
+    ensures seen { OnOk result ((text : Bytes)
+        × AreAll (option_append (Some head.now) (R.remaining reader.old)) text
+        × SawLines Notices (options_told options.now) text notes.old notes.new) }
     ensures err { IfErr result (FailsLines (options_told options.now)
         (option_append (Some head.now) (R.remaining reader.old)) last.new) }
 {
-    let mut watcher = Watcher { notes };
     let mut all = head.chain(reader);
-    lines_made(alloc, options, &mut all, last, &mut watcher, maker)
+    lines_made(alloc, options, &mut all, last, notes, maker)
 }

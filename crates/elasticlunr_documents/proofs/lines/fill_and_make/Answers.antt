@@ -17,6 +17,7 @@ use Rattle.elasticlunr_documents.proofs.LineStops.{unread_line}
 use Rattle.elasticlunr_documents.proofs.ReadLines.{added_blank, added_document, all_filled, feeds_next}
 use Rattle.elasticlunr_documents.proofs.ReadLines.{first_no_document, line_after, none_blank, one_fed, one_last}
 use Rattle.elasticlunr_documents.proofs.ReadLines.{some_filled, taken_feeds}
+use Rattle.elasticlunr_documents.proofs.SeenLines.{on_ok, saw_blank, saw_document}
 use Rattle.elasticlunr_job.proofs.Stops.{ok_more}
 use Rattle.elasticlunr_documents.proofs.lines.fill_and_make.Goals as goal
 
@@ -35,6 +36,7 @@ lines-init g c = record {
     taken =
         record { documents = []; each = tt; follows = record { stands = λ commands stands. stands } };
   };
+  seen = ([], [], refl, tt, refl);
   settings = refl;
   within = omega arith;
 }
@@ -55,6 +57,9 @@ lines-preserved-then-more g c =
       feeds = ap (λ n. n + 1) so_far.feeds ∙ sym (feeds_next so_far.text line read.no_feed);
       added = added_blank (options_told c.args.options.now) so_far.text line (fed line) c.lines.number _ _ _
           so_far.whole so_far.added (one_fed line read.no_feed)
+          (none_blank line c.in_ok-value.value c.in_ok-value.ensures.value c.in_default.is);
+      seen = saw_blank g.W.Watch.sees (options_told c.args.options.now) so_far.text line (fed line) c.args.watch.now
+          c.lines.watch so_far.whole so_far.seen (one_fed line read.no_feed)
           (none_blank line c.in_ok-value.value c.in_ok-value.ensures.value c.in_default.is);
       settings = so_far.settings;
       within = (let within = so_far.within in omega arith);
@@ -190,9 +195,42 @@ lines-preserved g c =
           c.in_ok-object.ensures.ok c.as_str.ensures.value c.in_ok-texts.ensures
           (given_alike rules fields _ (λ z. (goal.PipelineFn-dyn g z).leaves z.1) c.args.index c.lines.index
           so_far.settings _ texts made.0 (c.deref-in-lines-6.result.now, given, made.1)) made.2;
+      seen = saw_document g.W.Watch.sees (options_told c.args.options.now) so_far.text line (fed line) c.args.watch.now
+          c.lines.watch so_far.whole so_far.seen (one_fed line read.no_feed) c.object_on.new.watch (view c.in-Some.value)
+          (object_told c.in_ok-object.object) value.0 value.1 c.in_ok-object.ensures.ok c.in_ok-object.ensures.seen;
       settings = c.add_doc_with_tokens.ensures.settings ∙ so_far.settings;
       within = (let within = so_far.within in omega arith);
     }
+
+pub returns-in_default-clause-seen : goal.returns-in_default-clause-seen
+returns-in_default-clause-seen g c =
+    let left = g.R.Read.remaining in
+    let line = c.next_value.new.line.items in
+    let so_far = c.lines.invariant in
+    let read = c.in_ok-value.ensures.taken in
+    on_ok c.made.result _ (
+      so_far.text ++ line,
+      all_more (left c.args.reader.now) (left c.lines.reader) so_far.text line so_far.taken (read.last c.if-more.false),
+      saw_blank g.W.Watch.sees (options_told c.args.options.now) so_far.text line line c.args.watch.now
+          c.lines.watch so_far.whole so_far.seen (one_last line read.no_feed)
+          (none_blank line c.in_ok-value.value c.in_ok-value.ensures.value c.in_default.is),
+    )
+
+pub returns-then-not-more-clause-seen : goal.returns-then-not-more-clause-seen
+returns-then-not-more-clause-seen g c =
+    let left = g.R.Read.remaining in
+    let line = c.next_value.new.line.items in
+    let so_far = c.lines.invariant in
+    let read = c.in_ok-value.ensures.taken in
+    let value = some_filled line c.in_ok-value.value c.in-Some.value c.in_ok-value.ensures.value c.in-Some.is in
+    on_ok c.made-then-not-more.result _ (
+      so_far.text ++ line,
+      all_more (left c.args.reader.now) (left c.lines.reader) so_far.text line so_far.taken
+          (read.last c.if-not-more.true),
+      saw_document g.W.Watch.sees (options_told c.args.options.now) so_far.text line line c.args.watch.now
+          c.lines.watch so_far.whole so_far.seen (one_last line read.no_feed) c.object_on.new.watch (view c.in-Some.value)
+          (object_told c.in_ok-object.object) value.0 value.1 c.in_ok-object.ensures.ok c.in_ok-object.ensures.seen,
+    )
 
 pub returns-in_err-value-clause-device : goal.returns-in_err-value-clause-device
 returns-in_err-value-clause-device g c = exit_for c.from_residual.result _ c.in_err-value.field-0.0

@@ -7,6 +7,7 @@ use Rattle.elasticlunr_job.specs.Commands.{language_tokens}
 use Rattle.elasticlunr_job.specs.Filled.{IsMadeUnder}
 use Rattle.elasticlunr_job_format.specs.LineRead.{AreWhole}
 use Rattle.elasticlunr_job_format.specs.ObjectsTold.{options_told}
+use Rattle.elasticlunr_documents.specs.Seen.{SawLines}
 use Rattle.elasticlunr_documents.proofs.ReadLines.{Added}
 use Rattle.elasticlunr_documents.proofs.lines.fill_and_make.Given as goal
 
@@ -22,6 +23,7 @@ invariant-lines g l = record {
       (λ z. (goal.PipelineFn-dyn g z).leaves z.1) l.fn.index)
       (StandsFor language_name (λ z. (goal.PipelineFn-dyn g z).name_text z.1) l.fn.index)
       (StandsFor language_name (λ z. (goal.PipelineFn-dyn g z).name_text z.1) l.index);
+  seen : SawLines g.W.Watch.sees (options_told l.fn.options) text l.fn.watch l.watch;
   settings : SameSettings l.fn.index l.index;
   within : l.number ≤ l.before;
 }

@@ -9,6 +9,7 @@ use Rattle.elasticlunr_job.proofs.Building.{begun_for, built_for, given_told, to
 use Rattle.elasticlunr_documents.proofs.FilledLines.{documents_fit}
 use Rattle.elasticlunr_documents.proofs.LineStops.{exit_for, fails_lines, index_no_device, twice_exit}
 use Rattle.elasticlunr_job.proofs.Stops.{err_more, no_language, ok_more}
+use Rattle.std.proofs.Common.{rules}
 use Rattle.elasticlunr_documents.proofs.lines.lines_made.Goals as goal
 
 pub returns-in_default-clause-err : goal.returns-in_default-clause-err
@@ -106,3 +107,9 @@ pub returns-in_err-index-clause-device : goal.returns-in_err-index-clause-device
 returns-in_err-index-clause-device g c = exit_for c.from_residual-in_err-index.result _
     (index_error_of c.in_err-index.field-0.0) c.from_residual-in_err-index.ensures.1
     (index_no_device _ c.in_err-index.field-0.0)
+
+pub returns-clause-seen : goal.returns-clause-seen
+returns-clause-seen g c = search rules
+
+pub returns-clause-device : goal.returns-clause-device
+returns-clause-device g c = search rules

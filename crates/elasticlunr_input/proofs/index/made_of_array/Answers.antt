@@ -12,6 +12,7 @@ use Rattle.elasticlunr_diagnostics.specs.declared.form.Form.TheVariants as form
 use Rattle.elasticlunr_input.proofs.LinePlaces.{placed_as, some_for}
 use Rattle.elasticlunr_input.proofs.Refusals.{refused_for}
 use Rattle.elasticlunr_input.proofs.InputLemmas.{err_unless}
+use Rattle.std.proofs.Common.{rules}
 use Rattle.elasticlunr_input.proofs.index.made_of_array.Goals as goal
 
 pub returns-clause-err : goal.returns-clause-err
@@ -55,3 +56,6 @@ returns-clause-placed g c = err_unless c.made_of_objects.result _ IsMemoryOrPlac
 
 pub returns-in_default-clause-placed : goal.returns-in_default-clause-placed
 returns-in_default-clause-placed g c = λ none. (cc (c.in_ok-value.ensures.ok))
+
+pub returns-clause-ok : goal.returns-clause-ok
+returns-clause-ok g c = search rules

@@ -8,6 +8,7 @@ use Rattle.elasticlunr_input.specs.NotedAll.{AreNoted, AreNotedUnder, HasRules, 
 use Rattle.elasticlunr_input.specs.Settled.{settings_told}
 use Rattle.elasticlunr_input.specs.Warnings.{end_warnings, has_text, warnings_of}
 use Rattle.elasticlunr_input.proofs.NotingAll.{all_noted, noted_document, noted_more, on_more, one_told, told_long}
+use Rattle.std.proofs.lemmas.Grind.{common_steps}
 use Rattle.elasticlunr_input.proofs.jobs.note_job.Goals as goal
 
 pub loop-doc-preserved : goal.loop-doc-preserved
@@ -66,3 +67,9 @@ returns c =
         ),
       ),
     ))
+
+pub returns-in-Err-Refused : goal.returns-in-Err-Refused
+returns-in-Err-Refused c = grind (arith, common_steps)
+
+pub loop-doc-init : goal.loop-doc-init
+loop-doc-init c = grind (arith, common_steps)

@@ -7,6 +7,7 @@ use Rattle.elasticlunr_job_format.specs.Lines.{filled_lines, is_blank}
 use Rattle.elasticlunr_job_format.proofs.LineParts.{consumes_more}
 use Rattle.elasticlunr_documents.proofs.ReadLines.{feeds_next}
 use Rattle.elasticlunr_input.proofs.HeadLemmas.{blank_next, head_filled, head_last}
+use Rattle.std.proofs.Common.{rules}
 use Rattle.elasticlunr_input.proofs.lines.read_head.Goals as goal
 
 pub returns-then-not-more-clause-ok : goal.returns-then-not-more-clause-ok
@@ -69,3 +70,6 @@ unreachable-requires g c =
     let feeds = c.lines.invariant.feeds in
     let few = count_by-le-length (λ b. b == 10) head.items in
     omega (arith, c.lines-test.false, feeds, few, head.ok.0, head.ok.1, head.small)
+
+pub lines-init : goal.lines-init
+lines-init g c = search rules

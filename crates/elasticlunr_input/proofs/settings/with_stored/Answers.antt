@@ -22,3 +22,6 @@ returns c =
     ∙ map-append (λ (name : Bor Bytes). name.now) fields c.deref-2.result.now
     ∙ ap (λ names. borrowed fields ++ borrowed names) c.deref-2.ensures.value
     ∙ ap (λ names. borrowed fields ++ names) more)
+
+pub returns-in_default : goal.returns-in_default
+returns-in_default c = search rules

@@ -5,6 +5,8 @@ use Rattle.elasticlunr_job_format.specs.ObjectsTold.{texts_told}
 use Rattle.elasticlunr_text.specs.Text.{Bytes, is_listed}
 use Rattle.elasticlunr_input.proofs.Noting.{listed_more}
 use Rattle.elasticlunr_input.proofs.Warned.{map_more}
+use Rattle.std.proofs.Common.{arith, rules}
+use Rattle.std.proofs.lemmas.Grind.{common_steps}
 use Rattle.elasticlunr_input.proofs.notes.Notes.begin.Goals as goal
 
 pub loop-field-init : goal.loop-field-init
@@ -32,3 +34,27 @@ loop-field-preserved c key =
     ∙ ap (λ gs. is_listed key (reference ∷ take i (texts_told gs))) (sym all))
     ∙ (listed_more key name keys ∙ (ap (is_listed key) (sym more)
     ∙ ap (λ gs. is_listed key (reference ∷ take (i + 1) (texts_told gs))) all))))
+
+pub returns-then-is_some-clause-longest : goal.returns-then-is_some-clause-longest
+returns-then-is_some-clause-longest c = search rules
+
+pub returns-then-is_some-clause-stored : goal.returns-then-is_some-clause-stored
+returns-then-is_some-clause-stored c = search rules
+
+pub returns-then-is_some-clause-known : goal.returns-then-is_some-clause-known
+returns-then-is_some-clause-known c = search rules
+
+pub returns-then-is_some-clause-seen : goal.returns-then-is_some-clause-seen
+returns-then-is_some-clause-seen c = search rules
+
+pub returns-clause-longest : goal.returns-clause-longest
+returns-clause-longest c = search rules
+
+pub returns-clause-stored : goal.returns-clause-stored
+returns-clause-stored c = search rules
+
+pub returns-clause-known : goal.returns-clause-known
+returns-clause-known c = grind (arith, common_steps)
+
+pub returns-clause-seen : goal.returns-clause-seen
+returns-clause-seen c = search rules

@@ -5,6 +5,7 @@ use Rattle.elasticlunr_input.specs.Noted.{long_text, long_warnings}
 use Rattle.elasticlunr_input.specs.Warnings.{warnings_of}
 use Rattle.elasticlunr_diagnostics.specs.Messages.{counted_text}
 use Rattle.elasticlunr_input.proofs.Warned.{one_more}
+use Rattle.std.proofs.Common.{rules}
 use Rattle.elasticlunr_input.proofs.notes.Notes.long_words.Goals as goal
 
 pub returns : goal.returns
@@ -23,3 +24,9 @@ returns c =
     ∙ ap (λ b. if b then text ∷ [] else []) (lt-ltb 0 old.longer c.in-Some-true.is-1) in
     ap bytes_of c.in_ok-push.ensures.items ∙ (one_more old.warnings.items c.in_ok-said.said text said
     ∙ ap (λ ws. warnings_of old ++ ws) (sym due))
+
+pub returns-in_default : goal.returns-in_default
+returns-in_default c = search rules
+
+pub returns-in_default-2 : goal.returns-in_default-2
+returns-in_default-2 c = search rules

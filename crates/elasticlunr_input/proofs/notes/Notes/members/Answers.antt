@@ -4,6 +4,7 @@ use Rattle.elasticlunr_input.specs.Noted.{new_keys}
 use Rattle.elasticlunr_input.specs.Warnings.{is_known, unindexed_text, unindexed_warnings, warnings_of}
 use Rattle.elasticlunr_input.proofs.FieldKeys.{keys_left, other_left, text_left}
 use Rattle.elasticlunr_input.proofs.Noting.{key_more, known_more, same_words}
+use Rattle.std.proofs.Common.{rules}
 use Rattle.elasticlunr_input.proofs.notes.Notes.members.Goals as goal
 
 pub loop-key-preserved-then-not-is_string : goal.loop-key-preserved-then-not-is_string
@@ -53,3 +54,36 @@ loop-key-preserved c =
       taken = c.text_under.ensures.taken ∙ so_far.taken;
       words = same_words old mid new so_far.words c.text_under.ensures.words;
     }
+
+pub returns-in_default-clause-warnings : goal.returns-in_default-clause-warnings
+returns-in_default-clause-warnings c = search rules
+
+pub returns-in_default-clause-known : goal.returns-in_default-clause-known
+returns-in_default-clause-known c = search rules
+
+pub returns-in_default-clause-taken : goal.returns-in_default-clause-taken
+returns-in_default-clause-taken c = search rules
+
+pub returns-in_default-clause-references : goal.returns-in_default-clause-references
+returns-in_default-clause-references c = search rules
+
+pub returns-in_default-clause-words : goal.returns-in_default-clause-words
+returns-in_default-clause-words c = search rules
+
+pub loop-key-init : goal.loop-key-init
+loop-key-init c = search rules
+
+pub returns-clause-warnings : goal.returns-clause-warnings
+returns-clause-warnings c = search rules
+
+pub returns-clause-known : goal.returns-clause-known
+returns-clause-known c = search rules
+
+pub returns-clause-taken : goal.returns-clause-taken
+returns-clause-taken c = search rules
+
+pub returns-clause-references : goal.returns-clause-references
+returns-clause-references c = search rules
+
+pub returns-clause-words : goal.returns-clause-words
+returns-clause-words c = search rules

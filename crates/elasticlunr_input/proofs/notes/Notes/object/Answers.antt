@@ -6,6 +6,7 @@ use Rattle.elasticlunr_text.specs.Text.{Bytes}
 use Rattle.elasticlunr_input.specs.Noted.{document_warnings, new_keys, texts_keys}
 use Rattle.elasticlunr_input.specs.Warnings.{is_known, last_number, reference_warnings, unindexed_text, warnings_of}
 use Rattle.elasticlunr_input.proofs.Noting.{same_new_keys}
+use Rattle.std.proofs.Common.{rules}
 use Rattle.elasticlunr_input.proofs.notes.Notes.object.Goals as goal
 
 pub returns-clause-warnings : goal.returns-clause-warnings
@@ -26,3 +27,21 @@ returns-clause-warnings c =
     (sym c.in_ok-members.ensures.taken)
     ∙ ap (λ (r : Bytes). warnings_of old ++ document_warnings c.members.new.self.taken r (last_number old r)
     (is_known old) keys) c.as_str-reference.ensures.value))))
+
+pub returns-clause-taken : goal.returns-clause-taken
+returns-clause-taken c = search rules
+
+pub returns-clause-number : goal.returns-clause-number
+returns-clause-number c = search rules
+
+pub returns-clause-known : goal.returns-clause-known
+returns-clause-known c = search rules
+
+pub returns-clause-texts : goal.returns-clause-texts
+returns-clause-texts c = search rules
+
+pub returns-clause-words : goal.returns-clause-words
+returns-clause-words c = search rules
+
+pub returns-clause-limits : goal.returns-clause-limits
+returns-clause-limits c = search rules

@@ -3,6 +3,8 @@ use Rattle.std.proofs.lemmas.List.{map-append}
 use Rattle.elasticlunr_job_format.specs.ObjectsTold.{texts_told}
 use Rattle.elasticlunr_text.specs.Text.{Bytes, bytes_of, is_listed}
 use Rattle.elasticlunr_input.proofs.Warned.{map_more}
+use Rattle.std.proofs.Common.{arith, rules}
+use Rattle.std.proofs.lemmas.Grind.{common_steps}
 use Rattle.elasticlunr_input.proofs.notes.Notes.rules.Goals as goal
 
 pub loop-field-preserved : goal.loop-field-preserved
@@ -28,3 +30,30 @@ loop-field-preserved c =
       seen = so_far.seen;
       known = so_far.known;
     }
+
+pub returns-in_default-clause-longest : goal.returns-in_default-clause-longest
+returns-in_default-clause-longest c = search rules
+
+pub returns-in_default-clause-stored : goal.returns-in_default-clause-stored
+returns-in_default-clause-stored c = search rules
+
+pub returns-in_default-clause-seen : goal.returns-in_default-clause-seen
+returns-in_default-clause-seen c = search rules
+
+pub returns-in_default-clause-known : goal.returns-in_default-clause-known
+returns-in_default-clause-known c = search rules
+
+pub loop-field-init : goal.loop-field-init
+loop-field-init c = search rules
+
+pub returns-clause-longest : goal.returns-clause-longest
+returns-clause-longest c = search rules
+
+pub returns-clause-stored : goal.returns-clause-stored
+returns-clause-stored c = grind (arith, common_steps)
+
+pub returns-clause-seen : goal.returns-clause-seen
+returns-clause-seen c = search rules
+
+pub returns-clause-known : goal.returns-clause-known
+returns-clause-known c = search rules

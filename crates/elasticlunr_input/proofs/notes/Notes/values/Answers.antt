@@ -7,6 +7,8 @@ use Rattle.elasticlunr_input.specs.Noted.{all_too_long, is_only_stored, too_long
 use Rattle.elasticlunr_input.specs.Warnings.{has_text}
 use Rattle.elasticlunr_input.proofs.Noting.{capped, same_limits, text_at, too_long_step, value_more}
 use Rattle.elasticlunr_input.proofs.Noting.{with_text_here, with_text_long, with_text_others}
+use Rattle.std.proofs.Common.{rules}
+use Rattle.std.proofs.lemmas.Grind.{common_steps}
 use Rattle.elasticlunr_input.proofs.notes.Notes.values.Goals as goal
 
 pub loop-field-preserved : goal.loop-field-preserved
@@ -58,3 +60,27 @@ loop-field-preserved c =
           ∙ ap (λ n. min (old.longer + n) 18446744073709551615) (ap (λ v. count + its v) (sym here)
           ∙ sym (too_long_step old.longest (is_only_stored old) values i less))))));
     }
+
+pub loop-field-init : goal.loop-field-init
+loop-field-init c = search rules
+
+pub returns-clause-warnings : goal.returns-clause-warnings
+returns-clause-warnings c = search rules
+
+pub returns-clause-references : goal.returns-clause-references
+returns-clause-references c = search rules
+
+pub returns-clause-taken : goal.returns-clause-taken
+returns-clause-taken c = search rules
+
+pub returns-clause-texts : goal.returns-clause-texts
+returns-clause-texts c = grind (arith, common_steps)
+
+pub returns-clause-words : goal.returns-clause-words
+returns-clause-words c = grind (arith, common_steps)
+
+pub returns-clause-known : goal.returns-clause-known
+returns-clause-known c = search rules
+
+pub returns-clause-limits : goal.returns-clause-limits
+returns-clause-limits c = search rules

@@ -12,7 +12,7 @@
   else extend(elasticlunr);
 })(function (elasticlunr) {
   'use strict';
-  var FACTS = {"between":[9,14,32,33,45,46,133,134,160,161,5760,5761,8192,8203,8232,8234,8239,8240,8287,8288,12288,12289],"lower":["Aa","Bb","Cc","Dd","Ee","Ff","Gg","Hh","Ii","Jj","Kk","Ll","Mm","Nn","Oo","Pp","Qq","Rr","Ss","Tt","Uu","Vv","Ww","Xx","Yy","Zz","Àà","Áá","Ââ","Ãã","Ää","Åå","Ææ","Çç","Èè","Éé","Êê","Ëë","Ìì","Íí","Îî","Ïï","Ðð","Ññ","Òò","Óó","Ôô","Õõ","Öö","Øø","Ùù","Úú","Ûû","Üü","Ýý","Þþ","Āā","Ăă","Ąą","Ćć","Ĉĉ","Ċċ","Čč","Ďď","Đđ","Ēē","Ĕĕ","Ėė","Ęę","Ěě","Ĝĝ","Ğğ","Ġġ","Ģģ","Ĥĥ","Ħħ","Ĩĩ","Īī","Ĭĭ","Įį","İi̇","Ĳĳ","Ĵĵ","Ķķ","Ĺĺ","Ļļ","Ľľ","Ŀŀ","Łł","Ńń","Ņņ","Ňň","Ŋŋ","Ōō","Ŏŏ","Őő","Œœ","Ŕŕ","Ŗŗ","Řř","Śś","Ŝŝ","Şş","Šš","Ţţ","Ťť","Ŧŧ","Ũũ","Ūū","Ŭŭ","Ůů","Űű","Ųų","Ŵŵ","Ŷŷ","Ÿÿ","Źź","Żż","Žž","Șș","Țț","Ѐѐ","Ёё","Ђђ","Ѓѓ","Єє","Ѕѕ","Іі","Її","Јј","Љљ","Њњ","Ћћ","Ќќ","Ѝѝ","Ўў","Џџ","Аа","Бб","Вв","Гг","Дд","Ее","Жж","Зз","Ии","Йй","Кк","Лл","Мм","Нн","Оо","Пп","Рр","Сс","Тт","Уу","Фф","Хх","Цц","Чч","Шш","Щщ","Ъъ","Ыы","Ьь","Ээ","Юю","Яя"],"stages":[{"class":[65,91,97,123,170,171,186,187,192,215,216,247,248,697,736,741,7424,7462,7468,7517,7522,7526,7531,7544,7545,7615,7680,7936,8305,8306,8319,8320,8336,8352,8490,8492,8498,8499,8526,8527,8544,8585,11360,11392,42786,42888,42891,42974,42978,42979,42993,43008,43824,43867,43868,43877,43878,43882,43884,43886,64256,64263,65313,65339,65345,65371,67456,67462,67463,67505,67506,67520,122624,122754,122768,122775,122829,122867,122869,122880],"name":"trimmer-du"},{"name":"stopWordFilter-du","words":["","aan","al","alles","als","altijd","andere","ben","bij","daar","dan","dat","de","der","deze","die","dit","doch","doen","door","dus","een","eens","en","er","ge","geen","geweest","haar","had","heb","hebben","heeft","hem","het","hier","hij","hoe","hun","iemand","iets","ik","in","is","ja","je","kan","kon","kunnen","maar","me","meer","men","met","mij","mijn","moet","na","naar","niet","niets","nog","nu","of","om","omdat","onder","ons","ook","op","over","reeds","te","tegen","toch","toen","tot","u","uit","uw","van","veel","voor","want","waren","was","wat","werd","wezen","wie","wil","worden","wordt","zal","ze","zelf","zich","zij","zijn","zo","zonder","zou"]}]};
+  var FACTS = {"between":[9,14,32,33,45,46,133,134,160,161,5760,5761,8192,8203,8232,8234,8239,8240,8287,8288,12288,12289],"lower":["Aa","Bb","Cc","Dd","Ee","Ff","Gg","Hh","Ii","Jj","Kk","Ll","Mm","Nn","Oo","Pp","Qq","Rr","Ss","Tt","Uu","Vv","Ww","Xx","Yy","Zz","Àà","Áá","Ââ","Ãã","Ää","Åå","Ææ","Çç","Èè","Éé","Êê","Ëë","Ìì","Íí","Îî","Ïï","Ðð","Ññ","Òò","Óó","Ôô","Õõ","Öö","Øø","Ùù","Úú","Ûû","Üü","Ýý","Þþ","Āā","Ăă","Ąą","Ćć","Ĉĉ","Ċċ","Čč","Ďď","Đđ","Ēē","Ĕĕ","Ėė","Ęę","Ěě","Ĝĝ","Ğğ","Ġġ","Ģģ","Ĥĥ","Ħħ","Ĩĩ","Īī","Ĭĭ","Įį","İi̇","Ĳĳ","Ĵĵ","Ķķ","Ĺĺ","Ļļ","Ľľ","Ŀŀ","Łł","Ńń","Ņņ","Ňň","Ŋŋ","Ōō","Ŏŏ","Őő","Œœ","Ŕŕ","Ŗŗ","Řř","Śś","Ŝŝ","Şş","Šš","Ţţ","Ťť","Ŧŧ","Ũũ","Ūū","Ŭŭ","Ůů","Űű","Ųų","Ŵŵ","Ŷŷ","Ÿÿ","Źź","Żż","Žž","Șș","Țț","Ѐѐ","Ёё","Ђђ","Ѓѓ","Єє","Ѕѕ","Іі","Її","Јј","Љљ","Њњ","Ћћ","Ќќ","Ѝѝ","Ўў","Џџ","Аа","Бб","Вв","Гг","Дд","Ее","Жж","Зз","Ии","Йй","Кк","Лл","Мм","Нн","Оо","Пп","Рр","Сс","Тт","Уу","Фф","Хх","Цц","Чч","Шш","Щщ","Ъъ","Ыы","Ьь","Ээ","Юю","Яя"],"stages":[{"class":[65,91,97,123,170,171,186,187,192,215,216,247,248,697,736,741,7424,7462,7468,7517,7522,7526,7531,7544,7545,7615,7680,7936,8305,8306,8319,8320,8336,8352,8490,8492,8498,8499,8526,8527,8544,8585,11360,11392,42786,42888,42891,42974,42978,42979,42993,43008,43824,43867,43868,43877,43878,43882,43884,43886,64256,64263,65313,65339,65345,65371,67456,67462,67463,67505,67506,67520,122624,122754,122768,122775,122829,122867,122869,122880],"name":"trimmer-du"},{"name":"stopWordFilter-du","words":["","aan","al","alles","als","altijd","andere","ben","bij","daar","dan","dat","de","der","deze","die","dit","doch","doen","door","dus","een","eens","en","er","ge","geen","geweest","haar","had","heb","hebben","heeft","hem","het","hier","hij","hoe","hun","iemand","iets","ik","in","is","ja","je","kan","kon","kunnen","maar","me","meer","men","met","mij","mijn","moet","na","naar","niet","niets","nog","nu","of","om","omdat","onder","ons","ook","op","over","reeds","te","tegen","toch","toen","tot","u","uit","uw","van","veel","voor","want","waren","was","wat","werd","wezen","wie","wil","worden","wordt","zal","ze","zelf","zich","zij","zijn","zo","zonder","zou"]},{"name":"stemmer-du","table":"22 97 28 3 32 0\n+-a a\n+-a e\n+-a i\n+-a o\n+-a u\n--- 0 0 á 0 ä 1 é 1 ë 2 í 2 ï 3 ó 3 ö 4 ú 4 ü\n~-a áäéëíïóöúü 5\n.s- aeiouyè\n!s- 7\n!s- 8\n+-a I\n&-- 9 10\n--- 0 11 i\n=-- 7 12\n.s- ^\n!s- 14\n|s- 9 15\n+-a Y\n&-- 16 17\n--- 0 18 y\n|-- 13 19\n~-a iy 20\n&-a 6 21\n*sa ^aeiouyè\n*sa aeiouyè\n.s- ^aeiouyè\n&s- 24 25\n&s- 7 26\n&s- 23 27\n&s- 25 28\n&s- 24 29\n&s- 7 30\n&s- 23 31\n@s- 1\n+-a heid\n&-- 33 34\n&s- 33 48\n!s- 25\n!s- 37\n+sa \n-s- 0 39 gem\n!s- 40\n&s- 45 14\n-s- 0 39 dd 39 kk 39 tt\n!s- 43\n!s- 44\n|sa 42 39\n&s- 41 46\n&s- 38 47\n.s- ^aeijouyè\n!s- 49\n!s- 50\n&s- 33 51\n--- 0 35 heden 36 ene 52 se 36 en 52 s\n|-a 53 39\n-s- 0 57 e\n&s- 38 46\n&s- 33 56\n|sa 66 39\n@s- 2\n-s- 0 39 c\n!s- 60\n-s- 0 36 en\n|sa 62 39\n&s- 61 63\n&s- 59 64\n-s- 0 65 heid\n-s- 0 59 bar\n|sa 78 39\n-s- 0 39 e\n!s- 69\n&s- 59 70\n-s- 0 71 ig\n|s- 72 42\n|sa 73 39\n&s- 59 74\n|sa 55 39\n&s- 59 76\n-s- 0 77 lijk 59 baar 75 end 75 ing 71 ig\n|sa 67 68\n&sa 58 79\n&s- 55 80\n&sa 58 68\n|sa 81 82\n.s- ^Iaeiouyè\n-s- 0 25 aa 25 ee 25 oo 25 uu\n&s- 84 85\n!s- 86\n!s- 87\n=-- 14 14\n&-- 88 89\n|-a 90 39\n+-a y\n--- 0 2 I 92 Y\n~-a IY 93\n&-a 91 94\n&-a 83 95\n&-a 54 96"}]};
 
   // A class is a list of marks: it begins at the first, ends before the second, begins again at
   // the third.
@@ -86,10 +86,165 @@
     };
   }
 
+  // The numbers of the characters of a text.
+  function codes(text) {
+    var found = [];
+    for (var at = 0; at < text.length; at++) {
+      found.push(text.codePointAt(at));
+      if (found[found.length - 1] > 0xFFFF) at++;
+    }
+    return found;
+  }
+
+  // A class of a table: its characters, or behind a circumflex all others.
+  function group(word) {
+    var others = word[0] === '^', marked = [];
+    codes(others ? word.slice(1) : word).forEach(function (code) {
+      while (marked.length <= code) marked.push(others);
+      marked[code] = !others;
+    });
+    return function (code) { return code < marked.length ? marked[code] : others; };
+  }
+
+  // The suffixes of a step as a tree, from their last characters.
+  function suffixes(words) {
+    var tree = { next: new Map(), step: -1 };
+    for (var at = 1; at < words.length; at += 2) {
+      var node = tree;
+      codes(words[at + 1]).reverse().forEach(function (code) {
+        if (!node.next.has(code)) node.next.set(code, { next: new Map(), step: -1 });
+        node = node.next.get(code);
+      });
+      if (node.step < 0) node.step = Number(words[at]);
+    }
+    return tree;
+  }
+
+  // The stemmer of a table. Its first line has the numbers of the step before and of the main step,
+  // and the marks; each other line is a step. A step takes the length of a text, whose characters
+  // `text` begins with, and gives the length of what it makes of it, or -1 where it doesn't apply;
+  // then it has changed nothing, because only a safe table is read. Steps are nested 400 deep at
+  // most: what lies deeper changes nothing.
+  var FIRST = /^[0-9]{1,4} [0-9]{1,4}( [0-9]{1,4} [0-9]{1,4})*$/;
+  var STEP = new RegExp('^([+.:*]F W|[@!]F N|[&|=]F N N|-F N( N W)*|~F W N)$'
+    .replace(/F/g, '[s-][a-]').replace(/W/g, '[^ ]*').replace(/N/g, '[0-9]{1,4}'));
+  function tableStemmer(lines, name) {
+    var numbers = lines[0].split(' ').map(Number), rows = lines.slice(1), text, regions, steps;
+    if (!FIRST.test(lines[0]) || !rows.every(isSafe)) {
+      throw new Error('the table of ' + name + ' is damaged');
+    }
+
+    // What a step declares: that it only shortens a text, and that it always applies.
+    function shortens(number) { return !rows[number] || rows[number][1] === 's'; }
+    function applies(number) { return !rows[number] || rows[number][2] === 'a'; }
+
+    // Whether the line is a step that is what it declares, and tries only what changes nothing.
+    function isSafe(line) {
+      var sign = line[0], words = line.slice(4).split(' '), a = Number(words[0]), b = Number(words[1]);
+      var isShort = sign === '+' ? words[0] === ''
+        : sign === '-' ? words.every(function (word, at) { return at % 2 === 0 || shortens(Number(word)); })
+        : sign === '&' || sign === '|' ? shortens(a) && shortens(b)
+        : sign !== '=' && sign !== '~';
+      var isSure = sign === '&' || sign === '=' ? applies(a) && applies(b)
+        : sign === '|' ? applies(a) || applies(b)
+        : sign === '+' || sign === '*' || sign === '~';
+      var isFirm = sign === '&' ? shortens(a) || applies(b) : sign === '!' || sign === '=' ? shortens(a) : true;
+      return STEP.test(line) && (isShort || line[1] === '-') && (isSure || line[2] === '-') && isFirm;
+    }
+
+    function apply(number, length, depth) {
+      return depth && steps[number] ? steps[number](length, depth - 1) : length;
+    }
+
+    function stepOf(line) {
+      var words = line.slice(4).split(' '), a = Number(words[0]), b = Number(words[1]);
+      var end = codes(words[0]), isIn = group(words[0]), tree = line[0] === '-' && suffixes(words);
+      return {
+        '+': function (length) {
+          for (var at = 0; at < end.length; at++) text[length++] = end[at];
+          return length;
+        },
+        '@': function (length) { return length < (regions[a] || 0) ? -1 : length; },
+        '.': function (length) { return length && isIn(text[length - 1]) ? length - 1 : -1; },
+        ':': function (length) {
+          var last = text[length - 1];
+          return length > 1 && last === text[length - 2] && isIn(last) ? length - 1 : -1;
+        },
+        '*': function (length) {
+          while (length && isIn(text[length - 1])) length--;
+          return length;
+        },
+        '-': function (length, depth) {
+          var start = regions[a] || 0, node = length < start ? undefined : tree, found = -1, rest = 0;
+          while (node) {
+            if (node.step >= 0) {
+              found = node.step;
+              rest = length;
+            }
+            node = length > start ? node.next.get(text[--length]) : undefined;
+          }
+          return found < 0 ? -1 : apply(found, rest, depth);
+        },
+        '&': function (length, depth) {
+          var left = apply(a, length, depth);
+          return left < 0 ? -1 : apply(b, left, depth);
+        },
+        '|': function (length, depth) {
+          var left = apply(a, length, depth);
+          return left < 0 ? apply(b, length, depth) : left;
+        },
+        '!': function (length, depth) { return apply(a, length, depth) < 0 ? length : -1; },
+        '=': function (length, depth) {
+          var front = apply(a, length, depth);
+          if (front < 0) return -1;
+          var rest = text.slice(front, length), left = apply(b, front, depth);
+          for (var at = 0; left >= 0 && at < rest.length; at++) text[left++] = rest[at];
+          return left;
+        },
+        '~': function (length, depth) {
+          var typed = length, before, left;
+          while (typed && !isIn(text[typed - 1])) typed--;
+          if (!typed) return length;
+          before = text.slice(0, length);
+          typed = 0;
+          for (var at = 0; at < length; at++) {
+            text[typed++] = before[at];
+            left = apply(b, typed, depth);
+            if (left >= 0) typed = left;
+          }
+          return typed;
+        }
+      }[line[0]];
+    }
+
+    // What the step makes of a word, and nothing where it doesn't apply.
+    function run(number, word) {
+      text = word.slice();
+      var left = apply(number, word.length, 400);
+      return left < 0 ? undefined : text.slice(0, left);
+    }
+
+    return function (token) {
+      var word = codes(token), starts = [0], stem = '';
+      steps = steps || lines.slice(1).map(stepOf);
+      regions = [];
+      word = run(numbers[0], word) || word;
+      for (var at = 2; at < numbers.length; at += 2) {
+        var rest = run(numbers[at], word.slice().reverse()) || [];
+        starts.push(Math.max(numbers[at + 1], word.length - rest.length));
+      }
+      regions = starts;
+      word = run(numbers[1], word) || word;
+      for (at = 0; at < word.length; at++) stem += String.fromCodePoint(word[at]);
+      return stem || undefined;
+    };
+  }
+
   FACTS.stages.forEach(function (stage) {
     var run = stage['class'] ? trimmer(stage['class'])
       : stage.words ? stopWords(stage.words)
       : stage.drops ? stemmer(stage.drops, stage.changes)
+      : stage.table ? tableStemmer(stage.table.split('\n'), stage.name)
       : function (token) { return token; };
     delete elasticlunr.Pipeline.registeredFunctions[stage.name];
     elasticlunr.Pipeline.registerFunction(run, stage.name);

@@ -90,6 +90,7 @@
     var run = stage['class'] ? trimmer(stage['class'])
       : stage.words ? stopWords(stage.words)
       : stage.drops ? stemmer(stage.drops, stage.changes)
+      : stage.table ? tableStemmer(stage.table.split('\n'), stage.name)
       : function (token) { return token; };
     delete elasticlunr.Pipeline.registeredFunctions[stage.name];
     elasticlunr.Pipeline.registerFunction(run, stage.name);

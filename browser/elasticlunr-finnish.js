@@ -12,7 +12,7 @@
   else extend(elasticlunr);
 })(function (elasticlunr) {
   'use strict';
-  var FACTS = {"between":[9,14,32,33,45,46,133,134,160,161,5760,5761,8192,8203,8232,8234,8239,8240,8287,8288,12288,12289],"lower":["Aa","Bb","Cc","Dd","Ee","Ff","Gg","Hh","Ii","Jj","Kk","Ll","Mm","Nn","Oo","Pp","Qq","Rr","Ss","Tt","Uu","Vv","Ww","Xx","Yy","Zz","Àà","Áá","Ââ","Ãã","Ää","Åå","Ææ","Çç","Èè","Éé","Êê","Ëë","Ìì","Íí","Îî","Ïï","Ðð","Ññ","Òò","Óó","Ôô","Õõ","Öö","Øø","Ùù","Úú","Ûû","Üü","Ýý","Þþ","Āā","Ăă","Ąą","Ćć","Ĉĉ","Ċċ","Čč","Ďď","Đđ","Ēē","Ĕĕ","Ėė","Ęę","Ěě","Ĝĝ","Ğğ","Ġġ","Ģģ","Ĥĥ","Ħħ","Ĩĩ","Īī","Ĭĭ","Įį","İi̇","Ĳĳ","Ĵĵ","Ķķ","Ĺĺ","Ļļ","Ľľ","Ŀŀ","Łł","Ńń","Ņņ","Ňň","Ŋŋ","Ōō","Ŏŏ","Őő","Œœ","Ŕŕ","Ŗŗ","Řř","Śś","Ŝŝ","Şş","Šš","Ţţ","Ťť","Ŧŧ","Ũũ","Ūū","Ŭŭ","Ůů","Űű","Ųų","Ŵŵ","Ŷŷ","Ÿÿ","Źź","Żż","Žž","Șș","Țț","Ѐѐ","Ёё","Ђђ","Ѓѓ","Єє","Ѕѕ","Іі","Її","Јј","Љљ","Њњ","Ћћ","Ќќ","Ѝѝ","Ўў","Џџ","Аа","Бб","Вв","Гг","Дд","Ее","Жж","Зз","Ии","Йй","Кк","Лл","Мм","Нн","Оо","Пп","Рр","Сс","Тт","Уу","Фф","Хх","Цц","Чч","Шш","Щщ","Ъъ","Ыы","Ьь","Ээ","Юю","Яя"],"stages":[{"class":[65,91,97,123,170,171,186,187,192,215,216,247,248,697,736,741,7424,7462,7468,7517,7522,7526,7531,7544,7545,7615,7680,7936,8305,8306,8319,8320,8336,8352,8490,8492,8498,8499,8526,8527,8544,8585,11360,11392,42786,42888,42891,42974,42978,42979,42993,43008,43824,43867,43868,43877,43878,43882,43884,43886,64256,64263,65313,65339,65345,65371,67456,67462,67463,67505,67506,67520,122624,122754,122768,122775,122829,122867,122869,122880],"name":"trimmer-fi"},{"name":"stopWordFilter-fi","words":["","ei","eivät","emme","en","et","ette","että","he","heidän","heidät","heihin","heille","heillä","heiltä","heissä","heistä","heitä","hän","häneen","hänelle","hänellä","häneltä","hänen","hänessä","hänestä","hänet","häntä","itse","ja","johon","joiden","joihin","joiksi","joilla","joille","joilta","joina","joissa","joista","joita","joka","joksi","jolla","jolle","jolta","jona","jonka","jos","jossa","josta","jota","jotka","kanssa","keiden","keihin","keiksi","keille","keillä","keiltä","keinä","keissä","keistä","keitä","keneen","keneksi","kenelle","kenellä","keneltä","kenen","kenenä","kenessä","kenestä","kenet","ketkä","ketä","koska","kuin","kuka","kun","me","meidän","meidät","meihin","meille","meillä","meiltä","meissä","meistä","meitä","mihin","miksi","mikä","mille","millä","miltä","minkä","minua","minulla","minulle","minulta","minun","minussa","minusta","minut","minuun","minä","missä","mistä","mitkä","mitä","mukaan","mutta","ne","niiden","niihin","niiksi","niille","niillä","niiltä","niin","niinä","niissä","niistä","niitä","noiden","noihin","noiksi","noilla","noille","noilta","noin","noina","noissa","noista","noita","nuo","nyt","näiden","näihin","näiksi","näille","näillä","näiltä","näinä","näissä","näistä","näitä","nämä","ole","olemme","olen","olet","olette","oli","olimme","olin","olisi","olisimme","olisin","olisit","olisitte","olisivat","olit","olitte","olivat","olla","olleet","ollut","on","ovat","poikki","se","sekä","sen","siihen","siinä","siitä","siksi","sille","sillä","siltä","sinua","sinulla","sinulle","sinulta","sinun","sinussa","sinusta","sinut","sinuun","sinä","sitä","tai","te","teidän","teidät","teihin","teille","teillä","teiltä","teissä","teistä","teitä","tuo","tuohon","tuoksi","tuolla","tuolle","tuolta","tuon","tuona","tuossa","tuosta","tuota","tähän","täksi","tälle","tällä","tältä","tämä","tämän","tänä","tässä","tästä","tätä","vaan","vai","vaikka","yli"]}]};
+  var FACTS = {"between":[9,14,32,33,45,46,133,134,160,161,5760,5761,8192,8203,8232,8234,8239,8240,8287,8288,12288,12289],"lower":["Aa","Bb","Cc","Dd","Ee","Ff","Gg","Hh","Ii","Jj","Kk","Ll","Mm","Nn","Oo","Pp","Qq","Rr","Ss","Tt","Uu","Vv","Ww","Xx","Yy","Zz","Àà","Áá","Ââ","Ãã","Ää","Åå","Ææ","Çç","Èè","Éé","Êê","Ëë","Ìì","Íí","Îî","Ïï","Ðð","Ññ","Òò","Óó","Ôô","Õõ","Öö","Øø","Ùù","Úú","Ûû","Üü","Ýý","Þþ","Āā","Ăă","Ąą","Ćć","Ĉĉ","Ċċ","Čč","Ďď","Đđ","Ēē","Ĕĕ","Ėė","Ęę","Ěě","Ĝĝ","Ğğ","Ġġ","Ģģ","Ĥĥ","Ħħ","Ĩĩ","Īī","Ĭĭ","Įį","İi̇","Ĳĳ","Ĵĵ","Ķķ","Ĺĺ","Ļļ","Ľľ","Ŀŀ","Łł","Ńń","Ņņ","Ňň","Ŋŋ","Ōō","Ŏŏ","Őő","Œœ","Ŕŕ","Ŗŗ","Řř","Śś","Ŝŝ","Şş","Šš","Ţţ","Ťť","Ŧŧ","Ũũ","Ūū","Ŭŭ","Ůů","Űű","Ųų","Ŵŵ","Ŷŷ","Ÿÿ","Źź","Żż","Žž","Șș","Țț","Ѐѐ","Ёё","Ђђ","Ѓѓ","Єє","Ѕѕ","Іі","Її","Јј","Љљ","Њњ","Ћћ","Ќќ","Ѝѝ","Ўў","Џџ","Аа","Бб","Вв","Гг","Дд","Ее","Жж","Зз","Ии","Йй","Кк","Лл","Мм","Нн","Оо","Пп","Рр","Сс","Тт","Уу","Фф","Хх","Цц","Чч","Шш","Щщ","Ъъ","Ыы","Ьь","Ээ","Юю","Яя"],"stages":[{"class":[65,91,97,123,170,171,186,187,192,215,216,247,248,697,736,741,7424,7462,7468,7517,7522,7526,7531,7544,7545,7615,7680,7936,8305,8306,8319,8320,8336,8352,8490,8492,8498,8499,8526,8527,8544,8585,11360,11392,42786,42888,42891,42974,42978,42979,42993,43008,43824,43867,43868,43877,43878,43882,43884,43886,64256,64263,65313,65339,65345,65371,67456,67462,67463,67505,67506,67520,122624,122754,122768,122775,122829,122867,122869,122880],"name":"trimmer-fi"},{"name":"stopWordFilter-fi","words":["","ei","eivät","emme","en","et","ette","että","he","heidän","heidät","heihin","heille","heillä","heiltä","heissä","heistä","heitä","hän","häneen","hänelle","hänellä","häneltä","hänen","hänessä","hänestä","hänet","häntä","itse","ja","johon","joiden","joihin","joiksi","joilla","joille","joilta","joina","joissa","joista","joita","joka","joksi","jolla","jolle","jolta","jona","jonka","jos","jossa","josta","jota","jotka","kanssa","keiden","keihin","keiksi","keille","keillä","keiltä","keinä","keissä","keistä","keitä","keneen","keneksi","kenelle","kenellä","keneltä","kenen","kenenä","kenessä","kenestä","kenet","ketkä","ketä","koska","kuin","kuka","kun","me","meidän","meidät","meihin","meille","meillä","meiltä","meissä","meistä","meitä","mihin","miksi","mikä","mille","millä","miltä","minkä","minua","minulla","minulle","minulta","minun","minussa","minusta","minut","minuun","minä","missä","mistä","mitkä","mitä","mukaan","mutta","ne","niiden","niihin","niiksi","niille","niillä","niiltä","niin","niinä","niissä","niistä","niitä","noiden","noihin","noiksi","noilla","noille","noilta","noin","noina","noissa","noista","noita","nuo","nyt","näiden","näihin","näiksi","näille","näillä","näiltä","näinä","näissä","näistä","näitä","nämä","ole","olemme","olen","olet","olette","oli","olimme","olin","olisi","olisimme","olisin","olisit","olisitte","olisivat","olit","olitte","olivat","olla","olleet","ollut","on","ovat","poikki","se","sekä","sen","siihen","siinä","siitä","siksi","sille","sillä","siltä","sinua","sinulla","sinulle","sinulta","sinun","sinussa","sinusta","sinut","sinuun","sinä","sitä","tai","te","teidän","teidät","teihin","teille","teillä","teiltä","teissä","teistä","teitä","tuo","tuohon","tuoksi","tuolla","tuolle","tuolta","tuon","tuona","tuossa","tuosta","tuota","tähän","täksi","tälle","tällä","tältä","tämä","tämän","tänä","tässä","tästä","tätä","vaan","vai","vaikka","yli"]},{"name":"stemmer-fi","table":"0 127 7 0 11 0\n+sa \n*sa ^aeiouyäö\n.s- aeiouyäö\n*sa aeiouyäö\n.s- ^aeiouyäö\n&s- 3 4\n&s- 2 5\n&s- 1 6\n&s- 4 7\n&s- 3 8\n&s- 2 9\n&s- 1 10\n.s- aeiouyäönt\n!s- 12\n!s- 13\n@s- 2\n-s- 1 14 kaan 14 kään 15 sti 14 han 14 kin 14 hän 14 pa 14 ko 14 pä 14 kö\n|sa 16 0\n-s- 0 0 k\n!s- 18\n!s- 19\n!s- 20\n+-a ksi\n--- 0 22 kse\n|-a 23 0\n-s- 0 0 lla 0 ssa 0 lta 0 sta 0 na 0 ta\n!s- 25\n!s- 26\n-s- 0 0 llä 0 ssä 0 ltä 0 stä 0 nä 0 tä\n!s- 28\n!s- 29\n-s- 0 0 lle 0 ine\n!s- 31\n!s- 32\n--- 1 0 nsa 0 mme 0 nne 0 nsä 24 ni 21 si 27 an 33 en 30 än\n|-a 34 0\n.s- i\n.s- aeiouäö\n@s- 1\n&s- 37 38\n&s- 36 39\n!s- 40\n!s- 41\n-s- 1 0 aa 0 ee 0 ii 0 oo 0 uu 0 ää 0 öö\n!s- 43\n!s- 44\n-s- 1 45 seen 42 tten 42 siin 42 den\n-s- 0 0 a\n!s- 47\n!s- 48\n-s- 0 0 e\n!s- 50\n!s- 51\n-s- 0 0 i\n!s- 53\n!s- 54\n-s- 0 0 o\n!s- 56\n!s- 57\n-s- 0 0 ä\n!s- 59\n!s- 60\n-s- 0 0 ö\n!s- 62\n!s- 63\n-s- 0 0 aa 0 ee 0 ie 0 ii 0 oo 0 uu 0 ää 0 öö\n!s- 65\n!s- 66\n.s- ^\n&s- 67 68\n|sa 69 0\n.s- bcdfghjklmnpqrstvwxz\n&s- 2 71\n!s- 72\n!s- 73\n-s- 1 0 lla 0 ssa 0 lta 0 sta 52 tta 0 lle 0 ine 0 ksi 49 han 52 hen 55 hin 58 hon 61 hän 64 hön 0 llä 0 ssä 0 ltä 0 stä 52 ttä 0 na 0 ta 0 nä 0 tä 74 a 70 n 74 ä\n|s- 46 75\n|sa 82 0\n-s- 0 0 po\n!s- 78\n!s- 79\n!s- 80\n-s- 2 0 imma 0 impa 0 immi 0 impi 0 immä 0 impä 0 eja 81 mma 81 mpa 81 mmi 81 mpi 0 ejä 81 mmä 81 mpä\n-s- 1 0 i 0 j\n|sa 83 0\n&sa 77 84\n&s- 76 85\n&s- 2 38\n!s- 87\n!s- 88\n-s- 1 89 t\n-s- 2 0 imma 81 mma\n|sa 91 0\n&s- 90 92\n|sa 93 0\n&sa 77 94\n|sa 86 95\n&s- 45 68\n|sa 97 0\n.s- aeiä\n&s- 71 38\n!s- 100\n!s- 101\n&s- 38 102\n&s- 99 103\n|sa 104 0\n-s- 1 0 o 0 u\n!s- 106\n!s- 107\n-s- 1 108 j\n|sa 109 0\n-s- 1 0 j\n!s- 111\n!s- 112\n-s- 1 113 o\n|sa 114 0\n:s- bcdfghjklmnpqrstvwxz\n=-- 3 116\n|-a 117 0\n&-a 115 118\n&-a 110 119\n&-a 105 120\n&-a 98 121\n&-- 38 122\n|-a 123 0\n&-a 96 124\n&-a 35 125\n&-a 17 126"}]};
 
   // A class is a list of marks: it begins at the first, ends before the second, begins again at
   // the third.
@@ -86,10 +86,165 @@
     };
   }
 
+  // The numbers of the characters of a text.
+  function codes(text) {
+    var found = [];
+    for (var at = 0; at < text.length; at++) {
+      found.push(text.codePointAt(at));
+      if (found[found.length - 1] > 0xFFFF) at++;
+    }
+    return found;
+  }
+
+  // A class of a table: its characters, or behind a circumflex all others.
+  function group(word) {
+    var others = word[0] === '^', marked = [];
+    codes(others ? word.slice(1) : word).forEach(function (code) {
+      while (marked.length <= code) marked.push(others);
+      marked[code] = !others;
+    });
+    return function (code) { return code < marked.length ? marked[code] : others; };
+  }
+
+  // The suffixes of a step as a tree, from their last characters.
+  function suffixes(words) {
+    var tree = { next: new Map(), step: -1 };
+    for (var at = 1; at < words.length; at += 2) {
+      var node = tree;
+      codes(words[at + 1]).reverse().forEach(function (code) {
+        if (!node.next.has(code)) node.next.set(code, { next: new Map(), step: -1 });
+        node = node.next.get(code);
+      });
+      if (node.step < 0) node.step = Number(words[at]);
+    }
+    return tree;
+  }
+
+  // The stemmer of a table. Its first line has the numbers of the step before and of the main step,
+  // and the marks; each other line is a step. A step takes the length of a text, whose characters
+  // `text` begins with, and gives the length of what it makes of it, or -1 where it doesn't apply;
+  // then it has changed nothing, because only a safe table is read. Steps are nested 400 deep at
+  // most: what lies deeper changes nothing.
+  var FIRST = /^[0-9]{1,4} [0-9]{1,4}( [0-9]{1,4} [0-9]{1,4})*$/;
+  var STEP = new RegExp('^([+.:*]F W|[@!]F N|[&|=]F N N|-F N( N W)*|~F W N)$'
+    .replace(/F/g, '[s-][a-]').replace(/W/g, '[^ ]*').replace(/N/g, '[0-9]{1,4}'));
+  function tableStemmer(lines, name) {
+    var numbers = lines[0].split(' ').map(Number), rows = lines.slice(1), text, regions, steps;
+    if (!FIRST.test(lines[0]) || !rows.every(isSafe)) {
+      throw new Error('the table of ' + name + ' is damaged');
+    }
+
+    // What a step declares: that it only shortens a text, and that it always applies.
+    function shortens(number) { return !rows[number] || rows[number][1] === 's'; }
+    function applies(number) { return !rows[number] || rows[number][2] === 'a'; }
+
+    // Whether the line is a step that is what it declares, and tries only what changes nothing.
+    function isSafe(line) {
+      var sign = line[0], words = line.slice(4).split(' '), a = Number(words[0]), b = Number(words[1]);
+      var isShort = sign === '+' ? words[0] === ''
+        : sign === '-' ? words.every(function (word, at) { return at % 2 === 0 || shortens(Number(word)); })
+        : sign === '&' || sign === '|' ? shortens(a) && shortens(b)
+        : sign !== '=' && sign !== '~';
+      var isSure = sign === '&' || sign === '=' ? applies(a) && applies(b)
+        : sign === '|' ? applies(a) || applies(b)
+        : sign === '+' || sign === '*' || sign === '~';
+      var isFirm = sign === '&' ? shortens(a) || applies(b) : sign === '!' || sign === '=' ? shortens(a) : true;
+      return STEP.test(line) && (isShort || line[1] === '-') && (isSure || line[2] === '-') && isFirm;
+    }
+
+    function apply(number, length, depth) {
+      return depth && steps[number] ? steps[number](length, depth - 1) : length;
+    }
+
+    function stepOf(line) {
+      var words = line.slice(4).split(' '), a = Number(words[0]), b = Number(words[1]);
+      var end = codes(words[0]), isIn = group(words[0]), tree = line[0] === '-' && suffixes(words);
+      return {
+        '+': function (length) {
+          for (var at = 0; at < end.length; at++) text[length++] = end[at];
+          return length;
+        },
+        '@': function (length) { return length < (regions[a] || 0) ? -1 : length; },
+        '.': function (length) { return length && isIn(text[length - 1]) ? length - 1 : -1; },
+        ':': function (length) {
+          var last = text[length - 1];
+          return length > 1 && last === text[length - 2] && isIn(last) ? length - 1 : -1;
+        },
+        '*': function (length) {
+          while (length && isIn(text[length - 1])) length--;
+          return length;
+        },
+        '-': function (length, depth) {
+          var start = regions[a] || 0, node = length < start ? undefined : tree, found = -1, rest = 0;
+          while (node) {
+            if (node.step >= 0) {
+              found = node.step;
+              rest = length;
+            }
+            node = length > start ? node.next.get(text[--length]) : undefined;
+          }
+          return found < 0 ? -1 : apply(found, rest, depth);
+        },
+        '&': function (length, depth) {
+          var left = apply(a, length, depth);
+          return left < 0 ? -1 : apply(b, left, depth);
+        },
+        '|': function (length, depth) {
+          var left = apply(a, length, depth);
+          return left < 0 ? apply(b, length, depth) : left;
+        },
+        '!': function (length, depth) { return apply(a, length, depth) < 0 ? length : -1; },
+        '=': function (length, depth) {
+          var front = apply(a, length, depth);
+          if (front < 0) return -1;
+          var rest = text.slice(front, length), left = apply(b, front, depth);
+          for (var at = 0; left >= 0 && at < rest.length; at++) text[left++] = rest[at];
+          return left;
+        },
+        '~': function (length, depth) {
+          var typed = length, before, left;
+          while (typed && !isIn(text[typed - 1])) typed--;
+          if (!typed) return length;
+          before = text.slice(0, length);
+          typed = 0;
+          for (var at = 0; at < length; at++) {
+            text[typed++] = before[at];
+            left = apply(b, typed, depth);
+            if (left >= 0) typed = left;
+          }
+          return typed;
+        }
+      }[line[0]];
+    }
+
+    // What the step makes of a word, and nothing where it doesn't apply.
+    function run(number, word) {
+      text = word.slice();
+      var left = apply(number, word.length, 400);
+      return left < 0 ? undefined : text.slice(0, left);
+    }
+
+    return function (token) {
+      var word = codes(token), starts = [0], stem = '';
+      steps = steps || lines.slice(1).map(stepOf);
+      regions = [];
+      word = run(numbers[0], word) || word;
+      for (var at = 2; at < numbers.length; at += 2) {
+        var rest = run(numbers[at], word.slice().reverse()) || [];
+        starts.push(Math.max(numbers[at + 1], word.length - rest.length));
+      }
+      regions = starts;
+      word = run(numbers[1], word) || word;
+      for (at = 0; at < word.length; at++) stem += String.fromCodePoint(word[at]);
+      return stem || undefined;
+    };
+  }
+
   FACTS.stages.forEach(function (stage) {
     var run = stage['class'] ? trimmer(stage['class'])
       : stage.words ? stopWords(stage.words)
       : stage.drops ? stemmer(stage.drops, stage.changes)
+      : stage.table ? tableStemmer(stage.table.split('\n'), stage.name)
       : function (token) { return token; };
     delete elasticlunr.Pipeline.registeredFunctions[stage.name];
     elasticlunr.Pipeline.registerFunction(run, stage.name);

@@ -12,7 +12,7 @@
   else extend(elasticlunr);
 })(function (elasticlunr) {
   'use strict';
-  var FACTS = {"between":[9,14,32,33,45,46,133,134,160,161,5760,5761,8192,8203,8232,8234,8239,8240,8287,8288,12288,12289],"lower":["Aa","Bb","Cc","Dd","Ee","Ff","Gg","Hh","Ii","Jj","Kk","Ll","Mm","Nn","Oo","Pp","Qq","Rr","Ss","Tt","Uu","Vv","Ww","Xx","Yy","Zz","Àà","Áá","Ââ","Ãã","Ää","Åå","Ææ","Çç","Èè","Éé","Êê","Ëë","Ìì","Íí","Îî","Ïï","Ðð","Ññ","Òò","Óó","Ôô","Õõ","Öö","Øø","Ùù","Úú","Ûû","Üü","Ýý","Þþ","Āā","Ăă","Ąą","Ćć","Ĉĉ","Ċċ","Čč","Ďď","Đđ","Ēē","Ĕĕ","Ėė","Ęę","Ěě","Ĝĝ","Ğğ","Ġġ","Ģģ","Ĥĥ","Ħħ","Ĩĩ","Īī","Ĭĭ","Įį","İi̇","Ĳĳ","Ĵĵ","Ķķ","Ĺĺ","Ļļ","Ľľ","Ŀŀ","Łł","Ńń","Ņņ","Ňň","Ŋŋ","Ōō","Ŏŏ","Őő","Œœ","Ŕŕ","Ŗŗ","Řř","Śś","Ŝŝ","Şş","Šš","Ţţ","Ťť","Ŧŧ","Ũũ","Ūū","Ŭŭ","Ůů","Űű","Ųų","Ŵŵ","Ŷŷ","Ÿÿ","Źź","Żż","Žž","Șș","Țț","Ѐѐ","Ёё","Ђђ","Ѓѓ","Єє","Ѕѕ","Іі","Її","Јј","Љљ","Њњ","Ћћ","Ќќ","Ѝѝ","Ўў","Џџ","Аа","Бб","Вв","Гг","Дд","Ее","Жж","Зз","Ии","Йй","Кк","Лл","Мм","Нн","Оо","Пп","Рр","Сс","Тт","Уу","Фф","Хх","Цц","Чч","Шш","Щщ","Ъъ","Ыы","Ьь","Ээ","Юю","Яя"],"stages":[{"class":[65,91,97,123,170,171,186,187,192,215,216,247,248,697,736,741,7424,7462,7468,7517,7522,7526,7531,7544,7545,7615,7680,7936,8305,8306,8319,8320,8336,8352,8490,8492,8498,8499,8526,8527,8544,8585,11360,11392,42786,42888,42891,42974,42978,42979,42993,43008,43824,43867,43868,43877,43878,43882,43884,43886,64256,64263,65313,65339,65345,65371,67456,67462,67463,67505,67506,67520,122624,122754,122768,122775,122829,122867,122869,122880],"name":"trimmer-de"},{"name":"stopWordFilter-de","words":["","aber","alle","allem","allen","aller","alles","als","also","am","an","ander","andere","anderem","anderen","anderer","anderes","anderm","andern","anderr","anders","auch","auf","aus","bei","bin","bis","bist","da","damit","dann","das","dasselbe","dazu","daß","dein","deine","deinem","deinen","deiner","deines","dem","demselben","den","denn","denselben","der","derer","derselbe","derselben","des","desselben","dessen","dich","die","dies","diese","dieselbe","dieselben","diesem","diesen","dieser","dieses","dir","doch","dort","du","durch","ein","eine","einem","einen","einer","eines","einig","einige","einigem","einigen","einiger","einiges","einmal","er","es","etwas","euch","euer","eure","eurem","euren","eurer","eures","für","gegen","gewesen","hab","habe","haben","hat","hatte","hatten","hier","hin","hinter","ich","ihm","ihn","ihnen","ihr","ihre","ihrem","ihren","ihrer","ihres","im","in","indem","ins","ist","jede","jedem","jeden","jeder","jedes","jene","jenem","jenen","jener","jenes","jetzt","kann","kein","keine","keinem","keinen","keiner","keines","können","könnte","machen","man","manche","manchem","manchen","mancher","manches","mein","meine","meinem","meinen","meiner","meines","mich","mir","mit","muss","musste","nach","nicht","nichts","noch","nun","nur","ob","oder","ohne","sehr","sein","seine","seinem","seinen","seiner","seines","selbst","sich","sie","sind","so","solche","solchem","solchen","solcher","solches","soll","sollte","sondern","sonst","um","und","uns","unse","unsem","unsen","unser","unses","unter","viel","vom","von","vor","war","waren","warst","was","weg","weil","weiter","welche","welchem","welchen","welcher","welches","wenn","werde","werden","wie","wieder","will","wir","wird","wirst","wo","wollen","wollte","während","würde","würden","zu","zum","zur","zwar","zwischen","über"]}]};
+  var FACTS = {"between":[9,14,32,33,45,46,133,134,160,161,5760,5761,8192,8203,8232,8234,8239,8240,8287,8288,12288,12289],"lower":["Aa","Bb","Cc","Dd","Ee","Ff","Gg","Hh","Ii","Jj","Kk","Ll","Mm","Nn","Oo","Pp","Qq","Rr","Ss","Tt","Uu","Vv","Ww","Xx","Yy","Zz","Àà","Áá","Ââ","Ãã","Ää","Åå","Ææ","Çç","Èè","Éé","Êê","Ëë","Ìì","Íí","Îî","Ïï","Ðð","Ññ","Òò","Óó","Ôô","Õõ","Öö","Øø","Ùù","Úú","Ûû","Üü","Ýý","Þþ","Āā","Ăă","Ąą","Ćć","Ĉĉ","Ċċ","Čč","Ďď","Đđ","Ēē","Ĕĕ","Ėė","Ęę","Ěě","Ĝĝ","Ğğ","Ġġ","Ģģ","Ĥĥ","Ħħ","Ĩĩ","Īī","Ĭĭ","Įį","İi̇","Ĳĳ","Ĵĵ","Ķķ","Ĺĺ","Ļļ","Ľľ","Ŀŀ","Łł","Ńń","Ņņ","Ňň","Ŋŋ","Ōō","Ŏŏ","Őő","Œœ","Ŕŕ","Ŗŗ","Řř","Śś","Ŝŝ","Şş","Šš","Ţţ","Ťť","Ŧŧ","Ũũ","Ūū","Ŭŭ","Ůů","Űű","Ųų","Ŵŵ","Ŷŷ","Ÿÿ","Źź","Żż","Žž","Șș","Țț","Ѐѐ","Ёё","Ђђ","Ѓѓ","Єє","Ѕѕ","Іі","Її","Јј","Љљ","Њњ","Ћћ","Ќќ","Ѝѝ","Ўў","Џџ","Аа","Бб","Вв","Гг","Дд","Ее","Жж","Зз","Ии","Йй","Кк","Лл","Мм","Нн","Оо","Пп","Рр","Сс","Тт","Уу","Фф","Хх","Цц","Чч","Шш","Щщ","Ъъ","Ыы","Ьь","Ээ","Юю","Яя"],"stages":[{"class":[65,91,97,123,170,171,186,187,192,215,216,247,248,697,736,741,7424,7462,7468,7517,7522,7526,7531,7544,7545,7615,7680,7936,8305,8306,8319,8320,8336,8352,8490,8492,8498,8499,8526,8527,8544,8585,11360,11392,42786,42888,42891,42974,42978,42979,42993,43008,43824,43867,43868,43877,43878,43882,43884,43886,64256,64263,65313,65339,65345,65371,67456,67462,67463,67505,67506,67520,122624,122754,122768,122775,122829,122867,122869,122880],"name":"trimmer-de"},{"name":"stopWordFilter-de","words":["","aber","alle","allem","allen","aller","alles","als","also","am","an","ander","andere","anderem","anderen","anderer","anderes","anderm","andern","anderr","anders","auch","auf","aus","bei","bin","bis","bist","da","damit","dann","das","dasselbe","dazu","daß","dein","deine","deinem","deinen","deiner","deines","dem","demselben","den","denn","denselben","der","derer","derselbe","derselben","des","desselben","dessen","dich","die","dies","diese","dieselbe","dieselben","diesem","diesen","dieser","dieses","dir","doch","dort","du","durch","ein","eine","einem","einen","einer","eines","einig","einige","einigem","einigen","einiger","einiges","einmal","er","es","etwas","euch","euer","eure","eurem","euren","eurer","eures","für","gegen","gewesen","hab","habe","haben","hat","hatte","hatten","hier","hin","hinter","ich","ihm","ihn","ihnen","ihr","ihre","ihrem","ihren","ihrer","ihres","im","in","indem","ins","ist","jede","jedem","jeden","jeder","jedes","jene","jenem","jenen","jener","jenes","jetzt","kann","kein","keine","keinem","keinen","keiner","keines","können","könnte","machen","man","manche","manchem","manchen","mancher","manches","mein","meine","meinem","meinen","meiner","meines","mich","mir","mit","muss","musste","nach","nicht","nichts","noch","nun","nur","ob","oder","ohne","sehr","sein","seine","seinem","seinen","seiner","seines","selbst","sich","sie","sind","so","solche","solchem","solchen","solcher","solches","soll","sollte","sondern","sonst","um","und","uns","unse","unsem","unsen","unser","unses","unter","viel","vom","von","vor","war","waren","warst","was","weg","weil","weiter","welche","welchem","welchen","welcher","welches","wenn","werde","werden","wie","wieder","will","wir","wird","wirst","wo","wollen","wollte","während","würde","würden","zu","zum","zur","zwar","zwischen","über"]},{"name":"stemmer-de","table":"13 70 19 3 23 0\n+-a ss\n--- 0 0 ß\n~-a ß 1\n.s- aeiouyäöü\n!s- 3\n!s- 4\n+-a U\n&-- 5 6\n+-a Y\n&-- 5 8\n--- 0 7 u 9 y\n=-- 3 10\n~-a uy 11\n&-a 2 12\n*sa ^aeiouyäöü\n*sa aeiouyäöü\n.s- ^aeiouyäöü\n&s- 15 16\n&s- 3 17\n&s- 14 18\n&s- 16 19\n&s- 15 20\n&s- 3 21\n&s- 14 22\n@s- 1\n+-a nis\n--- 0 25 niss\n+sa \n|-a 26 27\n&-- 24 28\n.s- bdfghklmnrt\n!s- 30\n!s- 31\n&s- 24 32\n--- 0 24 ern 24 em 29 en 24 er 29 es 29 e 33 s\n|-a 34 27\n.s- bdfghklmnt\n.s- ^\n&s- 37 37\n&s- 37 38\n&s- 36 39\n!s- 40\n!s- 41\n&s- 24 42\n-s- 0 24 est 24 en 24 er 43 st\n|sa 44 27\n@s- 2\n-s- 0 27 e\n!s- 47\n&s- 48 46\n-s- 0 49 ig\n|sa 50 27\n&s- 46 51\n&s- 46 48\n-s- 0 24 en 24 er\n|sa 54 27\n&s- 46 55\n-s- 0 46 lich 46 ig\n|sa 57 27\n&s- 46 58\n-s- 0 56 lich 53 isch 56 heit 59 keit 52 end 52 ung 53 ig 53 ik\n|sa 60 27\n+-a u\n+-a y\n+-a a\n+-a o\n--- 0 62 U 63 Y 64 ä 65 ö 62 ü\n~-a UYäöü 66\n&-a 61 67\n&-a 45 68\n&-a 35 69"}]};
 
   // A class is a list of marks: it begins at the first, ends before the second, begins again at
   // the third.
@@ -86,10 +86,165 @@
     };
   }
 
+  // The numbers of the characters of a text.
+  function codes(text) {
+    var found = [];
+    for (var at = 0; at < text.length; at++) {
+      found.push(text.codePointAt(at));
+      if (found[found.length - 1] > 0xFFFF) at++;
+    }
+    return found;
+  }
+
+  // A class of a table: its characters, or behind a circumflex all others.
+  function group(word) {
+    var others = word[0] === '^', marked = [];
+    codes(others ? word.slice(1) : word).forEach(function (code) {
+      while (marked.length <= code) marked.push(others);
+      marked[code] = !others;
+    });
+    return function (code) { return code < marked.length ? marked[code] : others; };
+  }
+
+  // The suffixes of a step as a tree, from their last characters.
+  function suffixes(words) {
+    var tree = { next: new Map(), step: -1 };
+    for (var at = 1; at < words.length; at += 2) {
+      var node = tree;
+      codes(words[at + 1]).reverse().forEach(function (code) {
+        if (!node.next.has(code)) node.next.set(code, { next: new Map(), step: -1 });
+        node = node.next.get(code);
+      });
+      if (node.step < 0) node.step = Number(words[at]);
+    }
+    return tree;
+  }
+
+  // The stemmer of a table. Its first line has the numbers of the step before and of the main step,
+  // and the marks; each other line is a step. A step takes the length of a text, whose characters
+  // `text` begins with, and gives the length of what it makes of it, or -1 where it doesn't apply;
+  // then it has changed nothing, because only a safe table is read. Steps are nested 400 deep at
+  // most: what lies deeper changes nothing.
+  var FIRST = /^[0-9]{1,4} [0-9]{1,4}( [0-9]{1,4} [0-9]{1,4})*$/;
+  var STEP = new RegExp('^([+.:*]F W|[@!]F N|[&|=]F N N|-F N( N W)*|~F W N)$'
+    .replace(/F/g, '[s-][a-]').replace(/W/g, '[^ ]*').replace(/N/g, '[0-9]{1,4}'));
+  function tableStemmer(lines, name) {
+    var numbers = lines[0].split(' ').map(Number), rows = lines.slice(1), text, regions, steps;
+    if (!FIRST.test(lines[0]) || !rows.every(isSafe)) {
+      throw new Error('the table of ' + name + ' is damaged');
+    }
+
+    // What a step declares: that it only shortens a text, and that it always applies.
+    function shortens(number) { return !rows[number] || rows[number][1] === 's'; }
+    function applies(number) { return !rows[number] || rows[number][2] === 'a'; }
+
+    // Whether the line is a step that is what it declares, and tries only what changes nothing.
+    function isSafe(line) {
+      var sign = line[0], words = line.slice(4).split(' '), a = Number(words[0]), b = Number(words[1]);
+      var isShort = sign === '+' ? words[0] === ''
+        : sign === '-' ? words.every(function (word, at) { return at % 2 === 0 || shortens(Number(word)); })
+        : sign === '&' || sign === '|' ? shortens(a) && shortens(b)
+        : sign !== '=' && sign !== '~';
+      var isSure = sign === '&' || sign === '=' ? applies(a) && applies(b)
+        : sign === '|' ? applies(a) || applies(b)
+        : sign === '+' || sign === '*' || sign === '~';
+      var isFirm = sign === '&' ? shortens(a) || applies(b) : sign === '!' || sign === '=' ? shortens(a) : true;
+      return STEP.test(line) && (isShort || line[1] === '-') && (isSure || line[2] === '-') && isFirm;
+    }
+
+    function apply(number, length, depth) {
+      return depth && steps[number] ? steps[number](length, depth - 1) : length;
+    }
+
+    function stepOf(line) {
+      var words = line.slice(4).split(' '), a = Number(words[0]), b = Number(words[1]);
+      var end = codes(words[0]), isIn = group(words[0]), tree = line[0] === '-' && suffixes(words);
+      return {
+        '+': function (length) {
+          for (var at = 0; at < end.length; at++) text[length++] = end[at];
+          return length;
+        },
+        '@': function (length) { return length < (regions[a] || 0) ? -1 : length; },
+        '.': function (length) { return length && isIn(text[length - 1]) ? length - 1 : -1; },
+        ':': function (length) {
+          var last = text[length - 1];
+          return length > 1 && last === text[length - 2] && isIn(last) ? length - 1 : -1;
+        },
+        '*': function (length) {
+          while (length && isIn(text[length - 1])) length--;
+          return length;
+        },
+        '-': function (length, depth) {
+          var start = regions[a] || 0, node = length < start ? undefined : tree, found = -1, rest = 0;
+          while (node) {
+            if (node.step >= 0) {
+              found = node.step;
+              rest = length;
+            }
+            node = length > start ? node.next.get(text[--length]) : undefined;
+          }
+          return found < 0 ? -1 : apply(found, rest, depth);
+        },
+        '&': function (length, depth) {
+          var left = apply(a, length, depth);
+          return left < 0 ? -1 : apply(b, left, depth);
+        },
+        '|': function (length, depth) {
+          var left = apply(a, length, depth);
+          return left < 0 ? apply(b, length, depth) : left;
+        },
+        '!': function (length, depth) { return apply(a, length, depth) < 0 ? length : -1; },
+        '=': function (length, depth) {
+          var front = apply(a, length, depth);
+          if (front < 0) return -1;
+          var rest = text.slice(front, length), left = apply(b, front, depth);
+          for (var at = 0; left >= 0 && at < rest.length; at++) text[left++] = rest[at];
+          return left;
+        },
+        '~': function (length, depth) {
+          var typed = length, before, left;
+          while (typed && !isIn(text[typed - 1])) typed--;
+          if (!typed) return length;
+          before = text.slice(0, length);
+          typed = 0;
+          for (var at = 0; at < length; at++) {
+            text[typed++] = before[at];
+            left = apply(b, typed, depth);
+            if (left >= 0) typed = left;
+          }
+          return typed;
+        }
+      }[line[0]];
+    }
+
+    // What the step makes of a word, and nothing where it doesn't apply.
+    function run(number, word) {
+      text = word.slice();
+      var left = apply(number, word.length, 400);
+      return left < 0 ? undefined : text.slice(0, left);
+    }
+
+    return function (token) {
+      var word = codes(token), starts = [0], stem = '';
+      steps = steps || lines.slice(1).map(stepOf);
+      regions = [];
+      word = run(numbers[0], word) || word;
+      for (var at = 2; at < numbers.length; at += 2) {
+        var rest = run(numbers[at], word.slice().reverse()) || [];
+        starts.push(Math.max(numbers[at + 1], word.length - rest.length));
+      }
+      regions = starts;
+      word = run(numbers[1], word) || word;
+      for (at = 0; at < word.length; at++) stem += String.fromCodePoint(word[at]);
+      return stem || undefined;
+    };
+  }
+
   FACTS.stages.forEach(function (stage) {
     var run = stage['class'] ? trimmer(stage['class'])
       : stage.words ? stopWords(stage.words)
       : stage.drops ? stemmer(stage.drops, stage.changes)
+      : stage.table ? tableStemmer(stage.table.split('\n'), stage.name)
       : function (token) { return token; };
     delete elasticlunr.Pipeline.registeredFunctions[stage.name];
     elasticlunr.Pipeline.registerFunction(run, stage.name);

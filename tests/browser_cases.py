@@ -6,22 +6,17 @@ import socket
 import subprocess
 import sys
 
-from tests import browser_book, browser_page, browser_pieces, browser_policy, browser_results, browser_speed
+from tests import browser_book, browser_page, browser_pieces, browser_policy, browser_results, browser_speed, browser_stems
 from tests.browser_sentences import PAGES
-from tests.browser_tools import SECONDS, must
+from tests.browser_tools import ALL, SECONDS, in_node, must, own_script
 from tools import search_page
 from tools.repository import TOP, lines_of, program, read, run
 
 BROWSER = ["chromium", "chromedriver", "selenium", "elasticlunr.min.js"]
-ALL = "elasticlunr-languages.js"
 AROUND = {"Russian": "ж{}я", "Korean": "한{}글", "Arabic": "ب{}ت"}
 BLOCK = 0x100
 PART = 0x8000
 LAST = 0x110000
-
-
-def own_script(language):
-    return f"elasticlunr-{language.lower()}.js"
 
 
 def refuses(call, part):
@@ -55,8 +50,9 @@ def refused_name(_world):
 
 def several(_world):
     text, status = script_of("German\nKorean")
-    held = [name in text for name in ["trimmer-de", "stopWordFilter-de", "trimmer-ko", "stopWordFilter-ko", "stemmer-ko", "trimmer-fr"]]
-    must(status == 0 and held == [True] * 5 + [False], held)
+    names = ["trimmer-de", "stopWordFilter-de", "stemmer-de", "trimmer-ko", "stopWordFilter-ko", "stemmer-ko", "trimmer-fr", "stemmer-fr"]
+    held = [name in text for name in names]
+    must(status == 0 and held == [True] * 6 + [False] * 2, held)
 
 
 def script_sizes(_world):
@@ -71,13 +67,6 @@ def scripts():
 
 
 # In node.
-
-def in_node(world, lines):
-    program_text = "\n".join(["const elasticlunr = require('./elasticlunr.min.js');", *lines])
-    ended = run(["node", "-e", program_text], cwd=world.folder, seconds=SECONDS)
-    must(ended.status == 0, ended.err.decode())
-    return ended.out.decode().strip()
-
 
 def node(names):
     def case(world):
@@ -376,6 +365,7 @@ def pages():
 
 
 def groups():
-    return [([], scripts()), (["node", "elasticlunr.min.js"], nodes()), (BROWSER, languages() + readme()),
+    return [([], scripts()), (["node", "elasticlunr.min.js"], nodes() + browser_stems.in_node_cases()), (BROWSER, languages() + readme()),
+            (BROWSER, browser_stems.cases()),
             (BROWSER, books()), (BROWSER, pages() + [("demo: four sites", demo), ("site: a folder of HTML", folder_of_html)]), (BROWSER, browser_pieces.cases()),
             (BROWSER, every_character())]

@@ -10,16 +10,29 @@ import sys
 import threading
 
 from tools import search_page
-from tools.repository import TOP, printed, write
+from tools.repository import TOP, printed, run, write
 
 PACKAGES = {"chromium": "chromium", "chromedriver": "chromium-driver", "node": "nodejs"}  # of Debian, for each program
 SYSTEM_PYTHON = "/usr/bin/python3"
 SECONDS = 120
+ALL = "elasticlunr-languages.js"  # the script for all languages
 POLICY = "policy.txt"  # in a served folder: the Content-Security-Policy of its files
 
 
 def must(holds, why):
     assert holds, why if isinstance(why, str) else json.dumps(why, ensure_ascii=False)
+
+
+def own_script(language):
+    return f"elasticlunr-{language.lower()}.js"
+
+
+def in_node(world, lines):
+    """What these lines of JavaScript print in node, after elasticlunr.js."""
+    program_text = "\n".join(["const elasticlunr = require('./elasticlunr.min.js');", *lines])
+    ended = run(["node", "-e", program_text], cwd=world.folder, seconds=SECONDS)
+    must(ended.status == 0, ended.err.decode())
+    return ended.out.decode().strip()
 
 
 def has_selenium(python):

@@ -47,8 +47,8 @@ LIBRARY = [["c_calls", "rust_crate --built", "dist_files --built", "forgeries c_
 LEAST = {
     "compare_search": 2_900,
     "pieces": 7_400,
-    "browser": 260,
-    "forgeries compare_search pieces browser": 42,
+    "browser": 310,
+    "forgeries compare_search pieces browser": 46,
     "compare_random": 13_000,
     "refuse_memory": 2_000,
     "refuse_calls": 147,

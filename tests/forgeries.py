@@ -314,6 +314,14 @@ SCRIPTS = {
         "search.js", "if (heading) title.replaceChildren(...passage(new Text(heading.text), 0));", "if (heading) title.innerHTML = heading.text;",
         "pieces: hostile references and texts",
     ),
+    "a script whose table lost its last row": ("elasticlunr-danish.js", r'\n&-a 12 34"', '"', "stems: Danish, by elasticlunr-danish.js"),
+    "a stemmer with a wrong mark": (
+        "elasticlunr-german.js", "Math.max(numbers[at + 1], ", "Math.max(0, ", "stems: German, by elasticlunr-german.js",
+    ),
+    "a stemmer that keeps a token without a stem": ("elasticlunr-turkish.js", "return stem || undefined;", "return stem;", "stems: a word without a stem"),
+    "a stemmer that reads what is damaged": (
+        "elasticlunr-german.js", "!rows.every(isSafe)", "false", "stems: damaged tables",
+    ),
 }
 
 

@@ -1,6 +1,6 @@
 -- No number of a script is a float.
 use Rattle.std.proofs.Common.{◌≡◌, ◌||◌, ℕ, false, List, [], ◌∷◌, ◌++◌, map, Option, None, Some, refl, ap, ◌∙◌, subst}
-use Rattle.std.proofs.Common.{sym}
+use Rattle.std.proofs.Common.{sym, option_map, option_to_list}
 use Rattle.std.specs.List.{AllZip, filter_map}
 use Rattle.serde_json.specs.Data.{Data, number, unsigned, string}
 use Rattle.serde_json.specs.View.{items_of}
@@ -11,7 +11,8 @@ use Rattle.elasticlunr_lang.specs.declared.any.AnyLanguage.TheVariants.{English}
 use Rattle.elasticlunr_browser.specs.Facts.{IsFacts}
 use Rattle.elasticlunr_browser.specs.Kinds.{Kind, english_trimmer, stop_words, trimmer, english_stemmer, arabic_stemmer}
 use Rattle.elasticlunr_browser.specs.Kinds.{keep, HoldsKind, HoldsKinds, HoldsLanguage, HoldsLanguages}
-use Rattle.elasticlunr_browser.specs.Stages.{numbers, texts}
+use Rattle.elasticlunr_browser.specs.Stemmers.{with_table, stemmer_data, stemmer_of}
+use Rattle.elasticlunr_stem_tables.specs.declared.language.Language.{Language}
 
 -- none of these values has a float
 abbrev HaveNone : List Data → Type 0
@@ -55,9 +56,16 @@ none-kinds (kind ∷ kinds) (Some d ∷ each) all = (none-kind kind d all.0, non
 held : (kinds : List Kind) (ds : List Data) → HoldsKinds kinds ds → HaveNone ds
 held kinds ds holds = subst HaveNone (sym holds.2) (none-kinds kinds holds.0 holds.1)
 
+none-stemmer : (found : Option Language) → HaveNone (option_to_list (option_map stemmer_data found))
+none-stemmer None = tt
+none-stemmer (Some language) = (refl, tt)
+
 none-language : (language : AnyLanguage) (ds : List Data) → HoldsLanguage language ds → HaveNone ds
 none-language English ds holds = subst HaveNone (sym holds) tt
-none-language language ds holds = held holds.0 ds holds.2
+none-language language ds holds =
+    let (kinds, its, are, all, is) = holds in
+    subst HaveNone (sym is) (none-append its (option_to_list (stemmer_of language)) (held kinds its all)
+    (none-stemmer (with_table language)))
 
 none-languages : (languages : List AnyLanguage) (ds : List Data) → HoldsLanguages languages ds → HaveNone ds
 none-languages [] ds holds = subst HaveNone (sym holds) tt

@@ -1,6 +1,7 @@
 -- Stages of a pipeline by their kinds, and what a script holds of languages, as a loop puts it together.
 use Rattle.std.proofs.Common.{◌≡◌, ◌≢◌, ◌↔◌, ◌<◌, ◌+◌, ℕ, length, take, get_or, List, [], ◌∷◌, ◌++◌, Option, Some, None}
 use Rattle.std.proofs.Common.{MatchOption, IsTrue, map, string_bytes, Result, Ok, Err, refl, sym, ap, subst, ◌∙◌}
+use Rattle.std.proofs.Common.{option_map, option_to_list}
 use Rattle.std.specs.List.{AllZip, AllByRecursion}
 use Rattle.std.specs.Str.{all_scalars}
 use Rattle.std.specs.declared.alloc.Global.{Global}
@@ -25,6 +26,8 @@ use Rattle.elasticlunr_lang.specs.declared.any.AnyLanguage.TheVariants.{Romanian
 use Rattle.elasticlunr_browser.specs.Kinds.{Kind, english_trimmer, stop_words, trimmer, english_stemmer, arabic_stemmer}
 use Rattle.elasticlunr_browser.specs.Kinds.{keep, kind_name, kind_of, KindLeaves, KindsLeave, HoldsKind, HoldsKinds}
 use Rattle.elasticlunr_browser.specs.Kinds.{HoldsStage, HoldsStages, AreStagesOf, HoldsLanguage, HoldsLanguages}
+use Rattle.elasticlunr_browser.specs.Stemmers.{stemmer_of}
+use Rattle.elasticlunr_browser.proofs.StageLemmas.{viewed}
 
 -- what one stage leaves, the others take up alike
 go_on : (P Q : Text → Type 0) (left first : Option Text) → ((t : Text) → P t → Q t) → MatchOption first (left ≡ None) P
@@ -139,9 +142,17 @@ module _ {f x p calls : _} (name_text : DynBox x Global p → Bytes) (leaves : D
           (held.0, same_held stages found.0 held.0 found.1 held.1, held.2),
         )
 
+-- a stemmer behind the values of the stages, where there is one
+pub with_stemmer : (old new : List Value) (found : Option Value) (stemmer : Option Data) → option_map view found
+    ≡ stemmer → new ≡ old ++ option_to_list found → map view new ≡ map view old ++ option_to_list stemmer
+with_stemmer old new found stemmer is put =
+    ap (map view) put ∙ map-append view old (option_to_list found)
+    ∙ ap (λ ds. map view old ++ ds) (viewed found ∙ ap option_to_list is)
+
 -- of a language other than English that is all
 pub holds_language : (language : AnyLanguage) (ds : List Data) → language ≢ English → (kinds : List Kind)
-    × AreStagesOf language kinds × HoldsKinds kinds ds → HoldsLanguage language ds
+    × (its : List Data) × AreStagesOf language kinds × HoldsKinds kinds its
+    × (ds ≡ its ++ option_to_list (stemmer_of language)) → HoldsLanguage language ds
 holds_language English ds other h = absurd (other refl)
 holds_language Arabic ds other h = h
 holds_language Danish ds other h = h

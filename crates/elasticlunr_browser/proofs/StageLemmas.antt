@@ -39,6 +39,11 @@ push_both R [] (z ∷ ys) x y all r = absurd all
 push_both R (z ∷ xs) [] x y all r = absurd all
 push_both R (z ∷ xs) (w ∷ ys) x y all r = (all.0, push_both R xs ys x y all.1 r)
 
+-- what was found, as values of JSON
+pub viewed : (found : Option Value) → map view (option_to_list found) ≡ option_to_list (option_map view found)
+viewed None = refl
+viewed (Some v) = refl
+
 -- one stage more, of which a script holds something or not
 module _ {f x p calls : _} where
   pub one_more : (stages : List (Stage f x p calls)) (stage : Stage f x p calls) (ds : List Data) (found : Option Data)
@@ -64,14 +69,10 @@ module _ {f x p calls : _} where
       let more : take (i + 1) stages ≡ take i stages ++ stage ∷ [] = take_more stages i stage inside
       ∙ ap (λ s. take i stages ++ s ∷ []) (sym at) in
       let values : map view new ≡ map view old ++ option_to_list (option_map view found) = ap (map view) put
-      ∙ map-append view old (option_to_list found) ∙ ap (λ ds. map view old ++ ds) (seen found) in
+      ∙ map-append view old (option_to_list found) ∙ ap (λ ds. map view old ++ ds) (viewed found) in
       subst (λ ss. HoldsStages ss (map view new)) (sym more)
       (subst (HoldsStages (take i stages ++ stage ∷ [])) (sym values)
       (one_more (take i stages) stage (map view old) (option_map view found) are is))
-    where
-      seen : (found : Option Value) → map view (option_to_list found) ≡ option_to_list (option_map view found)
-      seen None = refl
-      seen (Some v) = refl
 
   pub all_stages : (stages : List (Stage f x p calls)) (i : ℕ) (ds : List Data) → length stages ≤ i
       → HoldsStages (take i stages) ds → HoldsStages stages ds

@@ -1,7 +1,7 @@
 -- The kinds of stages of the built-in languages, and what a script holds of a language: what it
--- holds of its stages.
+-- holds of its stages, and its stemmer.
 use Rattle.std.specs.Prelude.{◌≡◌, ◌↔◌, List, [], ◌∷◌, ◌++◌, map, codes, string_bytes, Option, None}
-use Rattle.std.specs.Prelude.{Some, IsSomeAnd, MatchOption, IsTrue}
+use Rattle.std.specs.Prelude.{Some, IsSomeAnd, MatchOption, IsTrue, option_to_list}
 use Rattle.std.specs.List.{filter_map, AllZip}
 use Rattle.std.specs.Str.{all_scalars}
 use Rattle.serde_json.specs.Data.{Data}
@@ -23,6 +23,7 @@ use Rattle.elasticlunr_lang.specs.Known.{language_stages, language_leaves}
 use Rattle.elasticlunr_lang.specs.declared.any.AnyLanguage.{AnyLanguage}
 use Rattle.elasticlunr_lang.specs.declared.any.AnyLanguage.TheVariants.{English}
 use Rattle.elasticlunr_browser.specs.Stages.{IsFilter, IsTrimmer, IsArabic, keep_data}
+use Rattle.elasticlunr_browser.specs.Stemmers.{stemmer_of}
 
 -- a stage that the library has
 pub data Kind : Type 0 where
@@ -79,10 +80,11 @@ pub record AreStagesOf (language : AnyLanguage) (kinds : List Kind) : Type 0 whe
       → KindsLeave kinds token left ↔ language_leaves language token left
 
 -- what a script holds of a language: nothing of English, whose stages elasticlunr.js has, and of
--- another one what it holds of its stages
+-- another one what it holds of its stages, and then its stemmer, if it has a table
 abbrev pub HoldsLanguage : AnyLanguage → List Data → Type 0
 HoldsLanguage English ds = ds ≡ []
-HoldsLanguage language ds = (kinds : List Kind) × AreStagesOf language kinds × HoldsKinds kinds ds
+HoldsLanguage language ds = (kinds : List Kind) × (its : List Data) × AreStagesOf language kinds
+    × HoldsKinds kinds its × (ds ≡ its ++ option_to_list (stemmer_of language))
 
 -- what it holds of several, in order
 abbrev pub HoldsLanguages : List AnyLanguage → List Data → Type 0

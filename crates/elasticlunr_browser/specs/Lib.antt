@@ -1,6 +1,7 @@
 pub mod Marks
 pub mod Pairs
 pub mod Stages
+pub mod Stemmers
 pub mod Kinds
 pub mod Facts
 pub mod Named

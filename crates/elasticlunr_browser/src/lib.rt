@@ -6,4 +6,5 @@ mod classes;
 mod pairs;
 pub mod script;
 mod stages;
+mod stemmers;
 mod template;

@@ -4,13 +4,15 @@ ghost use Rattle.std.specs.List.{AllZip, Any};
 ghost use Rattle.std.specs.Str.Lines.{lines};
 ghost use Rattle.serde_json.specs.View.{view};
 ghost use Rattle.elasticlunr_browser.specs.Facts.{IsFacts, IsScriptOf, IsScriptFor, facts_data};
+ghost use Rattle.elasticlunr_browser.specs.Facts.{has_table, stemmer_part};
 ghost use Rattle.elasticlunr_browser.specs.Kinds.{HoldsLanguages};
 ghost use Rattle.elasticlunr_browser.specs.Named.{IsNameOf, IsNoName, AreNamed};
 
 use crate::classes::{Separators, marks_of};
 use crate::pairs::{LowerCase, pairs_of};
 use crate::stages::{numbers, push_stages, texts};
-use crate::template::{HEAD, TAIL};
+use crate::stemmers::with_table;
+use crate::template::{HEAD, STAGES, STEMMER, TAIL};
 use elasticlunr_lang::{AnyLanguage, from_name, languages};
 use serde_json::{Value, json};
 use std::alloc::{AllocError, Global};
@@ -83,12 +85,31 @@ fn facts(alloc: Global, stages: Vec<Value>) -> Result<Value, AllocError>
     Ok(value)
 }
 
-/// The text between the parts of the template.
-fn framed(alloc: Global, printed: &str) -> Result<String, AllocError>
-    ensures { IfOk result (λ text. string_bytes text ≡ HEAD.now ++ printed.now ++ TAIL.now) }
+/// Whether one of the languages has a table of a stemmer.
+fn has_table(chosen: &[AnyLanguage]) -> bool
+    ensures { result ≡ has_table chosen.now }
+{
+    chosen
+        .iter()
+        .any(|language| with_table(*language).is_some())
+}
+
+/// What makes stages of tables, where there are some.
+fn stemmer_part(stems: bool) -> &'static str
+    ensures { result.now ≡ stemmer_part stems }
+{
+    if stems { STEMMER } else { "" }
+}
+
+/// The text between the parts of the template, with the part that makes stages of tables or without.
+fn framed(alloc: Global, printed: &str, part: &str) -> Result<String, AllocError>
+    ensures { IfOk result (λ text. string_bytes text
+        ≡ HEAD.now ++ printed.now ++ STAGES.now ++ part.now ++ TAIL.now) }
 {
     let mut text = String::from_str(alloc, HEAD)?;
     text.push_str(printed)?;
+    text.push_str(STAGES)?;
+    text.push_str(part)?;
     text.push_str(TAIL)?;
     Ok(text)
 }
@@ -100,7 +121,7 @@ fn text_for(alloc: Global, chosen: &[AnyLanguage]) -> Result<String, AllocError>
     let stages = all_stages(alloc, chosen)?;
     let known = facts(alloc, stages)?;
     let printed = known.to_string(alloc)?;
-    let text = framed(alloc, printed.as_str())?;
+    let text = framed(alloc, printed.as_str(), stemmer_part(has_table(chosen)))?;
     Ok(text)
 }
 

@@ -12,6 +12,7 @@ ghost use Rattle.serde_json.specs.Data.{Data};
 
 use crate::classes::{CharClass, TrimmerClass, marks_of};
 use crate::pairs::{ArabicChange, alone, pairs_of, push_some};
+use crate::stemmers::stemmer_of;
 use elasticlunr_lang::{AnyLanguage, Language};
 use elasticlunr_text::lang::ar;
 use elasticlunr_text::lang::common::{RegexTrimmer, StopWordFilter};
@@ -152,7 +153,8 @@ pub fn stages_of(alloc: Global, pipeline: &Pipeline) -> Result<Vec<Value>, Alloc
     Ok(values)
 }
 
-/// Appends the stages of the language. Those of English are the browser script's own.
+/// Appends the stages of the language, and its stemmer, if it has a table. The stages of English are
+/// elasticlunr.js's own.
 pub fn push_stages(
     alloc: Global,
     language: AnyLanguage,
@@ -169,5 +171,7 @@ pub fn push_stages(
     };
     let pipeline = language.make_pipeline(alloc, empty)?;
     let mut its_own = stages_of(alloc, &pipeline)?;
+    let stemmer = stemmer_of(alloc, language)?;
+    push_some(&mut its_own, stemmer)?;
     stages.append(&mut its_own)
 }

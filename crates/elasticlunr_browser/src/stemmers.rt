@@ -1,0 +1,62 @@
+//! The stemmers of the languages with a table, as a script holds them.
+ghost use Rattle.std.specs.Prelude.{◌≡◌, option_map, IfOk};
+ghost use Rattle.serde_json.specs.View.{view};
+ghost use Rattle.elasticlunr_browser.specs.Stemmers as spec;
+ghost use Rattle.elasticlunr_browser.specs.Stemmers.{table_data, stemmer_data};
+
+use elasticlunr_lang::AnyLanguage;
+use elasticlunr_stem_tables::{Language, Version};
+use serde_json::{Value, json};
+use std::alloc::{AllocError, Global};
+
+/// The language of the tables that has the same name.
+pub(crate) fn with_table(language: AnyLanguage) -> Option<Language>
+    ensures { result ≡ spec.with_table language }
+{
+    match language {
+        AnyLanguage::English => None,
+        AnyLanguage::Arabic => None,
+        AnyLanguage::Danish => Some(Language::Danish),
+        AnyLanguage::Dutch => Some(Language::Dutch),
+        AnyLanguage::Finnish => Some(Language::Finnish),
+        AnyLanguage::French => Some(Language::French),
+        AnyLanguage::German => Some(Language::German),
+        AnyLanguage::Italian => Some(Language::Italian),
+        AnyLanguage::Korean => None,
+        AnyLanguage::Norwegian => Some(Language::Norwegian),
+        AnyLanguage::Portuguese => Some(Language::Portuguese),
+        AnyLanguage::Romanian => Some(Language::Romanian),
+        AnyLanguage::Russian => Some(Language::Russian),
+        AnyLanguage::Spanish => Some(Language::Spanish),
+        AnyLanguage::Swedish => Some(Language::Swedish),
+        AnyLanguage::Turkish => Some(Language::Turkish),
+    }
+}
+
+/// What a script holds of a table.
+fn table_value(alloc: Global, name: &str, table: &str) -> Result<Value, AllocError>
+    ensures { IfOk result (λ value. view value ≡ table_data name.now table.now) }
+{
+    json!(in alloc; {"name": name, "table": table})
+}
+
+/// A stemmer: the name of its stage, and the text of its table.
+fn stemmer(alloc: Global, language: Language) -> Result<Value, AllocError>
+    ensures { IfOk result (λ value. view value ≡ stemmer_data language) }
+{
+    let code = language.code();
+    let name = format!(in alloc; "stemmer-{code}")?;
+    let table = language.table(Version::Current);
+    let value = table_value(alloc, name.as_str(), table)?;
+    Ok(value)
+}
+
+/// The stemmer of a language, if it has a table.
+pub fn stemmer_of(alloc: Global, language: AnyLanguage) -> Result<Option<Value>, AllocError>
+    ensures { IfOk result (λ found. option_map view found ≡ spec.stemmer_of language) }
+{
+    match with_table(language) {
+        Some(known) => Ok(Some(stemmer(alloc, known)?)),
+        None => Ok(None),
+    }
+}

@@ -5,6 +5,7 @@ use Rattle.std.specs.Char.{to_ascii_lowercase}
 use Rattle.elasticlunr_diagnostics.proofs.Names.{next_nearer, next_no_nearer}
 use Rattle.elasticlunr_diagnostics.specs.Nearest.{IsNearest, edits, few, small}
 use Rattle.elasticlunr_diagnostics.proofs.nearest.nearest.Goals as goal
+use Rattle.std.proofs.Common.{rules}
 use Rattle.elasticlunr_diagnostics.proofs.nearest.nearest.Goals.{then-edits-too_many, else-edits-too_many}
 
 pub loop-name-preserved : goal.loop-name-preserved
@@ -40,3 +41,6 @@ returns c =
     (subst (λ most. IsNearest (λ name. edits asked (small name.now)) most names c.loop-name.best) as_few
     (subst (λ l. IsNearest (λ name. edits asked (small name.now)) (few asked) l c.loop-name.best) whole
     c.loop-name.invariant.0))
+
+pub loop-name-init : goal.loop-name-init
+loop-name-init c = search rules

@@ -14,6 +14,7 @@ use Rattle.elasticlunr_job.proofs.Filling.{Any_at, All_more, are_given, All_whol
 use Rattle.elasticlunr_job.proofs.Printing.{carried}
 use Rattle.elasticlunr_job.proofs.Stops.{err_more, later_too_many, ok_always, ok_more}
 use Rattle.elasticlunr_job.proofs.answer.fill_and_make.Goals as goal
+use Rattle.std.proofs.Common.{rules}
 use Rattle.elasticlunr_job.proofs.answer.fill_and_make.Goals.{then-job+in_ok-compact, else-job}
 
 pub loop-doc-init : goal.loop-doc-init
@@ -147,3 +148,24 @@ returns-clause-ok g c = ok_more c.made_of.result _ _ (λ made holds language bui
       holds
 ])
     c.made_of.ensures.ok
+
+pub invariant_of-index : goal.invariant_of-index
+invariant_of-index g c = search rules
+
+pub invariant_of-index-in_err-words : goal.invariant_of-index-in_err-words
+invariant_of-index-in_err-words g c = search rules
+
+pub invariant_of-index-in_err-values : goal.invariant_of-index-in_err-values
+invariant_of-index-in_err-values g c = search rules
+
+pub invariant_of-index-in_err-add_doc_with_tokens : goal.invariant_of-index-in_err-add_doc_with_tokens
+invariant_of-index-in_err-add_doc_with_tokens g c = search rules
+
+pub invariant_of-index-in_err-remove_doc : goal.invariant_of-index-in_err-remove_doc
+invariant_of-index-in_err-remove_doc g c = search rules
+
+pub invariant_of-index-in_err-compact : goal.invariant_of-index-in_err-compact
+invariant_of-index-in_err-compact g c = search rules
+
+pub invariant_of-index-2 : goal.invariant_of-index-2
+invariant_of-index-2 g c = search rules

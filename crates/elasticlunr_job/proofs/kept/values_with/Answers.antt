@@ -5,6 +5,8 @@ use Rattle.elasticlunr.specs.Fields.{borrowed}
 use Rattle.elasticlunr_text.specs.Text.{texts_of, word_texts}
 use Rattle.elasticlunr_job.specs.Given.{AreGiven, IsSourceOf}
 use Rattle.elasticlunr_job.proofs.KeptWords.{enough, given_more, its_own, next_start}
+use Rattle.std.proofs.Common.{arith, rules}
+use Rattle.std.proofs.lemmas.Grind.{common_steps}
 use Rattle.elasticlunr_job.proofs.kept.values_with.Goals as goal
 
 pub source_at-requires : goal.source_at-requires
@@ -38,3 +40,9 @@ loop-i-preserved c =
       after = c.end_of-start.ensures ∙ ap (λ o. start + unwrap_or o 0) c.count_at-count.ensures
           ∙ next_start words kept c.requires i start after here refl;
     }
+
+pub loop-i-init : goal.loop-i-init
+loop-i-init c = search rules
+
+pub returns : goal.returns
+returns c = grind (arith, common_steps)

@@ -7,3 +7,9 @@ pub returns-in-Ok-Refused : goal.returns-in-Ok-Refused
 returns-in-Ok-Refused c =
     let refused : c.in-Ok-Refused.field-0 ≡ Refused c.in-Ok-Refused.field-0-0 = search rules in
     ap status_of (sym (c.in-Ok-Refused.is ∙ ap Ok refused))
+
+pub returns-in-Ok-Printed : goal.returns-in-Ok-Printed
+returns-in-Ok-Printed c = search rules
+
+pub returns-in-Err : goal.returns-in-Err
+returns-in-Err c = search rules

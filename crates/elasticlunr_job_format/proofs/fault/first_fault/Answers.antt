@@ -6,6 +6,7 @@ use Rattle.elasticlunr_job_format.specs.declared.key.Key.{Key}
 use Rattle.elasticlunr_job_format.specs.declared.key.Key.TheVariants.{Fields}
 use Rattle.elasticlunr_job_format.proofs.JobFaults.{all_places, fault_no_job, first_member_fault, first_missing_fault}
 use Rattle.elasticlunr_job_format.proofs.JobFaults.{if_none, job_from, place_in}
+use Rattle.std.proofs.Common.{rules}
 use Rattle.elasticlunr_job_format.proofs.fault.first_fault.Goals as goal
 
 earlier : (a b i : ℕ) → a < b → b ≡ i + 1 → a ≤ i
@@ -38,3 +39,15 @@ returns-clause-some c = first_missing_fault (view c.args.value.now) c.in_ok-key.
 
 pub returns-clause-no_job : goal.returns-clause-no_job
 returns-clause-no_job c = fault_no_job (view c.args.value.now) (Missing c.in_ok-key.key) (returns-clause-some c).has
+
+pub returns-in-Some-clause-some : goal.returns-in-Some-clause-some
+returns-in-Some-clause-some c = search rules
+
+pub returns-in-Some-clause-no_job : goal.returns-in-Some-clause-no_job
+returns-in-Some-clause-no_job c = search rules
+
+pub loop-key-init : goal.loop-key-init
+loop-key-init c = search rules
+
+pub loop-key-preserved : goal.loop-key-preserved
+loop-key-preserved c = search rules

@@ -2,6 +2,8 @@ use Rattle.std.proofs.Common.{◌≡◌, ◌<◌, ◌-◌, Result, Ok, Err, OnEr
 use Rattle.std.specs.Io.KnownBytes.{Consumes}
 use Rattle.elasticlunr_job_format.specs.LineRead.{HasNoFeed, fed}
 use Rattle.elasticlunr_job_format.proofs.LineParts.{before_last, consumes_more, fed_is, joined, last_read, still_none}
+use Rattle.std.proofs.Common.{rules}
+use Rattle.std.proofs.lemmas.Grind.{common_steps}
 use Rattle.elasticlunr_job_format.proofs.reader.read_line.Goals as goal
 
 on_err : {T E : Type 0} (r : Result T E) (P : Type 0) → P → OnErr r P
@@ -82,3 +84,21 @@ parts-preserved g c =
           (last_read buf.items c.len.result c.index.result.now (omega (arith, buf.ok.0, c.len.ensures)) (omega arith)
           c.index.ensures) c.if-index-eq10.false;
     }
+
+pub parts-init : goal.parts-init
+parts-init g c = search rules
+
+pub returns-then-count-eq0-clause-line : goal.returns-then-count-eq0-clause-line
+returns-then-count-eq0-clause-line g c = grind (arith, common_steps)
+
+pub returns-then-count-eq0-clause-taken : goal.returns-then-count-eq0-clause-taken
+returns-then-count-eq0-clause-taken g c = search rules
+
+pub returns-then-count-eq0-clause-last : goal.returns-then-count-eq0-clause-last
+returns-then-count-eq0-clause-last g c = search rules
+
+pub returns-then-index-eq10-clause-last : goal.returns-then-index-eq10-clause-last
+returns-then-index-eq10-clause-last g c = search rules
+
+pub returns-clause-none_lost : goal.returns-clause-none_lost
+returns-clause-none_lost g c = search rules

@@ -45,3 +45,6 @@ returns-in_ok-lengths-in-None-clause-ok c =
     (c.in_ok-lengths-in-None.ensures i))
     ∙ (λ i. insert (document_lengths old.entries) r
     (insert (unwrap_or (sym none i) empty) c.args.field.now c.args.length))) c.put_lengths.ensures.ok
+
+pub returns-in_ok-lengths-in-None-clause-err : goal.returns-in_ok-lengths-in-None-clause-err
+returns-in_ok-lengths-in-None-clause-err c = search rules

@@ -11,6 +11,7 @@ use Rattle.elasticlunr_store_maps.specs.SmallLengths.{HasSmallLengths}
 use Rattle.elasticlunr_store_maps.proofs.Kept.{small_empty, small_inserted}
 use Rattle.elasticlunr_json.proofs.ReadingMaps.{read_more, foreign_member, object_of, no_members_yet}
 use Rattle.elasticlunr_json.proofs.Refusals.{refused_again}
+use Rattle.std.proofs.Common.{rules}
 use Rattle.elasticlunr_store_maps.proofs.read.read_document_lengths.Goals as goal
 
 pub loop-doc_ref-init : goal.loop-doc_ref-init
@@ -64,3 +65,6 @@ returns-in_err-lengths-clause-err c =
 
 pub returns-clause-small : goal.returns-clause-small
 returns-clause-small c = c.loop-doc_ref.invariant.3
+
+pub returns-in_default-clause-err : goal.returns-in_default-clause-err
+returns-in_default-clause-err c = search rules

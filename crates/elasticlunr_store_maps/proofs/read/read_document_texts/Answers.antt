@@ -9,6 +9,7 @@ use Rattle.elasticlunr_json.specs.Maps.{keyed}
 use Rattle.elasticlunr_store_maps.specs.Contents.{text_map, document_texts}
 use Rattle.elasticlunr_json.proofs.ReadingMaps.{read_more, foreign_member, object_of, no_members_yet}
 use Rattle.elasticlunr_json.proofs.Refusals.{refused_again}
+use Rattle.std.proofs.Common.{rules}
 use Rattle.elasticlunr_store_maps.proofs.read.read_document_texts.Goals as goal
 
 pub loop-doc_ref-init : goal.loop-doc_ref-init
@@ -52,3 +53,6 @@ returns-in_err-texts-clause-err c =
     refused_again _ _ (foreign_member (keyed string) (view c.args.value.now) c.in-Some.members.now.entries held.0
     (c.in-Some-2.doc_ref.now, c.in-Some-2.texts.now) c.next.new.self (object_of _ _ c.in-Some.ensures) more)
     c.in_err-texts.field-0.0 c.from_residual.result c.from_residual.ensures.1 c.in_err-texts.ensures.err
+
+pub returns-in_default-clause-err : goal.returns-in_default-clause-err
+returns-in_default-clause-err c = search rules

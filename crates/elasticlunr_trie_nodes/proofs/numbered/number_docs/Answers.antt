@@ -13,6 +13,7 @@ use Rattle.elasticlunr_trie_nodes.proofs.Gathered.{Gathered, gathered_none, gath
 use Rattle.elasticlunr_trie_nodes.proofs.Gathered.{extends_on, extends_entered, none_listed_yet, nobody_at, bytes_push}
 use Rattle.elasticlunr_trie_nodes.proofs.Settled.{same_named}
 use Rattle.elasticlunr_trie_nodes.proofs.Tables.{get_named}
+use Rattle.std.proofs.Common.{rules}
 use Rattle.elasticlunr_trie_nodes.proofs.numbered.number_docs.Goals as goal
 
 pub loop-doc_ref-init : goal.loop-doc_ref-init
@@ -70,3 +71,15 @@ returns-clause-same c =
     ∙ gathered_all _ _ (subst (λ es. Gathered (λ q. at c.loop-doc_ref.names q c.loop-doc_ref.postings) (bytes_of es)
     (bytes_of c.args.docs.now.entries)) all held.gathered) r
     ∙ sym (finite.get-from_entries nat_list_cmp_total (bytes_of c.args.docs.now.entries) r))
+
+pub returns-clause-names : goal.returns-clause-names
+returns-clause-names c = search rules
+
+pub returns-clause-extends : goal.returns-clause-extends
+returns-clause-extends c = search rules
+
+pub returns-clause-keeps : goal.returns-clause-keeps
+returns-clause-keeps c = search rules
+
+pub returns-clause-listed : goal.returns-clause-listed
+returns-clause-listed c = search rules

@@ -10,6 +10,7 @@ use Rattle.elasticlunr_trie_nodes.proofs.Gathered.{extends_on, extends_entered, 
 use Rattle.elasticlunr_trie_nodes.proofs.Named.{found_at, get_pairs_named, name_there, under_more}
 use Rattle.elasticlunr_trie_nodes.proofs.Settled.{same_named}
 use Rattle.elasticlunr_trie_nodes.proofs.Tables.{get_named}
+use Rattle.std.proofs.Common.{rules}
 use Rattle.elasticlunr_trie_nodes.proofs.numbered.renumber.Goals as goal
 
 pub loop-i-init : goal.loop-i-init
@@ -78,3 +79,15 @@ returns-clause-same c =
     (under_names c.args.old_names.now es) (under_names c.args.old_names.now (entries c.args.old.now))) all
     c.loop-i.invariant.gathered) r
     ∙ sym (get_pairs_named c.args.old_names.now c.requires.old_names (entries c.args.old.now) c.requires.postings r))
+
+pub returns-clause-names : goal.returns-clause-names
+returns-clause-names c = search rules
+
+pub returns-clause-extends : goal.returns-clause-extends
+returns-clause-extends c = search rules
+
+pub returns-clause-keeps : goal.returns-clause-keeps
+returns-clause-keeps c = search rules
+
+pub returns-clause-listed : goal.returns-clause-listed
+returns-clause-listed c = search rules

@@ -3,6 +3,7 @@ use Rattle.elasticlunr_trie_nodes.specs.Pairs.{IsStrictlySorted}
 use Rattle.elasticlunr_trie_nodes.proofs.Found.{value-remove, GetsAfterRemove}
 use Rattle.elasticlunr_trie_nodes.proofs.Gap.{sorted_remove, value_in_gap}
 use Rattle.elasticlunr_trie_nodes.proofs.Frequencies.{seen_remove, seen_absent}
+use Rattle.std.proofs.Common.{rules}
 use Rattle.elasticlunr_trie_nodes.proofs.postings.remove_pair.Goals as goal
 
 pub returns-in-Ok-clause-sorted : goal.returns-in-Ok-clause-sorted
@@ -21,3 +22,6 @@ returns-in-Ok-clause-removed c =
 pub returns-in_default-clause-removed : goal.returns-in_default-clause-removed
 returns-in_default-clause-removed c =
     seen_absent _ c.requires _ (value_in_gap _ _ _ c.in_default.ensures.absent)
+
+pub returns-in_default-clause-sorted : goal.returns-in_default-clause-sorted
+returns-in_default-clause-sorted c = search rules

@@ -13,3 +13,21 @@ returns-in-Some-place_of-clause-trie g c = λ commands stands.
       table_of_held _ commands c.in-Some.contents i c.index.result.now inside c.index.ensures
           (held _ _ c.in-Some.contents commands c.in-Some.is stands),
     )
+
+pub returns-in_default-clause-failed : goal.returns-in_default-clause-failed
+returns-in_default-clause-failed g c = search rules
+
+pub returns-in_default-clause-errors : goal.returns-in_default-clause-errors
+returns-in_default-clause-errors g c = search rules
+
+pub returns-in-Some-place_of-clause-failed : goal.returns-in-Some-place_of-clause-failed
+returns-in-Some-place_of-clause-failed g c = search rules
+
+pub returns-in-Some-place_of-clause-found : goal.returns-in-Some-place_of-clause-found
+returns-in-Some-place_of-clause-found g c = search rules
+
+pub returns-in-None-clause-failed : goal.returns-in-None-clause-failed
+returns-in-None-clause-failed g c = search rules
+
+pub returns-in-None-clause-found : goal.returns-in-None-clause-found
+returns-in-None-clause-found g c = search rules

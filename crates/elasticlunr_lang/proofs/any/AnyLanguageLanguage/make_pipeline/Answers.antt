@@ -1,4 +1,5 @@
 use Rattle.elasticlunr_lang.proofs.KnownLemmas.{language_stages-class, language_leaves-class}
+use Rattle.std.proofs.Common.{rules}
 use Rattle.elasticlunr_lang.proofs.any.AnyLanguageLanguage.make_pipeline.Goals as goal
 
 pub returns-in-English-clause-leaves : goal.returns-in-English-clause-leaves
@@ -33,3 +34,21 @@ returns-in_default g c =
           c.class_pipeline.ensures.leaves;
       known = c.class_pipeline.ensures.known;
     }
+
+pub returns-in-English-clause-names : goal.returns-in-English-clause-names
+returns-in-English-clause-names g c = search rules
+
+pub returns-in-English-clause-known : goal.returns-in-English-clause-known
+returns-in-English-clause-known g c = search rules
+
+pub returns-in-Arabic-clause-names : goal.returns-in-Arabic-clause-names
+returns-in-Arabic-clause-names g c = search rules
+
+pub returns-in-Arabic-clause-known : goal.returns-in-Arabic-clause-known
+returns-in-Arabic-clause-known g c = search rules
+
+pub returns-in-Korean-clause-names : goal.returns-in-Korean-clause-names
+returns-in-Korean-clause-names g c = search rules
+
+pub returns-in-Korean-clause-known : goal.returns-in-Korean-clause-known
+returns-in-Korean-clause-known g c = search rules

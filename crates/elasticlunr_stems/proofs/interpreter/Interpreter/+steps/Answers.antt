@@ -6,6 +6,7 @@ use Rattle.elasticlunr_stems.specs.Views.{applied_in, steps_of, step_of, shorten
 use Rattle.elasticlunr_stems.proofs.RunLemmas.{IfOk-map, both-gives, firm-stays, keep-gives, found-passes, Stays-wider}
 use Rattle.elasticlunr_stems.proofs.RunLemmas.{applied-some, applied-none, all-found}
 use Rattle.elasticlunr_stems.proofs.RunLemmas.{step-is-safe, step-shortens, some-step, no-step}
+use Rattle.std.proofs.lemmas.Grind.{common_steps}
 use Rattle.elasticlunr_stems.proofs.interpreter.Interpreter.+steps.Goals as goal
 
 pub apply-carry_out-requires : goal.apply-carry_out-requires
@@ -100,3 +101,9 @@ keep-returns t c =
           (c.in_ok-add.ensures.text ∙ ap (λ (e : List ℕ). take c.in-Some-left.rest c.apply-2.new.buffer.items ++ e)
           c.as_slice-2.ensures.value),
     )
+
+pub sweep-loop-c-init : goal.sweep-loop-c-init
+sweep-loop-c-init t c = search rules
+
+pub sweep-loop-c-preserved : goal.sweep-loop-c-preserved
+sweep-loop-c-preserved t c = grind (arith, common_steps)

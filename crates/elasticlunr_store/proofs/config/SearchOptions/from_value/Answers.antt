@@ -3,6 +3,7 @@ use Rattle.serde_json.specs.Find.{get}
 use Rattle.serde_json.specs.View.{view}
 use Rattle.elasticlunr_store.specs.Options.{ReadsFields}
 use Rattle.elasticlunr_json.proofs.Refusals.{refused_again}
+use Rattle.std.proofs.Common.{rules}
 use Rattle.elasticlunr_store.proofs.config.SearchOptions.from_value.Goals as goal
 
 pub returns-in_err-fields-clause-err : goal.returns-in_err-fields-clause-err
@@ -28,3 +29,9 @@ returns-in_default-get-clause-err c options reads =
     let none : get (codes "fields") (view c.args.value.now) ≡ None = sym c.in_default-get.ensures in
     let some = reads.there in
     cc
+
+pub returns-in_default-clause-err : goal.returns-in_default-clause-err
+returns-in_default-clause-err c = search rules
+
+pub returns-in_default-read_expand-clause-err : goal.returns-in_default-read_expand-clause-err
+returns-in_default-read_expand-clause-err c = search rules

@@ -3,6 +3,7 @@ use Rattle.elasticlunr_store.specs.Contents.{IsConsistent, with_length, contents
 use Rattle.elasticlunr_store.specs.SmallLengths.{HasSmallLengths}
 use Rattle.elasticlunr_store_maps.proofs.AreContents.{are_contents, small_lengths}
 use Rattle.elasticlunr_store_maps.proofs.Kept.{length_kept, length_small}
+use Rattle.std.proofs.Common.{rules}
 use Rattle.elasticlunr_store.proofs.document_store.DocumentStore.add_field_length.Goals as goal
 
 pub invariant_of-self-2 : goal.invariant_of-self-2
@@ -24,3 +25,6 @@ returns-clause-ok c =
     let set = c.in_ok-set_length.ensures.ok in
     (λ i. record { save = c.self.inside.save; texts = document_texts c.self.inside.docs.entries; lengths = set i })
     ∙ ap (λ s. with_length s c.args.doc_ref.now c.args.field.now c.args.length) c.self.view_is
+
+pub invariant_of-self : goal.invariant_of-self
+invariant_of-self c = search rules

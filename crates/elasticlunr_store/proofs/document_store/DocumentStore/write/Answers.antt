@@ -7,6 +7,7 @@ use Rattle.elasticlunr_store.specs.Contents.{store_object, store_value, text_map
 use Rattle.elasticlunr_json.proofs.Seen.{on_ok}
 use Rattle.elasticlunr_json.proofs.Sorted.{len_seen}
 use Rattle.elasticlunr_json.proofs.Rows.{six}
+use Rattle.std.proofs.Common.{rules}
 use Rattle.elasticlunr_store.proofs.document_store.DocumentStore.write.Goals as goal
 
 pub returns-clause-written : goal.returns-clause-written
@@ -21,3 +22,6 @@ returns-clause-written g c =
     (keyed (keyed count) (document_lengths c.self.inside.doc_info.entries)) n))) (c.len-length.ensures.len
     ∙ sym all)
     ∙ ap (λ s. old ++ json_tokens (outline (store_value s))) c.self.view_is) c.write_last_members.ensures
+
+pub returns-clause-contents : goal.returns-clause-contents
+returns-clause-contents g c = search rules

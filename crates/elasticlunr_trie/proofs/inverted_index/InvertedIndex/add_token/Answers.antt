@@ -7,6 +7,7 @@ use Rattle.elasticlunr_trie_nodes.specs.Table.{AddsToken}
 use Rattle.elasticlunr_trie_nodes.specs.Trie.{table_of}
 use Rattle.elasticlunr_trie_nodes.proofs.Letters.{some_character, no_character}
 use Rattle.elasticlunr_trie.proofs.TokenCache.{ends_kept}
+use Rattle.std.proofs.Common.{rules}
 use Rattle.elasticlunr_trie.proofs.inverted_index.InvertedIndex.add_token.Goals as goal
 
 on_err : {T E : Type 0} (r : Result T E) (P : Type 0) → P → OnErr r P
@@ -51,3 +52,9 @@ invariant_of-self-2 c = (
   rw c.replace-ends.ensures.value
       (ends_kept _ _ c.self.inside.ends c.in_ok-add_posting.ensures.paths c.self.invariant.1),
 )
+
+pub returns-then-is_empty-clause-empty_token : goal.returns-then-is_empty-clause-empty_token
+returns-then-is_empty-clause-empty_token c = search rules
+
+pub invariant_of-self : goal.invariant_of-self
+invariant_of-self c = search rules

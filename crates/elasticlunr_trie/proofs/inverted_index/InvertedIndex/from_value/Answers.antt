@@ -1,5 +1,6 @@
 use Rattle.serde_json.specs.View.{view}
 use Rattle.elasticlunr_trie.proofs.Bounds.{nodes_table}
+use Rattle.std.proofs.Common.{rules}
 use Rattle.elasticlunr_trie.proofs.inverted_index.InvertedIndex.from_value.Goals as goal
 
 pub returns-clause-table : goal.returns-clause-table
@@ -11,3 +12,6 @@ returns-in_default-clause-foreign c T table value = c.only_member.ensures.none c
 
 pub returns-clause-ok : goal.returns-clause-ok
 returns-clause-ok c = (view c.in-Some.root.now, c.in-Some.ensures.found, c.in_ok-root.ensures.tree)
+
+pub invariant_of-result : goal.invariant_of-result
+invariant_of-result c = search rules

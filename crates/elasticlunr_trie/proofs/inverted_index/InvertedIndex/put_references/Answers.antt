@@ -6,6 +6,7 @@ use Rattle.elasticlunr_trie_nodes.specs.Table.{postings}
 use Rattle.elasticlunr_trie_nodes.proofs.Named.{no_names, pairs_are, pairs_named}
 use Rattle.elasticlunr_trie.specs.References.{texts_in}
 use Rattle.elasticlunr_trie.proofs.References.{or_none, on_err}
+use Rattle.std.proofs.Common.{rules}
 use Rattle.elasticlunr_trie.proofs.inverted_index.InvertedIndex.put_references.Goals as goal
 
 pub put_names-requires-clause-postings : goal.put_names-requires-clause-postings
@@ -45,3 +46,9 @@ returns-in-None-clause-listed c r =
     or_none (is_listed r (texts_in c.args.found.now))
     ∙ ap (λ b. is_listed r (texts_in c.args.found.now) || b) (sym (ap is_some (get-empty text_cmp r))
     ∙ ap (λ Q. is_some (get Q r)) none)
+
+pub returns-in_ok-put_names-in-Some-clause-keeps : goal.returns-in_ok-put_names-in-Some-clause-keeps
+returns-in_ok-put_names-in-Some-clause-keeps c = search rules
+
+pub returns-in-None-clause-keeps : goal.returns-in-None-clause-keeps
+returns-in-None-clause-keeps c = search rules

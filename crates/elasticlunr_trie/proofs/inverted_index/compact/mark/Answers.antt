@@ -7,6 +7,7 @@ use Rattle.elasticlunr_trie.specs.Compact.{is_marked}
 use Rattle.elasticlunr_trie_nodes.specs.declared.nodes.Place.TheVariants.{At}
 use Rattle.elasticlunr_trie_nodes.proofs.Places.{get_there}
 use Rattle.elasticlunr_trie.proofs.Compact.{one_marked}
+use Rattle.std.proofs.Common.{rules}
 use Rattle.elasticlunr_trie.proofs.inverted_index.compact.mark.Goals as goal
 
 pub bears_posting-bears-requires-clause-sorted : goal.bears_posting-bears-requires-clause-sorted
@@ -44,3 +45,12 @@ loop-i-preserved c =
       each = one_marked nodes c.requires.trie marks i b (omega (arith, c.loop-i.invariant.low)) c.loop-i.invariant.count
           (λ k up lt. c.loop-i.invariant.each k (omega arith) lt) tells;
     }
+
+pub loop-i-init : goal.loop-i-init
+loop-i-init c = search rules
+
+pub returns-clause-count : goal.returns-clause-count
+returns-clause-count c = search rules
+
+pub returns-clause-each : goal.returns-clause-each
+returns-clause-each c = search rules

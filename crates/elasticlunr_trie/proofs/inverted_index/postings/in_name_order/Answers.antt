@@ -6,6 +6,7 @@ use Rattle.elasticlunr_trie_nodes.specs.Pairs.{key_at}
 use Rattle.elasticlunr_trie_nodes.proofs.Named.{name_there, under_more}
 use Rattle.elasticlunr_trie.specs.Tokens.{told_postings}
 use Rattle.elasticlunr_trie.proofs.NameOrder.{in_name_order, told_behind}
+use Rattle.std.proofs.Common.{rules}
 use Rattle.elasticlunr_trie.proofs.inverted_index.postings.in_name_order.Goals as goal
 
 pub name-requires : goal.name-requires
@@ -50,3 +51,6 @@ returns c =
     in_name_order names c.requires.names pairs c.requires.postings c.loop-i.named.items
     c.sort_unstable.new.self.items (c.loop-i.invariant ∙ ap (under_names names) all)
     c.sort_unstable.ensures.permutation c.sort_unstable.ensures.sorted
+
+pub loop-i-init : goal.loop-i-init
+loop-i-init c = search rules

@@ -2,6 +2,7 @@ use Rattle.std.proofs.Common.{◌≡◌, sym, ap, subst, ◌∙◌, arith, lengt
 use Rattle.elasticlunr_trie_nodes.specs.Names.{AreNames, AreRanks, HasNumbersBelow, names_of}
 use Rattle.elasticlunr_trie_nodes.proofs.Naming.{numbers_below, numbers_differ, names_ranked}
 use Rattle.elasticlunr_trie_nodes.proofs.Numbers.{length-names}
+use Rattle.std.proofs.Common.{rules}
 use Rattle.elasticlunr_trie_nodes.proofs.names.Names.ranks.Goals as goal
 
 pub set_ranks-requires-clause-in_range : goal.set_ranks-requires-clause-in_range
@@ -39,3 +40,9 @@ returns c =
     subst (λ ns. AreRanks ns c.set_ranks.new.ranks.items) c.self.view_is
     (names_ranked c.self.inside.numbers names c.self.invariant.0 c.len.ensures.ordered are c.set_ranks.new.ranks.items
     (c.set_ranks.ensures.count ∙ count) c.set_ranks.ensures.ranks)
+
+pub loop-init : goal.loop-init
+loop-init c = search rules
+
+pub loop-preserved : goal.loop-preserved
+loop-preserved c = search rules

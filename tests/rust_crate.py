@@ -10,9 +10,10 @@ is fetched. Without cargo or these crates the check is skipped, and says so.
 - The tests of the crate pass, and its examples in the documentation.
 - The program examples/site.rs prints, of the table of jobs and of random ones, what the definitions say, and of a small site in
   each language what elasticlunr_index prints, where that is built. With `as-original` it prints what elasticlunr-rs 3.0.2
-  prints (rust/elasticlunr-rs/tests/original.jsonl: the original without its Snowball stemmers).
+  prints (rust/elasticlunr-rs/tests/original.jsonl: the original without its Snowball stemmers). With `rust-stemmers` it prints
+  of a small site in each language that has a stemmer what the definitions say of its stems (tests/stems_model.py).
 - Out of memory ends a program as it does everywhere in Rust.
-- The lists of stop words are those of the repository.
+- The lists of stop words and the tables of stemmers are those of the repository; the Hungarian list stands here alone.
 - A feature of elasticlunr-rs that is missing stops the build with a message.
 """
 import glob
@@ -30,8 +31,10 @@ sys.path.insert(0, os.path.join(os.path.dirname(__file__), ".."))
 from tests import model, random_jobs
 from tests.browser_sentences import PAGES
 from tests.report import Results
+from tests.model_tokens import LANGUAGES, stages
+from tests.stems_model import Stemmer
 from tests.tables import jobs
-from tools import library
+from tools import library, rust_tables
 from tools.repository import TOP, lines_of, printed, program, read, run
 
 CRATE = os.path.join(TOP, "rust/elasticlunr-rs")
@@ -39,9 +42,10 @@ ORIGINAL = os.path.join(CRATE, "tests/original.jsonl")
 BELOW = ("serde", "serde_derive", "serde_json", "regex")  # the crates that must be there
 TABLES = os.path.join(TOP, "crates/elasticlunr_vectors/data")
 REGISTRIES = ["/usr/share/cargo/registry", os.path.join(TOP, "out/compare/*/registry")]
-MODES = {"plain": [], "as-original": ["--features", "as-original"]}
-MISSING = ("bin", "hu", "ja", "rust-stemmers", "zh")
+MODES = {"plain": [], "as-original": ["--features", "as-original"], "stems": ["--features", "rust-stemmers hu"]}
+MISSING = ("bin", "ja", "zh")
 STOP_WORDS = ("crates/elasticlunr_vectors/data/stopwords", "rust/elasticlunr-rs/src/lang/stop_words")
+HUNGARIAN = ("hu.txt", 790)  # a list of stop words that only the crate has, and its words
 FIXED = ("remove", "compact")  # keys of a job for which the crate has no call
 SECONDS = 900
 RANDOM = 300
@@ -132,6 +136,27 @@ def site_rows():
         yield job, printed(job)[:-1]
 
 
+def with_stems(command, tokens, stem):
+    """An addition whose tokens are the stems of these."""
+    return command._replace(tokens={field: [*filter(None, map(stem, found))] for field, found in tokens.items()})
+
+
+def stemmed_rows():
+    """The small site in each language that has a stemmer, and what the definitions say of its stems. The words are lowered as
+    Rust lowers them, since the crate makes them."""
+    tables = rust_tables.texts()
+    for lang, pages in PAGES.items():
+        code = LANGUAGES[lang].code
+        if code in tables:
+            job = {"lang": lang, "fields": ["title", "body"], "docs": [list(page) for page in pages]}
+            asked = model.Job(**job)
+            lowered = asked._replace(docs=[[ref, *map(str.lower, values)] for ref, *values in asked.docs])
+            both = zip(model.commands_of(asked), model.commands_of(lowered))
+            commands = [with_stems(command, lower.tokens, Stemmer(tables[code]).stem) for command, lower in both]
+            value = model.value(asked, commands, [*stages(LANGUAGES[lang]), f"stemmer-{code}"])
+            yield job, json.dumps(value, ensure_ascii=False, sort_keys=True, separators=(",", ":"))
+
+
 def original_rows():
     for line in lines_of(ORIGINAL):
         row = json.loads(line)
@@ -148,6 +173,7 @@ def check_sites(cargo, results):
     else:
         results.skip("rust, a site in each language", ["elasticlunr_index"], len(PAGES))
     check_memory(plain, results)
+    check_site("stems in each language", cargo.site("stems"), list(stemmed_rows()), results)
     check_site("the original's texts", cargo.site("as-original"), list(original_rows()), results)
 
 
@@ -169,11 +195,21 @@ def check_memory(site, results):
 
 
 def check_stop_words(results):
-    """Whether the crate's lists of stop words are those of the repository."""
-    lists = {name: os.listdir(os.path.join(TOP, name)) for name in STOP_WORDS}
-    results.note(len(set(map(tuple, map(sorted, lists.values())))) == 1, "rust: other lists of stop words than the repository's")
-    for name in lists[STOP_WORDS[0]]:
+    """Whether the crate's lists of stop words are those of the repository, and one for Hungarian."""
+    theirs, own = (set(os.listdir(os.path.join(TOP, folder))) for folder in STOP_WORDS)
+    name, words = HUNGARIAN
+    results.note(own - theirs == {name} and theirs <= own, "rust: other lists of stop words than the repository's")
+    results.note(len(set(json.loads(read(os.path.join(STOP_WORDS[1], name))))) == words, f"rust: {name} has not {words} words")
+    for name in theirs & own:
         results.note(len({read(os.path.join(folder, name)) for folder in STOP_WORDS}) == 1, f"rust: another list of stop words: {name}")
+
+
+def check_tables(results):
+    """Whether the crate's tables of stemmers are those of the repository."""
+    tables = rust_tables.texts()
+    results.note({f"{code}.txt" for code in tables} == set(os.listdir(rust_tables.FOLDER)), "rust: other tables of stemmers")
+    for code, text in tables.items():
+        results.note(read(os.path.join(rust_tables.FOLDER, f"{code}.txt")) == text, f"rust: another table of the stemmer {code}")
 
 
 def check_missing(cargo, results):
@@ -198,6 +234,7 @@ def main():
             check_tests(cargo, mode, results)
         check_sites(cargo, results)
         check_stop_words(results)
+        check_tables(results)
         check_missing(cargo, results)
     except (OSError, ValueError, subprocess.SubprocessError) as error:
         results.note(False, f"rust: {error!r}")

@@ -15,19 +15,13 @@
 //! All else is the library's: the tokens of the built-in languages, their counts, and the text.
 //!
 //! With the feature `as-original` the text is, byte for byte, the one that elasticlunr-rs prints.
+//! With the feature `rust-stemmers` the languages that have a Snowball stemmer in elasticlunr-rs have
+//! it here; their tokens are then made here, too.
 
 #[cfg(feature = "bin")]
 compile_error!("there is no program here: the same repository has the command `elasticlunr`");
-#[cfg(feature = "hu")]
-compile_error!(
-    "Hungarian is missing: it is a Snowball stemmer, which the proved library doesn't have"
-);
 #[cfg(feature = "ja")]
 compile_error!("Japanese is missing: it needs a segmenter, which the proved library doesn't have");
-#[cfg(feature = "rust-stemmers")]
-compile_error!(
-    "the Snowball stemmers are missing: add a stemmer as a stage of a language of your own"
-);
 #[cfg(feature = "zh")]
 compile_error!("Chinese is missing: it needs a segmenter, which the proved library doesn't have");
 

@@ -148,16 +148,22 @@ fn the_version_is_that_of_the_script() {
     assert_eq!(ELASTICLUNR_VERSION, "0.9.5");
 }
 
+/// The languages of the default features.
+fn default_languages() -> Vec<Box<dyn Language>> {
+    let all = lang::languages().into_iter();
+    all.filter(|language| language.code() != "hu").collect()
+}
+
 #[test]
 fn languages_are_looked_up() {
-    let names: Vec<String> = lang::languages()
+    let names: Vec<String> = default_languages()
         .iter()
         .map(|language| language.name())
         .collect();
     let expected = "English Arabic Danish Dutch Finnish French German Italian Korean Norwegian Portuguese Romanian Russian Spanish \
                     Swedish Turkish";
     assert_eq!(names, expected.split(' ').collect::<Vec<_>>());
-    let codes: Vec<String> = lang::languages()
+    let codes: Vec<String> = default_languages()
         .iter()
         .map(|language| language.code())
         .collect();
@@ -197,7 +203,7 @@ fn each_language_is_a_type() {
     let names: Vec<String> = made.iter().map(|language| language.name()).collect();
     assert_eq!(
         names,
-        lang::languages()
+        default_languages()
             .iter()
             .map(|language| language.name())
             .collect::<Vec<_>>()

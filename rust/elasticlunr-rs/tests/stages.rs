@@ -43,7 +43,7 @@ fn stop_words_are_those_of_the_repository() {
     let mut lists = 0;
     for language in languages()
         .iter()
-        .filter(|language| language.code() != "ar")
+        .filter(|language| !["ar", "hu"].contains(&language.code().as_str()))
     {
         let words = fs::read_to_string(data("stopwords").join(language.code() + ".txt")).unwrap();
         let words: Vec<String> = serde_json::from_str(&words).unwrap();
@@ -82,6 +82,9 @@ fn stages_have_names() {
             "en" => "trimmer stopWordFilter stemmer".into(),
             "ar" => "stemmer-ar".into(),
             "ko" => "trimmer-ko stopWordFilter-ko stemmer-ko".into(),
+            code if cfg!(feature = "rust-stemmers") => {
+                format!("trimmer-{code} stopWordFilter-{code} stemmer-{code}")
+            }
             code => format!("trimmer-{code} stopWordFilter-{code}"),
         };
         assert_eq!(names.join(" "), expected);

@@ -1,5 +1,6 @@
 //! Stages for custom languages.
 
+use super::snowball::Stemmer;
 use crate::pipeline::{FnWrapper, PipelineFn};
 use regex::Regex;
 use std::collections::HashSet;
@@ -99,4 +100,18 @@ pub(super) fn of_class(code: &str, class: &str, stop_words: &str) -> Stages {
 pub(super) fn and_keeper(mut stages: Stages, name: &str) -> Stages {
     stages.push(Box::new(FnWrapper(name.to_owned(), Some)));
     stages
+}
+
+/// The stages of a language with a Snowball stemmer: with the feature, that comes last.
+#[allow(dead_code)] // without the features of these languages
+pub(super) fn and_stemmer(mut stages: Stages, code: &str, table: &str) -> Stages {
+    if is_stemmed(code) {
+        stages.push(Box::new(Stemmer::new(&format!("stemmer-{code}"), table)));
+    }
+    stages
+}
+
+/// Whether a language has a Snowball stemmer.
+pub(super) fn is_stemmed(code: &str) -> bool {
+    cfg!(feature = "rust-stemmers") && !["en", "ar", "ko"].contains(&code)
 }

@@ -1,12 +1,16 @@
 //! The languages. A language is a name, a code, a tokenizer and a pipeline.
 //!
 //! The proved library makes the tokens of a built-in language. `tokenize` and `make_pipeline` of
-//! these do the same here, for programs that call them, or build a language of one.
+//! these do the same here, for programs that call them, or build a language of one. With the feature
+//! `rust-stemmers` fourteen languages have Snowball's stemmers. The library has none of these, so
+//! the tokens of such a language are made here, as those of a custom one.
 
 #[cfg(feature = "ar")]
 mod arabic;
 pub mod common;
 mod english;
+#[allow(dead_code)] // without the languages that have a stemmer
+mod snowball;
 
 use crate::pipeline::Pipeline;
 use built_in::BuiltIn;
@@ -57,6 +61,18 @@ macro_rules! scripts {
     };
 }
 
+/// The pipeline of such a language that has a Snowball stemmer.
+#[allow(unused_macros)] // without the features of these languages
+macro_rules! stemmed {
+    ($code:literal, $class:literal) => {
+        common::and_stemmer(
+            scripts!($code, $class),
+            $code,
+            include_str!(concat!("tables/", $code, ".txt")),
+        )
+    };
+}
+
 /// The types of the languages, and the look-ups. Each row has the condition under which the
 /// language is there, its name, its code, and its pipeline.
 macro_rules! languages {
@@ -94,7 +110,7 @@ macro_rules! languages {
                 }
 
                 fn built_in(&self) -> Option<BuiltIn> {
-                    Some(BuiltIn(()))
+                    Some(BuiltIn(())).filter(|_| !common::is_stemmed($code))
                 }
             }
         )+
@@ -109,21 +125,22 @@ macro_rules! languages {
 languages! {
     English "en" english::stages();
     [feature = "ar"] Arabic "ar" arabic::stages();
-    [feature = "da"] Danish "da" scripts!("da", r"\p{Latin}");
-    [feature = "du"] Dutch "du" scripts!("du", r"\p{Latin}");
-    [feature = "fi"] Finnish "fi" scripts!("fi", r"\p{Latin}");
-    [feature = "fr"] French "fr" scripts!("fr", r"\p{Latin}");
-    [feature = "de"] German "de" scripts!("de", r"\p{Latin}");
-    [feature = "it"] Italian "it" scripts!("it", r"\p{Latin}");
+    [feature = "da"] Danish "da" stemmed!("da", r"\p{Latin}");
+    [feature = "du"] Dutch "du" stemmed!("du", r"\p{Latin}");
+    [feature = "fi"] Finnish "fi" stemmed!("fi", r"\p{Latin}");
+    [feature = "fr"] French "fr" stemmed!("fr", r"\p{Latin}");
+    [feature = "de"] German "de" stemmed!("de", r"\p{Latin}");
+    [feature = "hu"] Hungarian "hu" stemmed!("hu", r"\p{Latin}");
+    [feature = "it"] Italian "it" stemmed!("it", r"\p{Latin}");
     [feature = "ko"] Korean "ko"
         common::and_keeper(scripts!("ko", r"\p{Latin}\p{Hangul}"), "stemmer-ko");
-    [feature = "no"] Norwegian "no" scripts!("no", r"\p{Latin}");
-    [feature = "pt"] Portuguese "pt" scripts!("pt", r"\p{Latin}");
-    [feature = "ro"] Romanian "ro" scripts!("ro", r"\p{Latin}");
-    [feature = "ru"] Russian "ru" scripts!("ru", r"\p{Cyrillic}");
-    [feature = "es"] Spanish "es" scripts!("es", r"\p{Latin}");
-    [feature = "sv"] Swedish "sv" scripts!("sv", r"\p{Latin}");
-    [feature = "tr"] Turkish "tr" scripts!("tr", r"\p{Latin}");
+    [feature = "no"] Norwegian "no" stemmed!("no", r"\p{Latin}");
+    [feature = "pt"] Portuguese "pt" stemmed!("pt", r"\p{Latin}");
+    [feature = "ro"] Romanian "ro" stemmed!("ro", r"\p{Latin}");
+    [feature = "ru"] Russian "ru" stemmed!("ru", r"\p{Cyrillic}");
+    [feature = "es"] Spanish "es" stemmed!("es", r"\p{Latin}");
+    [feature = "sv"] Swedish "sv" stemmed!("sv", r"\p{Latin}");
+    [feature = "tr"] Turkish "tr" stemmed!("tr", r"\p{Latin}");
 }
 
 /// The built-in language of a code, in capitals or not. Dutch has the code `du`.

@@ -38,7 +38,7 @@ class Call:
         self.lines = []
 
     def is_law(self):
-        return re.search(r"/laws(/|\.rt$)", self.path)
+        return re.search(r"_laws/src/|/laws(/|\.rt$)", self.path)
 
 
 def calls_of(crate, path):

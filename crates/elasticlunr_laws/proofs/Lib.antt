@@ -1,7 +1,9 @@
+pub use Rattle.elasticlunr_json.proofs.Seen
 pub mod Built
 pub mod ByTexts
 pub mod Differing
 pub mod OneField
 pub mod OneMore
 pub mod OneToken
+pub mod RankedCalls
 pub mod Stages

@@ -1,1 +1,4 @@
+pub use Rattle.elasticlunr_ranking.specs.Order
+pub use Rattle.elasticlunr_store.specs.Options
 pub mod Depth
+pub mod Ranked

@@ -1,13 +1,14 @@
 //! What the uses of the library give.
-use elasticlunr::lang::English;
+use elasticlunr::lang::{AnyLanguage, English};
 use elasticlunr::{IndexBuilder, IndexError};
 use elasticlunr_uses::custom::{index_with_tokenizer, whole};
 use elasticlunr_uses::error::UseError;
 use elasticlunr_uses::first::first_index;
 use elasticlunr_uses::found::built_printed_found;
-use elasticlunr_uses::order::in_either_order;
+use elasticlunr_uses::order::{in_either_order, in_order};
 use elasticlunr_uses::own::text_of_words;
 use elasticlunr_uses::page::Page;
+use elasticlunr_uses::ranked::ranked_in_text;
 use elasticlunr_uses::update::updated_and_new;
 use std::alloc::{AllocError, Global};
 
@@ -30,6 +31,27 @@ fn each_use_gives_its_lines(rt: HostRuntime) {
         Err(_) => String::new(rt.alloc()),
     };
     assert!(rt; text.as_str() == LINES);
+}
+
+#[test]
+fn the_shorter_of_two_pages_comes_first(rt: HostRuntime) {
+    let text = match ranked_lines(rt.alloc()) {
+        Ok(text) => text,
+        Err(_) => String::new(rt.alloc()),
+    };
+    assert!(rt; text.as_str() == "short\nlong\n");
+}
+
+/// Which pages have a word of a query, a line each, the best first.
+fn ranked_lines(alloc: Global) -> Result<String, UseError> {
+    let long = Page::new("long", "Words that readers find.");
+    let printed = in_order(alloc, long, Page::new("short", "Words."))?;
+    let hits = ranked_in_text(alloc, AnyLanguage::English, printed.as_str(), "a word")?;
+    let mut text = String::new(alloc);
+    for hit in &hits {
+        add_line(&mut text, hit.reference.as_str())?;
+    }
+    Ok(text)
 }
 
 /// What the uses give, a line each.

@@ -10,4 +10,5 @@ pub mod order;
 pub mod own;
 pub mod page;
 pub mod query;
+pub mod ranked;
 pub mod update;

@@ -123,6 +123,7 @@ class Gate(NamedTuple):
     library: str = STUB  # the check that makes calls from C
     crates: tuple = ("prog",)
     patience: int = 75  # minutes, after which the library for C is not tried
+    limit: int = 140  # minutes, after which its checks are stopped
 
 
 PROVED = "rt: prog proved\nrt: prog: trying its must-fail edits (1)\n"
@@ -170,6 +171,7 @@ GATES = [
     Gate("a library for C that fails", PROVED + "1 passed, 0 failed", False, ("  c_calls FAILED", "    job 0: status 1"), library=FAILURES),
     Gate("a library for C that is tried", PROVED + "1 passed, 0 failed", True, ("library: 1000000 passed, 0 failed",), library=STUB.replace("stub", "library")),
     Gate("a library for C that there is no time for", PROVED + "1 passed, 0 failed", True, ("  the library for C is not tried after 0 minutes: `make lib-test` tries it",), library=FAILURES, patience=-1),
+    Gate("a library for C that does not end", PROVED + "1 passed, 0 failed", True, ("  the library for C is stopped after 0 minutes: `make lib-test` tries it",), library=HANGS, limit=0),
 ]
 
 
@@ -178,7 +180,8 @@ def try_gate(case):
         repository.write("tests/check_jobs.py", case.check)
         repository.write("tests/c_calls.py", case.library)
         text = repository.read("tools/gate.py")
-        repository.write("tools/gate.py", re.sub(r"(?m)^PATIENCE = \d+", f"PATIENCE = {case.patience}", text))
+        text = re.sub(r"(?m)^PATIENCE = \d+", f"PATIENCE = {case.patience}", text)
+        repository.write("tools/gate.py", re.sub(r"(?m)^LIMIT = \d+", f"LIMIT = {case.limit}", text))
         repository.write("crates.txt", "".join(f"{name}:\n" for name in case.crates))
         for name in case.crates:
             repository.write(f"crates/{name}/src/main.rt", "fn main() {}\n")

@@ -14,7 +14,8 @@ or of a test that failed is shown, too; then the checks are stopped and count fo
 the checks begin after its end.
 
 The library for C comes last, since `rt lib` proves its crates once more: up to 85 minutes of the processors. It is left out, and a
-line says so, if more than PATIENCE minutes have passed by then. `make lib-test` always tries it.
+line says so, if more than PATIENCE minutes have passed by then. Its checks are stopped, and a line says so, if they have not ended
+after LIMIT minutes: they count as far as they came. `make lib-test` always tries it to its end.
 
 At the end of `rt ci` a line says how long it took, and how long the processors worked for it.
 
@@ -43,6 +44,7 @@ from tools.repository import TOP, read
 CALLS = "elasticlunr_tests"  # a check runs its test of single calls
 UNUSED = ("elasticlunr_bench",)  # a program that no check runs
 PATIENCE = 75  # minutes, after which the library for C is not begun
+LIMIT = 140  # minutes, after which its checks are stopped
 SHOWN = 30  # lines that rt said before a failure
 GOOD = re.compile(r"rt: \w+(: its tests( are)?)? (proved|passed)$")
 KEPT = re.compile(r"rt: (\w+) is kept: ")
@@ -54,6 +56,7 @@ TRYING = re.compile(r"rt: (\w+): trying its must-fail edits \((\d+)\)$")
 REFUSED = re.compile(r"rt: must-fail \S+: refused, as it must be(?! \(only because)")
 EMPTY = re.compile(r"rt: .*(: BAD EDIT: |: refused, as it must be \(only because )")  # a mutant that shows nothing of a contract
 BAD = re.compile(r"rt: .*(NOT PROVED|NOT REFUSED|NOT TRIED|BAD EDIT|FAILED|had not ended|stopped by signal|is not what|killed|only because)")
+CHECK_FAILED = re.compile(r"^  \S.* FAILED\b", re.MULTILINE)
 ERROR = re.compile(r".*(: error|\berror\[)")
 
 
@@ -162,11 +165,19 @@ def main():
 
 
 def try_library(log, minutes):
-    """Runs the checks of the library for C, unless so many minutes have passed that there is no time for them. Their status."""
+    """Runs the checks of the library for C, as far as there is time after so many minutes. Their status: no failure until then."""
     if minutes > PATIENCE:
         show([f"  the library for C is not tried after {minutes:.0f} minutes: `make lib-test` tries it"])
         return 0
-    return subprocess.run([sys.executable, os.path.join(TOP, "tests", "checks.py"), log, "library"]).returncode
+    before = len(read(log))
+    command = [sys.executable, os.path.join(TOP, "tests", "checks.py"), log, "library"]
+    with subprocess.Popen(command, start_new_session=True) as checks:
+        try:
+            return checks.wait(max(0, LIMIT - minutes) * 60)
+        except subprocess.TimeoutExpired:
+            os.killpg(checks.pid, signal.SIGKILL)
+    show([f"  the library for C is stopped after {LIMIT} minutes: `make lib-test` tries it"])
+    return 1 if CHECK_FAILED.search(read(log)[before:]) else 0
 
 
 class Proved(NamedTuple):

@@ -97,9 +97,18 @@ class Page:
         self.settle()
         return self.driver.find_elements(self.by.CSS_SELECTOR, what)
 
+    def texts(self, what):
+        """The texts of the elements, read anew where the page draws them again meanwhile."""
+        from selenium.common.exceptions import StaleElementReferenceException
+        end = time.monotonic() + WAIT
+        while True:
+            try:
+                return [found.text for found in self.all(what)]
+            except StaleElementReferenceException:
+                must(time.monotonic() < end, f"drawn again and again for {WAIT} seconds: {what}")
+
     def status(self):
-        found = self.all("#status")
-        return found[0].text if found else "another page"
+        return (self.texts("#status") or ["another page"])[0]
 
     def query(self):
         return self.all("#query")[0]
@@ -113,10 +122,10 @@ class Page:
         self.driver.switch_to.active_element.send_keys(key)
 
     def titles(self):
-        return [link.text for link in self.all("#results a")]
+        return self.texts("#results a")
 
     def marks(self, where="#results"):
-        return [mark.text for mark in self.all(where + " mark")]
+        return self.texts(where + " mark")
 
     def active(self):
         return self.driver.switch_to.active_element

@@ -53,6 +53,18 @@ fn long_tokens_have_a_stem() {
 }
 
 #[test]
+fn steps_that_recur_need_half_a_megabyte_of_stack() {
+    let work = || {
+        let turkish = from_name("Turkish").unwrap().make_pipeline().queue;
+        let many = "ev".to_owned() + &"n\u{131}nki".repeat(2_000);
+        let stem = turkish[2].filter(many.clone()).unwrap();
+        assert!(many.starts_with(&stem) && stem.len() < many.len());
+    };
+    let small = std::thread::Builder::new().stack_size(512 << 10);
+    small.spawn(work).unwrap().join().unwrap();
+}
+
+#[test]
 fn an_index_has_stems() {
     let mut index = Index::with_language(from_name("German").unwrap(), &["body"]);
     index.add_doc("dorf", &["Viele Häuser"]);

@@ -11,12 +11,14 @@ bytes and the seconds. The number of the table's lines is in TABLE.rows.
 
 After the table each function of CHECKS is run, or those that are named.
 """
+import errno
 import json
 import os
 import pty
 import re
 import resource
 import shutil
+import socket
 import stat
 import subprocess
 import sys
@@ -377,6 +379,25 @@ def check_one_line(results):
         results.check("the memory of one line", good, f"{sizes} megabytes of text took {peaks}")
 
 
+def check_failing_input(results):
+    """An input that fails after some bytes is told with the system's reason, and isn't taken for one that ends there."""
+    lines = "".join(json.dumps(it) + "\n" for it in OBJECTS)
+    said = f"elasticlunr: standard input: {os.strerror(errno.ECONNRESET)} (os error {errno.ECONNRESET})\n".encode()
+    with tempfile.TemporaryDirectory() as folder:
+        path = write(os.path.join(folder, "index.json"), "old")
+        for form, given in (("job", json.dumps(JOB)), ("objects", json.dumps(OBJECTS)), ("lines", lines), ("nothing", "")):
+            for args in (["build"], ["check"], ["build", "-o", "index.json"]):
+                near, far = socket.socketpair()
+                with near, far:
+                    far.sendall(given.encode())
+                    near.sendall(b"unread")  # what the other end has not read when it is closed fails the next read here
+                    far.close()
+                    ended = ran(folder, args, None, stdin=near)
+                results.check(f"an input that fails, {form}, {args}", ended == (b"", said, 1), ended)
+        with open(path, encoding="utf-8") as file:
+            results.check("an input that fails, the old file stays", (os.listdir(folder), file.read()) == (["index.json"], "old"), folder)
+
+
 def check_memory(results):
     """With each request for memory refused in turn: status 1 and nothing written, or the whole answer."""
     wanted = printed(JOB)
@@ -397,7 +418,7 @@ def check_memory(results):
         results.check(f"memory refused in turn, {form}", wrong == 0 and refused >= LEAST, f"{refused} refused, {wrong} wrong")
 
 
-CHECKS = [check_forms, check_search, check_deep_search, check_terminal, check_files, check_many, check_one_line, check_memory, check_kept, check_pieces, check_publishing, check_search_pieces]
+CHECKS = [check_forms, check_search, check_deep_search, check_terminal, check_files, check_many, check_one_line, check_failing_input, check_memory, check_kept, check_pieces, check_publishing, check_search_pieces]
 
 
 def main():

@@ -105,6 +105,16 @@ CHANGE
 sys.stdout.buffer.write(out)
 sys.exit(status)
 """
+ENDS_EARLY = """
+file = os.memfd_create("input")
+try:
+    while more := os.read(0, 65536):
+        os.write(file, more)
+except OSError:
+    pass
+os.lseek(file, 0, 0)
+os.dup2(file, 0)
+"""
 OF_A_JOB = "job = json.loads(given); %s; given = json.dumps(job).encode()"
 OF_HITS = 'out = b"".join(json.dumps(%s).encode() + b"\\n" for hit in map(json.loads, out.splitlines()))'
 INDEX, FIND, COMMAND = "elasticlunr_index", "elasticlunr_find", "elasticlunr_cli"
@@ -144,6 +154,7 @@ CHANGES = {  # whose program is run, what is changed of its run, and how
         'words = [str(1 + int(word)) if before == "--max-token" else word for before, word in zip(["", *words], words)]',
     ),
     "a command that indexes no reference": (COMMAND, CHANGES_WORDS, 'words = [word for word in words if word != "--index-ref"]'),
+    "a command that takes a failed input for its end": (COMMAND, CHANGES_WORDS, ENDS_EARLY),
     "always ends well": (COMMAND, CHANGES_ANSWER, "status = 0"),
     "stems after one version": (STEMS, CHANGES_WORDS, 'words[1:] = ["current"]'),
     "stems one word less": (STEMS, CHANGES_ANSWER, 'out = out[: out[:-1].rfind(b"\\n") + 1]'),
@@ -283,6 +294,8 @@ def forged_commands(folder):
     yield Forgery(longer, "command", "^command, kept, short, lines, English: ", longer, (few, "check_kept"), COMMAND)
     hidden = "a command that indexes no reference"
     yield Forgery(hidden, "command", "^command, kept, the reference is indexed, objects, English: ", hidden, (few, "check_kept"), COMMAND)
+    early = "a command that takes a failed input for its end"
+    yield Forgery(early, "command", r"^command, an input that fails, lines, \['build'\]: ", early, (few, "check_failing_input"), COMMAND)
     yield Forgery("a table of commands cut short", "command", f"^command, table: {COMMANDS - 1} rows instead of {COMMANDS}", arguments=(cut, "none"))
 
 

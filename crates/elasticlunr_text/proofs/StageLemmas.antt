@@ -14,7 +14,7 @@ use Rattle.elasticlunr_text.specs.Stems.{Stem}
 use Rattle.elasticlunr_text.proofs.OneStem.{one-Stem}
 use Rattle.elasticlunr_text.specs.declared.pipeline.stage.Stage.TheVariants.{EnglishTrimmer, StopWords, Class}
 use Rattle.elasticlunr_text.specs.declared.pipeline.stage.Stage.TheVariants.{EnglishStemmer, ArabicStemmer, Keep}
-use Rattle.elasticlunr_text.specs.declared.pipeline.stage.Stage.TheVariants.{Function, Own}
+use Rattle.elasticlunr_text.specs.declared.pipeline.stage.Stage.TheVariants.{Function, Own, TableStemmer}
 use Rattle.elasticlunr_text.specs.Answers.{MayAnswer}
 use Rattle.elasticlunr_text.specs.Stages.{MayLeave, MayLeaveAll, MayRun}
 use Rattle.elasticlunr_text.specs.declared.pipeline.function.FnWrapper.{FnWrapper}
@@ -156,6 +156,7 @@ module _ {f x p calls : _} (leaves : DynBox x Global p → List ℕ → Option (
   one-MayLeave (Class trimmer) t a b one other = one ∙ sym other
   one-MayLeave EnglishStemmer t a b one other = one-stem-left t a b one other
   one-MayLeave ArabicStemmer t a b one other = one ∙ sym other
+  one-MayLeave (TableStemmer stemmer) t a b one other = one ∙ sym other
   one-MayLeave (Keep name) t a b one other = one ∙ sym other
   one-MayLeave (Function w) t a b one other = one-MayAnswer w t a b one other
   one-MayLeave (Own step) t a b one other = one ∙ sym other

@@ -4,7 +4,7 @@ ghost use Rattle.elasticlunr_text.specs.Text.{text_of};
 ghost use Rattle.elasticlunr_text.specs.Stages.{MayLeave, stage_name, NeedsNoMemory};
 
 use super::function::{FnWrapper, PipelineFn};
-use crate::lang::common::{RegexTrimmer, StopWordFilter};
+use crate::lang::common::{RegexTrimmer, StopWordFilter, TableStemmer};
 use crate::lang::{ar, en};
 use std::alloc::{AllocError, Global};
 
@@ -21,6 +21,8 @@ pub enum Stage {
     EnglishStemmer,
     /// `lang::ar::Stemmer`, with the name `stemmer-ar`.
     ArabicStemmer,
+    /// Makes each token its stem by a table; with the stemmer's name.
+    TableStemmer(TableStemmer),
     /// Keeps every token; the text is the name.
     Keep(String),
     /// A custom function; with the wrapper's name.
@@ -41,14 +43,15 @@ impl Stage {
             Stage::Class(trimmer) => trimmer.name(alloc),
             Stage::EnglishStemmer => en::Stemmer::new().name(alloc),
             Stage::ArabicStemmer => ar::Stemmer::new().name(alloc),
+            Stage::TableStemmer(stemmer) => stemmer.name(alloc),
             Stage::Keep(name) => name.clone(),
             Stage::Function(wrapper) => wrapper.name(alloc),
             Stage::Own(step) => step.name(alloc),
         }
     }
 
-    /// The output of the stage for the token, edited in its own buffer: only `Function` and `Own`
-    /// may request memory.
+    /// The output of the stage for the token, edited in its own buffer: only `TableStemmer`,
+    /// `Function` and `Own` may request memory.
     pub fn filter(&self, alloc: Global, token: String) -> Result<Option<String>, AllocError>
         ensures left { IfOk result (λ left. MayLeave leaves self.now (text_of token)
             (option_map text_of left)) }
@@ -60,6 +63,7 @@ impl Stage {
             Stage::Class(trimmer) => trimmer.filter(alloc, token),
             Stage::EnglishStemmer => en::Stemmer::new().filter(alloc, token),
             Stage::ArabicStemmer => ar::Stemmer::new().filter(alloc, token),
+            Stage::TableStemmer(stemmer) => stemmer.filter(alloc, token),
             Stage::Keep(_) => Ok(Some(token)),
             Stage::Function(wrapper) => wrapper.filter(alloc, token),
             Stage::Own(step) => step.filter(alloc, token),

@@ -45,3 +45,9 @@ returns-in-Function-clause-always g c = search rules
 
 pub returns-in-Own-clause-always : goal.returns-in-Own-clause-always
 returns-in-Own-clause-always g c = search rules
+
+pub returns-in-TableStemmer-clause-left : goal.returns-in-TableStemmer-clause-left
+returns-in-TableStemmer-clause-left g c = search rules
+
+pub returns-in-TableStemmer-clause-always : goal.returns-in-TableStemmer-clause-always
+returns-in-TableStemmer-clause-always g c = search rules

@@ -21,3 +21,6 @@ returns-in-Keep g c = search rules
 
 pub returns-in-Function : goal.returns-in-Function
 returns-in-Function g c = search rules
+
+pub returns-in-TableStemmer : goal.returns-in-TableStemmer
+returns-in-TableStemmer g c = search rules

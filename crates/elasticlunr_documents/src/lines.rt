@@ -29,14 +29,15 @@ ghost use Rattle.serde_json.specs.View.{view};
 use crate::marked::MarkedRead;
 use crate::objects::{AddError, Object, ObjectFault, Options, object_of};
 use elasticlunr::lang::{AnyLanguage, from_name};
-use elasticlunr::laws::given::values_with_tokens_make_what_a_language_makes;
 use elasticlunr::{Index, IndexBuilder, IndexError};
-use elasticlunr_job::kept::{all_words, kept_lists, values_with};
+use elasticlunr_job::kept::{all_words, kept_lists, stems_by, values_with};
+use elasticlunr_job::laws::an_index_is_built_for_a_job;
 use elasticlunr_job::make::{Line, Make};
 use elasticlunr_job::outcome::{JobError, Refusal};
 pub use elasticlunr_job_format::lines::is_blank;
 use elasticlunr_job_format::read::read_json;
 pub use elasticlunr_job_format::reader::read_line;
+use elasticlunr_stem_stage::language_pipeline;
 use serde_json::Value;
 use std::alloc::{AllocError, Global};
 use std::io;
@@ -276,12 +277,14 @@ pub fn lines_made<R: MarkedRead, W: Watch, M: Make>(
     let Some(language) = from_name(options.language) else {
         return Err(LinesError::Refused(Refusal::UnknownLanguage));
     };
+    let pipeline = language_pipeline(alloc, language, stems_by(&options.rules))?;
     let index = IndexBuilder::with_language(alloc, language)?
+        .with_pipeline(pipeline)
         .save_docs(options.save)
         .set_ref(options.reference_field)?
         .add_fields(&options.fields)?
         .build()?;
-    values_with_tokens_make_what_a_language_makes(&index);
+    an_index_is_built_for_a_job(&index);
     fill_and_make(alloc, options, reader, last, watch, maker, index)
 }
 

@@ -28,6 +28,7 @@ abbrev pub own_rules : Option declared_rules.Rules → Option WordRules
 own_rules rules = option_map (λ held. record {
   stored = bytes_of held.stored.items;
   longest = held.longest;
+  stems = held.stems;
 }) rules
 
 -- the settings that the program holds, as their texts

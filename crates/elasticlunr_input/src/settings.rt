@@ -13,13 +13,15 @@ use elasticlunr_job::kept::has_name;
 use elasticlunr_job::rules::WordRules;
 use std::alloc::{AllocError, Global};
 
-/// Which words are indexed, as the settings hold it.
+/// Which words are indexed, and whether they are stemmed, as the settings hold it.
 #[derive(Drop)]
 pub struct Rules {
     /// The members that are stored, and of which no word is indexed.
     pub stored: Vec<String>,
     /// How many characters a word may have; a longer one is left out.
     pub longest: Option<usize>,
+    /// Whether words are stemmed, in a language whose stemmer has a table.
+    pub stems: bool,
 }
 
 /// The settings of an index that do not come from its input: each replaces the input's.
@@ -35,7 +37,8 @@ pub struct Settings {
     pub drops_texts: bool,
     /// Whether it is printed with a line for each member.
     pub pretty: bool,
-    /// Which words are indexed: all, where there are no rules.
+    /// Which words are indexed, and whether they are stemmed: all, and none, where there are no
+    /// rules.
     pub rules: Option<Rules>,
     /// Whether the reference is a field as well, whose words are indexed.
     pub indexes_reference: bool,
@@ -89,6 +92,7 @@ pub(crate) fn rules_of<'a>(
         Some(rules) => Ok(Some(WordRules {
             stored: texts_of(alloc, &rules.stored)?,
             longest: rules.longest,
+            stems: rules.stems,
         })),
         None => Ok(None),
     }

@@ -5,7 +5,6 @@ use Rattle.std.proofs.lemmas.Option.{slice_get-map}
 use Rattle.std.specs.List.{zip}
 use Rattle.std.specs.Str.{chars}
 use Rattle.elasticlunr_text.specs.Text.{Text, Bytes}
-use Rattle.elasticlunr_lang.specs.Known.{language_leaves}
 use Rattle.elasticlunr_lang.specs.declared.any.AnyLanguage.{AnyLanguage}
 use Rattle.elasticlunr.specs.Documents.{IsDocument, IsGiven}
 use Rattle.elasticlunr.specs.GivenTokens.{MayHave, MayHaveAt, value_texts}
@@ -19,7 +18,8 @@ use Rattle.elasticlunr_job.specs.Commands.{IsAddedBy, kept_at, kept_words, Reads
 use Rattle.elasticlunr_job.specs.Given.{AreGiven, IsSourceOf, kept_lists}
 use Rattle.elasticlunr_job_format.specs.Job as asked
 use Rattle.elasticlunr_job_format.specs.Job.{Job}
-use Rattle.elasticlunr_job_format.specs.Rules.{WordRules}
+use Rattle.elasticlunr_job_format.specs.Rules.{WordRules, stems_by}
+use Rattle.elasticlunr_stem_stage.specs.Stemmed.{leaves_with}
 
 some_more : {X : Type 0} (o : Option X) (P Q : X → Type 0) → ((x : X) → P x → Q x) → IsSomeAnd o P → IsSomeAnd o Q
 some_more None P Q more h = absurd h
@@ -49,14 +49,15 @@ module _ (fields : List Bytes) (reference_field : Bytes) (reads other : ℕ → 
         ∙ ap (λ vs. slice_get vs i) is.its_values) (is.each i);
   }
 
-module _ (language : AnyLanguage) where
+-- `R` relates a token to what stages may make of it.
+module _ (R : Text → Option Text → Type 0) where
   abbrev Has : TokenSource → ℕ → Bytes → List Text → Type 0
-  Has = MayHave (LanguageReads words (language_leaves language)) (LanguageLeaves (language_leaves language))
+  Has = MayHave (LanguageReads words R) (LanguageLeaves R)
 
   -- the tokens of a text that comes with these words, or with none
   abbrev Reads : Option (List Text) → ℕ → Bytes → List Text → Type 0
-  Reads None = LanguageReads words (language_leaves language)
-  Reads (Some kept) = λ i text tokens. LanguageLeaves (language_leaves language) kept tokens
+  Reads None = LanguageReads words R
+  Reads (Some kept) = λ i text tokens. LanguageLeaves R kept tokens
 
   of_source : (kept : Option (List Text)) (source : TokenSource) (i : ℕ) (text : Bytes) (tokens : List Text)
       → IsSourceOf kept source → Has source i text tokens → Reads kept i text tokens
@@ -65,7 +66,7 @@ module _ (language : AnyLanguage) where
   of_source None (AsGiven given) i text tokens is has = absurd is
   of_source (Some kept) FromText i text tokens is has = absurd is
   of_source (Some kept) (IntoPipeline given) i text tokens is has =
-      subst (λ made. LanguageLeaves (language_leaves language) made tokens) is has.left
+      subst (λ made. LanguageLeaves R made tokens) is has.left
   of_source (Some kept) (AsGiven given) i text tokens is has = absurd is
 
   of_value : (kept : Option (List Text)) (there : Option FieldValue) (i : ℕ) (text : Bytes) (tokens : List Text)
@@ -74,8 +75,8 @@ module _ (language : AnyLanguage) where
   of_value kept None i text tokens is has = absurd has
   of_value kept (Some value) i text tokens is has = of_source kept value.tokens i text tokens is has
 
-  left_of_words : (i : ℕ) (text : Bytes) (tokens : List Text) → LanguageReads words (language_leaves language) i text tokens
-      → LanguageLeaves (language_leaves language) (words (chars text)) tokens
+  left_of_words : (i : ℕ) (text : Bytes) (tokens : List Text) → LanguageReads words R i text tokens
+      → LanguageLeaves R (words (chars text)) tokens
   left_of_words i text tokens h = record { lefts = h.lefts; each = h.each; are = h.are }
 
   same_some : {X : Type 0} (x y : X) → Some x ≡ Some y → x ≡ y
@@ -85,32 +86,39 @@ module _ (language : AnyLanguage) where
   of_kept : (rules : WordRules) (fields texts : List Bytes) (place i : ℕ) (text : Bytes) (tokens : List Text)
       → slice_get texts place ≡ Some text
       → Reads (slice_get (map (λ both. kept_words rules both.0 both.1) (zip fields texts)) place) i text tokens
-      → LanguageLeaves (language_leaves language) (kept_at rules fields place text) tokens
+      → LanguageLeaves R (kept_at rules fields place text) tokens
   of_kept rules [] texts place i text tokens there h = left_of_words i text tokens h
   of_kept rules (field ∷ fields) [] place i text tokens there h = cc
   of_kept rules (field ∷ fields) (first ∷ texts) zero i text tokens there h =
-      subst (λ t. LanguageLeaves (language_leaves language) (kept_words rules field t) tokens)
+      subst (λ t. LanguageLeaves R (kept_words rules field t) tokens)
       (same_some first text there) h
   of_kept rules (field ∷ fields) (first ∷ texts) (suc place) i text tokens there h =
       of_kept rules fields texts place i text tokens there h
 
+-- what the stages of a language make of a token under rules
+abbrev pub leaves_under : Option WordRules → AnyLanguage → Text → Option Text → Type 0
+leaves_under rules language = leaves_with (stems_by rules) language
+
+module _ (language : AnyLanguage) where
   read_under : (rules : Option WordRules) (fields texts : List Bytes) (i : ℕ) (text : Bytes) (tokens : List Text)
-      → slice_get texts i ≡ Some text → Reads (slice_get (kept_lists rules fields texts) i) i text tokens
+      → slice_get texts i ≡ Some text
+      → Reads (leaves_under rules language) (slice_get (kept_lists rules fields texts) i) i text tokens
       → ReadsBy rules fields language i text tokens
   read_under None fields texts i text tokens there h = h
-  read_under (Some rules) fields texts i text tokens there h = of_kept rules fields texts i i text tokens there h
+  read_under (Some rules) fields texts i text tokens there h =
+      of_kept (leaves_with rules.stems language) rules fields texts i i text tokens there h
 
   pub added_under : (rules : Option WordRules) (job : Job) (doc : asked.Document) (handed : List FieldValue)
       (document : Document) → AreGiven doc.values (kept_lists rules job.fields doc.values) handed
-      → IsDocument job.fields job.reference_field (MayHaveAt (LanguageReads words (language_leaves language))
-      (LanguageLeaves (language_leaves language)) handed) doc.reference (value_texts handed) document
+      → IsDocument job.fields job.reference_field (MayHaveAt (LanguageReads words (leaves_under rules language))
+      (LanguageLeaves (leaves_under rules language)) handed) doc.reference (value_texts handed) document
       → IsAddedBy rules job language doc document
   added_under rules job doc handed document are made =
-      document_more job.fields job.reference_field (MayHaveAt (LanguageReads words (language_leaves language))
-      (LanguageLeaves (language_leaves language)) handed) (ReadsBy rules job.fields language) doc.values
+      let R = leaves_under rules language in
+      document_more job.fields job.reference_field (MayHaveAt (LanguageReads words R) (LanguageLeaves R) handed)
+      (ReadsBy rules job.fields language) doc.values
       (λ i text tokens there has. read_under rules job.fields doc.values i text tokens there
-      (of_value (slice_get (kept_lists rules job.fields doc.values) i) (slice_get handed i) i text tokens (are.sources i)
-      has)) doc.reference document
+      (of_value R (slice_get (kept_lists rules job.fields doc.values) i) (slice_get handed i) i text tokens
+      (are.sources i) has)) doc.reference document
       (subst (λ texts. IsDocument job.fields job.reference_field
-      (MayHaveAt (LanguageReads words (language_leaves language)) (LanguageLeaves (language_leaves language)) handed)
-      doc.reference texts document) are.texts_are made)
+      (MayHaveAt (LanguageReads words R) (LanguageLeaves R) handed) doc.reference texts document) are.texts_are made)

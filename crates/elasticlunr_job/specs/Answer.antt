@@ -13,7 +13,7 @@ use Rattle.elasticlunr.specs.Kept.{KeptReads}
 use Rattle.elasticlunr.specs.Printed.{IsPrintOf, IsValue, pretty_text}
 use Rattle.elasticlunr.specs.Standing.{Plan}
 use Rattle.elasticlunr_job.specs.Calls.{job_calls}
-use Rattle.elasticlunr_job.specs.Commands.{AreCommandsBy, job_plan}
+use Rattle.elasticlunr_job.specs.Commands.{AreCommandsBy, job_plan, job_plan_by}
 use Rattle.elasticlunr_job_format.specs.Job.{Document, Job, IsJob, IsNoJob}
 use Rattle.elasticlunr_job_format.specs.Reading.{reading}
 use Rattle.elasticlunr_job_format.specs.Rules.{WordRules}
@@ -91,7 +91,7 @@ pub record IsMadeInBy (rules : Option WordRules) (job : Job) (language : AnyLang
     : Type 0 where
   pub commands : Commands
   pub are_commands : AreCommandsBy rules job language commands
-  pub is : Is job.pretty (job_plan job language) commands
+  pub is : Is job.pretty (job_plan_by rules job language) commands
 
 -- the job passes all checks, and this holds of its index under these rules, in its language
 abbrev pub IsMadeBy : Option WordRules → Job → OfIndex → Type 0

@@ -1,5 +1,5 @@
 -- The index that a job asks for: how it is built, and what is done to it. Rules may choose which
--- words of the documents are indexed; a job itself has none.
+-- words of the documents are indexed, and whether they are stemmed; a job itself has none.
 use Rattle.std.specs.Prelude.{◌≡◌, ℕ, List, [], ◌∷◌, ◌++◌, Bool, true, map, filter, nat_le, length}
 use Rattle.std.specs.Prelude.{Option, None, Some, slice_get, if◌then◌else◌}
 use Rattle.std.specs.List.{AllZip}
@@ -7,7 +7,7 @@ use Rattle.std.specs.Option.{option_map_or}
 use Rattle.std.specs.Str.{chars}
 use Rattle.elasticlunr_text.specs.Text.{Text, Bytes}
 use Rattle.elasticlunr_lang.specs.declared.any.AnyLanguage.{AnyLanguage}
-use Rattle.elasticlunr_lang.specs.Known.{language_name, language_stages, language_leaves}
+use Rattle.elasticlunr_lang.specs.Known.{language_name, language_leaves}
 use Rattle.elasticlunr_lang.specs.Words.{words}
 use Rattle.elasticlunr.specs.Calls.{followed_by}
 use Rattle.elasticlunr.specs.Documents.{IsDocument}
@@ -17,17 +17,22 @@ use Rattle.elasticlunr.specs.Reading.{LanguageLeaves, LanguageReads}
 use Rattle.elasticlunr.specs.Standing.{Plan}
 use Rattle.elasticlunr_job_format.specs.Job as asked
 use Rattle.elasticlunr_job_format.specs.Job.{Job}
-use Rattle.elasticlunr_job_format.specs.Rules.{WordRules}
+use Rattle.elasticlunr_job_format.specs.Rules.{WordRules, stems_by}
+use Rattle.elasticlunr_stem_stage.specs.Stemmed.{leaves_with, stages_with}
 
--- how the index of the job is built
-abbrev pub job_plan : Job → AnyLanguage → Plan
-job_plan job language = record {
+-- how the index of the job is built under rules
+abbrev pub job_plan_by : Option WordRules → Job → AnyLanguage → Plan
+job_plan_by rules job language = record {
   fields = job.fields;
   reference_field = job.reference_field;
   save = job.save;
   language = language_name language;
-  stages = language_stages language;
+  stages = stages_with (stems_by rules) language;
 }
+
+-- without rules its stages are the language's
+abbrev pub job_plan : Job → AnyLanguage → Plan
+job_plan = job_plan_by None
 
 -- the tokens that a language makes of a text
 abbrev pub language_tokens : AnyLanguage → Text → List Text
@@ -50,11 +55,11 @@ kept_at rules fields i value = option_map_or (λ field. kept_words rules field v
     (slice_get fields i) (words (chars value))
 
 -- the tokens that may be read of a value: what the language reads of it, or, where there are rules,
--- what the language makes of the words that they keep
+-- what the language makes of the words that they keep, with stems where the rules say so
 abbrev pub ReadsBy : Option WordRules → List Bytes → AnyLanguage → ℕ → Bytes → List Text → Type 0
 ReadsBy None fields language = LanguageReads (language_tokens language) (language_leaves language)
-ReadsBy (Some rules) fields language = λ i value tokens. LanguageLeaves (language_leaves language)
-    (kept_at rules fields i value) tokens
+ReadsBy (Some rules) fields language = λ i value tokens.
+    LanguageLeaves (leaves_with rules.stems language) (kept_at rules fields i value) tokens
 
 -- the document that is added for one of the job
 abbrev pub IsAddedBy : Option WordRules → Job → AnyLanguage → asked.Document → Document → Type 0

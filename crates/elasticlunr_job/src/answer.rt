@@ -20,15 +20,16 @@ ghost use Rattle.elasticlunr_job.specs.declared.outcome.Outcome.TheVariants.{Pri
 ghost use Rattle.elasticlunr_job_format.specs.declared.outcome.Refusal.TheVariants.{TooManyValues};
 ghost use Rattle.elasticlunr_job_format.specs.declared.outcome.Refusal.TheVariants.{NotJson};
 
-use crate::kept::{all_words, kept_lists, values_with};
+use crate::kept::{all_words, kept_lists, stems_by, values_with};
+use crate::laws::an_index_is_built_for_a_job;
 use crate::make::{Make, ReadableLine};
 use crate::outcome::{JobError, Outcome, Refusal};
 use elasticlunr::lang::{AnyLanguage, from_name};
-use elasticlunr::laws::given::values_with_tokens_make_what_a_language_makes;
 use elasticlunr::{Index, IndexBuilder, IndexError};
 use elasticlunr_job_format::job::{Job, parse};
 use elasticlunr_job_format::read::read_json;
 use elasticlunr_job_format::rules::WordRules;
+use elasticlunr_stem_stage::language_pipeline;
 use std::alloc::{AllocError, Global};
 
 /// The text of an index.
@@ -134,12 +135,14 @@ pub fn job_made_by<M: Make>(
     let Some(language) = from_name(job.language) else {
         return Err(JobError::Refused(Refusal::UnknownLanguage));
     };
+    let pipeline = language_pipeline(alloc, language, stems_by(rules))?;
     let index = IndexBuilder::with_language(alloc, language)?
+        .with_pipeline(pipeline)
         .save_docs(job.save)
         .set_ref(job.reference_field)?
         .add_fields(&job.fields)?
         .build()?;
-    values_with_tokens_make_what_a_language_makes(&index);
+    an_index_is_built_for_a_job(&index);
     fill_and_make(alloc, index, job, rules, maker)
 }
 

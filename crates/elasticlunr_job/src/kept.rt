@@ -7,7 +7,7 @@ ghost use Rattle.elasticlunr.specs.Fields.{borrowed, has_name};
 ghost use Rattle.elasticlunr_text.specs.Text.{texts_of, word_texts};
 ghost use Rattle.elasticlunr_job.specs.Commands.{is_short, kept_words};
 ghost use Rattle.elasticlunr_job.specs.Given.{kept_lists, AreGiven, IsSourceOf};
-ghost use Rattle.elasticlunr_job_format.specs.Rules.{given_rules, rules_told};
+ghost use Rattle.elasticlunr_job_format.specs.Rules.{given_rules, rules_told, stems_by};
 
 use elasticlunr::lang::tokenize_whitespace;
 use elasticlunr::{FieldValue, TokenSource};
@@ -47,6 +47,16 @@ fn kept_words(
     let mut words = tokenize_whitespace(alloc, value)?;
     words.retain(|word| is_short(rules.longest, word.as_str()));
     Ok(words)
+}
+
+/// Whether words are stemmed under these rules, in a language whose stemmer has a table.
+pub fn stems_by(rules: &Option<WordRules<'_>>) -> bool
+    ensures { result ≡ stems_by (given_rules rules.now) }
+{
+    match rules {
+        Some(rules) => rules.stems,
+        None => false,
+    }
 }
 
 /// The words that rules keep of each value; no list of words at all without rules.

@@ -1,4 +1,4 @@
-//! Which words of a document are indexed.
+//! Which words of a document are indexed, and whether they are stemmed.
 
 /// Which words of a document's values are indexed: all, where there are no rules.
 #[derive(Drop)]
@@ -7,4 +7,6 @@ pub struct WordRules<'a> {
     pub stored: Vec<&'a str>,
     /// How many characters a word may have; a longer one is left out.
     pub longest: Option<usize>,
+    /// Whether words are stemmed, in a language whose stemmer has a table.
+    pub stems: bool,
 }

@@ -295,7 +295,7 @@ pub(crate) fn not_searched(alloc: Global, refusal: Refusal) -> Result<InputError
         Refusal::UnknownLanguage => refused(alloc, "not an index: it names no language"),
         Refusal::OtherPipeline => refused(
             alloc,
-            "it doesn't name the pipeline that its language has here",
+            "it doesn't name the pipeline that its language has here, with stems or without",
         ),
         Refusal::NoFields => refused(alloc, "not an index: it has no list of fields"),
         Refusal::NoTries => refused(alloc, "not an index: a field has no trie"),

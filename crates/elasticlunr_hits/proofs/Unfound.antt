@@ -1,5 +1,5 @@
 -- Why there are no lines of what is asked for.
-use Rattle.std.proofs.Common.{◌≡◌, ◌⊎◌, inl, inr, List, None, false}
+use Rattle.std.proofs.Common.{◌≡◌, ◌⊎◌, ◌∙◌, ap, inl, inr, List, None, false, sym}
 use Rattle.std.specs.Prelude.{Contains}
 use Rattle.elasticlunr_text.specs.Text.{Bytes}
 use Rattle.elasticlunr.specs.Fields.{has_name}
@@ -36,4 +36,11 @@ pub refused_hits : (text : Bytes) (asked : Asked) (v : Data) → ReadsAs text v 
 refused_hits text asked v reads fields index e only lacks = elim only [
   | inl n ↦ rw n (v, reads, fields, index, (lacks n).0, (lacks n).1, (lacks n).2)
   | inr m ↦ rw m tt
+]
+
+-- what a search of it refuses is not its stages
+pub hits_apart : (e : SearchError) → (e ≡ NoSuchField) ⊎ (e ≡ Memory) → ¬ (refusal_of e ≡ refusal.OtherPipeline)
+hits_apart e only is = elim only [
+  | inl n ↦ (let wrong : refusal.NoSuchField ≡ refusal.OtherPipeline = ap refusal_of (sym n) ∙ is in cc (wrong))
+  | inr m ↦ (let wrong : refusal.Memory ≡ refusal.OtherPipeline = ap refusal_of (sym m) ∙ is in cc (wrong))
 ]

@@ -1,14 +1,15 @@
 -- The hits of what is asked for.
-use Rattle.std.specs.Prelude.{◌≡◌, ℕ, List, Option}
+use Rattle.std.specs.Prelude.{◌≡◌, ℕ, Bool, List, Option}
 use Rattle.std.specs.Float.{Float}
 use Rattle.std.specs.List.{filter, zip}
 use Rattle.elasticlunr_text.specs.Text.{Text, Bytes, is_listed}
-use Rattle.elasticlunr_lang.specs.Known.{language_leaves}
+use Rattle.elasticlunr_lang.specs.Words.{words}
 use Rattle.elasticlunr_lang.specs.declared.any.AnyLanguage.{AnyLanguage}
+use Rattle.elasticlunr_stem_stage.specs.Stemmed.{leaves_with}
 use Rattle.elasticlunr_store.specs.Contents.{Contents}
 use Rattle.elasticlunr_store.specs.Options.{Options}
 use Rattle.elasticlunr_trie.specs.Table.{Table}
-use Rattle.elasticlunr.specs.Kept.{KeptReads}
+use Rattle.elasticlunr.specs.Reading.{LanguageReads}
 use Rattle.elasticlunr_ranking.specs.Choice.{fields_for}
 use Rattle.elasticlunr_ranking.specs.Order.{AreRanked}
 use Rattle.elasticlunr_search.specs.Query.{AreTokensOf}
@@ -56,13 +57,14 @@ module _ (reads : ℕ → Bytes → List Text → Type 0) (fields : List Bytes) 
     pub are : hits ≡ at_most asked.limit kept
 
 module _ {P X : Type 0} {O : X → Type 0} {p : _} where
-  -- whatever built-in language it speaks, these are the hits by what this reads
+  -- whatever built-in language it speaks, with stems or without, these are the hits by what this
+  -- reads
   abbrev pub AreHitsOf : (leaves : (v : X) × O v → Text → Option Text)
       → Searcher AnyLanguage P X O p → Asked → (hits : List Told) → Type 0
-  AreHitsOf leaves s asked hits = (language : AnyLanguage)
-      → Speaks language_leaves leaves s language
-      → AreHitsBy (KeptReads language) (fields_of s) s.printed.tries.items (kept_contents s) asked
-      hits
+  AreHitsOf leaves s asked hits = (stems : Bool) (language : AnyLanguage)
+      → Speaks (leaves_with stems) leaves s language
+      → AreHitsBy (LanguageReads words (leaves_with stems language)) (fields_of s)
+      s.printed.tries.items (kept_contents s) asked hits
 
 -- for private clauses: where these names and these options are what is asked of an index with these
 -- fields

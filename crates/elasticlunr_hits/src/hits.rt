@@ -1,7 +1,11 @@
 //! The hits of what is asked for, the best first.
-ghost use Rattle.std.specs.Prelude.{◌≡◌, ◌≢◌, ◌⊎◌, Err, IfErr, IfOk, OnOk, filter, string_bytes};
+ghost use Rattle.std.specs.Prelude.{◌≡◌, ◌≢◌, ◌⊎◌, Err, IfErr, IfOk, IsTrue, OnOk, filter};
+ghost use Rattle.std.specs.Prelude.{string_bytes};
+ghost use Rattle.std.specs.List.{AllByRecursion};
 ghost use Rattle.std.specs.List.Sorted.{IsStrictlySortedBy};
+ghost use Rattle.std.specs.Str.{all_scalars, chars};
 ghost use Rattle.elasticlunr_text.specs.Text.{bytes_of, is_listed, text_cmp};
+ghost use Rattle.elasticlunr_lang.specs.Words.{words};
 ghost use Rattle.elasticlunr_store.specs.Options.{options_of};
 ghost use Rattle.elasticlunr.specs.Fields.{borrowed};
 ghost use Rattle.elasticlunr_ranking.specs.Choice.{named_fields};
@@ -61,11 +65,17 @@ fn best_hits(
         → AreOptionsOf asked.now (fields_of searcher.now) (options_of options.now)
         → IfOk result (λ hits. AreHitsOf leaves searcher.now asked.now (told_hits hits.items)) }
 {
+    words_are_texts(asked.query);
     match asked.limit {
         Some(limit) => searcher.search_best(asked.query, options, limit),
         None => searcher.search(asked.query, options),
     }
 }
+
+/// A law, for proofs: the words of a query are lists of characters.
+fn words_are_texts(query: &str)
+    ensures { AllByRecursion (λ word. IsTrue (all_scalars word)) (words (chars query.now)) }
+{}
 
 /// The first hits that have each word of the query, one in this field and another one in that.
 fn hits_with_each(
@@ -85,6 +95,7 @@ fn hits_with_each(
         (borrowed names.now) (options_of options.now)
         (IfOk result (λ hits. AreHitsOf leaves searcher.now asked.now (told_hits hits.items))) }
 {
+    words_are_texts(asked.query);
     let boosted = boosted_names(alloc, names, &asked.boosts)?;
     let found = searcher.find_across(&boosted, asked.query)?;
     let mut hits = searcher.search(asked.query, options)?;

@@ -3,6 +3,7 @@ pub mod Stops
 pub mod Deeper
 pub mod Naming
 pub mod Stages
+pub mod Stemming
 pub mod Refusing
 pub mod FieldTries
 pub mod NaturalTries

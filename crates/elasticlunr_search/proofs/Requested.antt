@@ -18,7 +18,7 @@ use Rattle.elasticlunr.specs.Fields.{has_name}
 use Rattle.elasticlunr.specs.Shape.{HasLanguage}
 use Rattle.elasticlunr_print.proofs.Shapes.{one_language}
 use Rattle.elasticlunr_search.specs.Answers.{Asks, HasBelow, is_line_feed}
-use Rattle.elasticlunr_search.specs.Fields.{HasNoField, IsIndexWith}
+use Rattle.elasticlunr_search.specs.Fields.{HasNoField, HasStages, IsIndexWith}
 use Rattle.elasticlunr_search.specs.Levels.{IsTooDeep}
 use Rattle.elasticlunr_search.specs.Readers.{ReadsAs, IsNotJson}
 use Rattle.elasticlunr_search.specs.Refusal.{IsUnread, Lacks, RefusesValue}
@@ -130,14 +130,15 @@ pub refused_for : (v : Data) (field : Option Bytes) (e : SearchError) → (e ≡
     → (e ≡ NoSuchField → IsSomeAnd field (HasNoField v)) → IsNotSearched v field (refusal_of e)
 refused_for v field e only none = elim only [ inl n ↦ rw n (none n) | inr m ↦ rw m tt ]
 
--- why a searcher by the language that a value names refuses the value
-pub not_opened : (v : Data) (field : Option Bytes) (language : AnyLanguage) → HasLanguage v (language_name language)
-    → (e : SearchError) → RefusesValue (language_name language) (language_stages language) v e
-    → IsNotSearched v field (refusal_of e)
-not_opened v field language named e refuses = elim refuses [
+-- why a searcher by the language that a value names, and by stages that the value lacks only where it lacks those of
+-- the language, refuses the value
+pub not_opened_by : (v : Data) (field : Option Bytes) (language : AnyLanguage) → HasLanguage v (language_name language)
+    → (stages : List Bytes) → (¬ HasStages v stages → ¬ HasStages v (language_stages language)) → (e : SearchError)
+    → RefusesValue (language_name language) stages v e → IsNotSearched v field (refusal_of e)
+not_opened_by v field language named stages none e refuses = elim refuses [
   | inl other ↦ absurd (other.1.2 (one_language v other.1.0 (language_name language) other.1.1 named))
   | inr more ↦ elim more [
-    | inl others ↦ subst (λ x. IsNotSearched v field (refusal_of x)) (sym others.0) (language, named, others.1)
+    | inl others ↦ subst (λ x. IsNotSearched v field (refusal_of x)) (sym others.0) (language, named, none others.1)
     | inr lacks ↦ lacking e lacks
   ]
 ] where
@@ -151,3 +152,10 @@ not_opened v field language named e refuses = elim refuses [
   lacking BadStore lacks = lacks
   lacking NoSuchField lacks = absurd lacks
   lacking Memory lacks = tt
+
+-- why a searcher by the language that a value names refuses the value
+pub not_opened : (v : Data) (field : Option Bytes) (language : AnyLanguage) → HasLanguage v (language_name language)
+    → (e : SearchError) → RefusesValue (language_name language) (language_stages language) v e
+    → IsNotSearched v field (refusal_of e)
+not_opened v field language named e refuses =
+    not_opened_by v field language named (language_stages language) (λ none. none) e refuses

@@ -16,6 +16,7 @@ ghost use Rattle.elasticlunr.specs.History.{Commands, now};
 ghost use Rattle.elasticlunr.specs.Printed.{IsPrintOf};
 ghost use Rattle.elasticlunr.specs.Reading.{LanguageReads};
 ghost use Rattle.elasticlunr.specs.Standing.{Plan, stored};
+ghost use Rattle.elasticlunr_search.specs.Fields.{HasStages};
 ghost use Rattle.elasticlunr_search.specs.Query.{AreTokensOf, RunReads};
 ghost use Rattle.elasticlunr_search.specs.Tries.{tables_of};
 ghost use Rattle.elasticlunr_search.specs.Words.{asked_fields};
@@ -180,7 +181,7 @@ impl<L: Language> Searcher<L> {
     }
 
     /// A searcher of an index that was read, by this language and this pipeline.
-    fn of_source(
+    pub(crate) fn of_source(
         alloc: Global,
         language: L,
         pipeline: Pipeline,
@@ -188,6 +189,8 @@ impl<L: Language> Searcher<L> {
     ) -> Result<Searcher<L>, SearchError>
         ensures chosen { IfOk result (λ s. IsChosen s language pipeline) }
         ensures parts { IfOk result (λ s. (v : Data) → IsSource source v → HasPartsOf v s) }
+        ensures staged { IfOk result (λ s. (v : Data) → IsSource source v
+            → HasStages v (names_by name_text pipeline)) }
         ensures refused { IfErr result (λ e. (v : Data) → IsSource source v
             → RefusesValue (L.name_of language) (names_by name_text pipeline) v e) }
         ensures other { (v : Data) → IsSource source v

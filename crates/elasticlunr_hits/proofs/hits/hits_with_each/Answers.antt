@@ -42,8 +42,9 @@ returns-clause-hits g c each named of_asked =
     ap borrowed c.deref-2.ensures.value ∙ c.in_ok-boosted.ensures
     ∙ (λ j. boosted (c.deref.ensures.value j) (named j)) in
     found_come (λ b. (goal.PipelineFn-dyn g b).leaves b.1) c.args.searcher.now c.args.asked.now
-    (options_of c.args.options.now) of_asked each (told_hits ranking) c.in_ok-hits.ensures.ranked
-    (borrowed c.deref-2.result.now) (bytes_of found) names c.in_ok-found.ensures.in_tries (told_hits kept)
+    c.words_are_texts.ensures (options_of c.args.options.now) of_asked each (told_hits ranking)
+    c.in_ok-hits.ensures.as_chosen (borrowed c.deref-2.result.now) (bytes_of found) names
+    c.in_ok-found.ensures.as_chosen (told_hits kept)
     (subst (λ fs. IsStrictlySortedBy text_cmp (bytes_of fs)
     → told_hits kept ≡ filter (λ (hit : Told). is_listed hit.0 (bytes_of fs)) (told_hits ranking))
     c.deref-3.ensures.value c.keep_found.ensures) (told_hits c.keep_first.new.hits.items)

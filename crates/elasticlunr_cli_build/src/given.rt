@@ -26,23 +26,33 @@ pub fn settings_given(
         language,
         drops_texts: given.get_flag("no-save"),
         pretty: given.get_flag("pretty"),
-        rules: rules_given(alloc, stored, longest),
+        rules: rules_given(alloc, stored, longest, given.get_flag("stems")),
         indexes_reference: given.get_flag("index-ref"),
     })
 }
 
 /// The rules of these, where one of them is given.
-fn rules_given(alloc: Global, stored: Option<Vec<String>>, longest: Option<usize>) -> Option<Rules>
+fn rules_given(
+    alloc: Global,
+    stored: Option<Vec<String>>,
+    longest: Option<usize>,
+    stems: bool,
+) -> Option<Rules>
     ensures { own_rules result
-        ≡ rules_in (option_map (λ names. bytes_of names.items) stored) longest }
+        ≡ rules_in (option_map (λ names. bytes_of names.items) stored) longest stems }
 {
     match (stored, longest) {
-        (Some(stored), longest) => Some(Rules { stored, longest }),
-        (None, Some(most)) => Some(Rules {
-            stored: Vec::new(alloc),
-            longest: Some(most),
+        (Some(stored), longest) => Some(Rules {
+            stored,
+            longest,
+            stems,
         }),
-        (None, None) => None,
+        (None, None) if !stems => None,
+        (None, longest) => Some(Rules {
+            stored: Vec::new(alloc),
+            longest,
+            stems,
+        }),
     }
 }
 

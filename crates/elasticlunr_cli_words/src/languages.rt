@@ -1,7 +1,8 @@
-//! `languages`: the names, the codes and the stages.
+//! `languages`: the names, the codes, the stages and the stemmers.
 
 use elasticlunr_diagnostics::outcome::Outcome;
 use elasticlunr_lang::{AnyLanguage, Language, languages};
+use elasticlunr_stem_stage::with_table;
 use elasticlunr_text::pipeline::Pipeline;
 use std::alloc::{AllocError, Global};
 use std::io;
@@ -23,11 +24,15 @@ fn languages_text(alloc: Global) -> Result<String, AllocError> {
     Ok(text)
 }
 
-/// The name, the code and the names of the stages, and a line feed.
+/// The name, the code and the names of the stages, the stemmer that `--stems` puts after these, and
+/// a line feed.
 fn language_line(alloc: Global, language: AnyLanguage) -> Result<String, AllocError> {
     let name = language.name(alloc)?;
     let code = language.code(alloc)?;
     let stages = stages_text(alloc, language)?;
+    if with_table(language).is_some() {
+        return format!(in alloc; "{name:<12}{code:<4}{stages} (--stems: stemmer-{code})\n");
+    }
     format!(in alloc; "{name:<12}{code:<4}{stages}\n")
 }
 

@@ -73,6 +73,7 @@ fn input_words<'a>(alloc: Global, command: Command<'a>) -> Result<Command<'a>, A
     let indexed = "Indexes the reference as well";
     let store = "Members that are stored and not indexed, with a comma between them";
     let longest = "Leaves out words of more characters than this";
+    let stems = "Finds other forms of a word, where `elasticlunr languages` lists a stemmer";
     let progress = "Reports when the input is read and the index is made";
     let arguments = vec![in alloc;
         Arg::new(alloc, "file").value_name("FILE").help(file),
@@ -83,6 +84,7 @@ fn input_words<'a>(alloc: Global, command: Command<'a>) -> Result<Command<'a>, A
         option(alloc, "lang", "LANGUAGE", language),
         option(alloc, "store", "KEYS", store),
         option(alloc, "max-token", "NUMBER", longest),
+        flag(alloc, "stems", stems),
         flag(alloc, "strict", "Treats warnings as refusals"),
         flag(alloc, "progress", progress),
     ]?;

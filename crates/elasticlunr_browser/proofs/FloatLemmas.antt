@@ -9,9 +9,10 @@ use Rattle.elasticlunr_text.specs.Text.{Bytes, bytes_of}
 use Rattle.elasticlunr_lang.specs.declared.any.AnyLanguage.{AnyLanguage}
 use Rattle.elasticlunr_lang.specs.declared.any.AnyLanguage.TheVariants.{English}
 use Rattle.elasticlunr_browser.specs.Facts.{IsFacts}
-use Rattle.elasticlunr_browser.specs.Kinds.{Kind, english_trimmer, stop_words, trimmer, english_stemmer, arabic_stemmer}
+use Rattle.elasticlunr_browser.specs.Kinds.{Kind, english_trimmer, stop_words, trimmer, english_stemmer, arabic_stemmer, table_stemmer}
 use Rattle.elasticlunr_browser.specs.Kinds.{keep, HoldsKind, HoldsKinds, HoldsLanguage, HoldsLanguages}
-use Rattle.elasticlunr_browser.specs.Stemmers.{with_table, stemmer_data, stemmer_of}
+use Rattle.elasticlunr_browser.specs.Stemmers.{stemmer_data, stemmer_of}
+use Rattle.elasticlunr_stem_stage.specs.Stemmed.{with_table}
 use Rattle.elasticlunr_stem_tables.specs.declared.language.Language.{Language}
 
 -- none of these values has a float
@@ -43,6 +44,7 @@ none-kind english_stemmer d is = (cc)
 none-kind arabic_stemmer d is = ap has_float is.value
     ∙ (ap (λ b. b || (items_have_float (items_of (map (λ n. number (unsigned n)) is.marks)) || false))
     (none-texts (bytes_of is.pairs)) ∙ ap (λ b. b || false) (none-numbers is.marks))
+none-kind (table_stemmer stemmer) d is = (cc)
 none-kind (keep name) d is = ap has_float is
 
 none-kinds : (kinds : List Kind) (each : List (Option Data)) → AllZip HoldsKind kinds each

@@ -17,13 +17,13 @@ use Rattle.elasticlunr_text.specs.Stages.{IsKnown, MayLeave, MayLeaveAll, stage_
 use Rattle.elasticlunr_text.specs.declared.pipeline.stage.Stage.{Stage}
 use Rattle.elasticlunr_text.specs.declared.pipeline.stage.Stage.TheVariants.{EnglishTrimmer, StopWords, Class}
 use Rattle.elasticlunr_text.specs.declared.pipeline.stage.Stage.TheVariants.{EnglishStemmer, ArabicStemmer, Keep}
-use Rattle.elasticlunr_text.specs.declared.pipeline.stage.Stage.TheVariants.{Function, Own}
+use Rattle.elasticlunr_text.specs.declared.pipeline.stage.Stage.TheVariants.{Function, Own, TableStemmer}
 use Rattle.elasticlunr_lang.specs.Known.{language_stages, language_leaves}
 use Rattle.elasticlunr_lang.specs.declared.any.AnyLanguage.{AnyLanguage}
 use Rattle.elasticlunr_lang.specs.declared.any.AnyLanguage.TheVariants.{English, Arabic, Danish, Dutch, Finnish, French}
 use Rattle.elasticlunr_lang.specs.declared.any.AnyLanguage.TheVariants.{German, Italian, Korean, Norwegian, Portuguese}
 use Rattle.elasticlunr_lang.specs.declared.any.AnyLanguage.TheVariants.{Romanian, Russian, Spanish, Swedish, Turkish}
-use Rattle.elasticlunr_browser.specs.Kinds.{Kind, english_trimmer, stop_words, trimmer, english_stemmer, arabic_stemmer}
+use Rattle.elasticlunr_browser.specs.Kinds.{Kind, english_trimmer, stop_words, trimmer, english_stemmer, arabic_stemmer, table_stemmer}
 use Rattle.elasticlunr_browser.specs.Kinds.{keep, kind_name, kind_of, KindLeaves, KindsLeave, HoldsKind, HoldsKinds}
 use Rattle.elasticlunr_browser.specs.Kinds.{HoldsStage, HoldsStages, AreStagesOf, HoldsLanguage, HoldsLanguages}
 use Rattle.elasticlunr_browser.specs.Stemmers.{stemmer_of}
@@ -62,6 +62,10 @@ module _ {f x p calls : _} (name_text : DynBox x Global p → Bytes) (leaves : D
     )
     its_kind ArabicStemmer known = (
       arabic_stemmer,
+      record { kind_is = refl; name_is = refl; leaves_as = λ token left. (λ h. h, λ h. h) },
+    )
+    its_kind (TableStemmer stemmer) known = (
+      table_stemmer stemmer,
       record { kind_is = refl; name_is = refl; leaves_as = λ token left. (λ h. h, λ h. h) },
     )
     its_kind (Keep name) known = (

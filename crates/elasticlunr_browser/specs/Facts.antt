@@ -15,7 +15,7 @@ use Rattle.elasticlunr_browser.specs.Marks.{Marks}
 use Rattle.elasticlunr_browser.specs.Named.{AreNamed}
 use Rattle.elasticlunr_browser.specs.Pairs.{Pairs}
 use Rattle.elasticlunr_browser.specs.Stages.{texts, numbers}
-use Rattle.elasticlunr_browser.specs.Stemmers.{with_table}
+use Rattle.elasticlunr_stem_stage.specs.Stemmed.{with_table}
 use Rattle.elasticlunr_browser.specs.declared.template.TheConstants.{HEAD, STAGES, STEMMER, TAIL}
 
 -- the object of the separators of words, lower case and stages

@@ -11,13 +11,16 @@ use Rattle.elasticlunr_text.specs.Stems.{Stem}
 use Rattle.elasticlunr_text.specs.StopWords.{filter_name, without}
 use Rattle.elasticlunr_text.specs.Trimmed.{trimmed, is_word_char}
 use Rattle.elasticlunr_text.specs.Trimmers.{trimmer_name, cut_to_class}
+use Rattle.elasticlunr_text.specs.TableStemmers.{stemmer_name, table_stem}
 use Rattle.elasticlunr_text.specs.declared.lang.common.stop_words.StopWordFilter.{StopWordFilter}
+use Rattle.elasticlunr_text.specs.declared.lang.common.table_stemmer.TableStemmer as table
 use Rattle.elasticlunr_text.specs.declared.lang.common.trimmer.RegexTrimmer.{RegexTrimmer}
 use Rattle.elasticlunr_text.specs.declared.pipeline.stage.Stage.{Stage}
 use Rattle.elasticlunr_text.specs.declared.pipeline.stage.Stage.TheVariants.{EnglishTrimmer}
 use Rattle.elasticlunr_text.specs.declared.pipeline.stage.Stage.TheVariants.{StopWords, Class}
 use Rattle.elasticlunr_text.specs.declared.pipeline.stage.Stage.TheVariants.{EnglishStemmer}
 use Rattle.elasticlunr_text.specs.declared.pipeline.stage.Stage.TheVariants.{ArabicStemmer, Keep}
+use Rattle.elasticlunr_text.specs.declared.pipeline.stage.Stage.TheVariants.{TableStemmer}
 use Rattle.elasticlunr_text.specs.declared.pipeline.stage.Stage.TheVariants.{Function, Own}
 use Rattle.elasticlunr_lang.specs.Known.{language_stages, language_leaves}
 use Rattle.elasticlunr_lang.specs.declared.any.AnyLanguage.{AnyLanguage}
@@ -32,6 +35,7 @@ pub data Kind : Type 0 where
   trimmer : RegexTrimmer → Kind
   english_stemmer : Kind
   arabic_stemmer : Kind
+  table_stemmer : table.TableStemmer → Kind
   keep : Bytes → Kind
 
 -- its name
@@ -41,6 +45,7 @@ kind_name (stop_words filter) = filter_name filter
 kind_name (trimmer class) = trimmer_name class
 kind_name english_stemmer = codes "stemmer"
 kind_name arabic_stemmer = codes "stemmer-ar"
+kind_name (table_stemmer stemmer) = stemmer_name stemmer
 kind_name (keep name) = name
 
 -- what it may make of a token
@@ -50,6 +55,7 @@ KindLeaves (stop_words filter) token left = left ≡ without filter token
 KindLeaves (trimmer class) token left = left ≡ cut_to_class class token
 KindLeaves english_stemmer token left = IsSomeAnd left (Stem token)
 KindLeaves arabic_stemmer token left = left ≡ arabic_stem token
+KindLeaves (table_stemmer stemmer) token left = left ≡ table_stem stemmer token
 KindLeaves (keep name) token left = left ≡ Some token
 
 -- what several may make of a token, one after the other: what one drops stays dropped
@@ -58,13 +64,15 @@ KindsLeave [] token left = left ≡ Some token
 KindsLeave (kind ∷ kinds) token left = (first : Option Text) × KindLeaves kind token first
     × MatchOption first (left ≡ None) (λ t. KindsLeave kinds t left)
 
--- what a script holds of a kind: nothing of those of English, which elasticlunr.js has
+-- what a script holds of a kind: nothing of those of English, which elasticlunr.js has, and of the
+-- stemmer of a table, which it holds with the language
 abbrev pub HoldsKind : Kind → Option Data → Type 0
 HoldsKind english_trimmer d = d ≡ None
 HoldsKind (stop_words filter) d = IsSomeAnd d (IsFilter filter)
 HoldsKind (trimmer class) d = IsSomeAnd d (IsTrimmer class)
 HoldsKind english_stemmer d = d ≡ None
 HoldsKind arabic_stemmer d = IsSomeAnd d IsArabic
+HoldsKind (table_stemmer stemmer) d = d ≡ None
 HoldsKind (keep name) d = IsSomeAnd d (λ value. value ≡ keep_data name)
 
 -- what it holds of several, in order
@@ -100,6 +108,7 @@ kind_of (StopWords filter) = Some (stop_words filter)
 kind_of (Class class) = Some (trimmer class)
 kind_of EnglishStemmer = Some english_stemmer
 kind_of ArabicStemmer = Some arabic_stemmer
+kind_of (TableStemmer stemmer) = Some (table_stemmer stemmer)
 kind_of (Keep name) = Some (keep (string_bytes name))
 kind_of (Function wrapper) = None
 kind_of (Own step) = None

@@ -11,9 +11,9 @@ ghost use Rattle.elasticlunr_browser.specs.Named.{IsNameOf, IsNoName, AreNamed};
 use crate::classes::{Separators, marks_of};
 use crate::pairs::{LowerCase, pairs_of};
 use crate::stages::{numbers, push_stages, texts};
-use crate::stemmers::with_table;
 use crate::template::{HEAD, STAGES, STEMMER, TAIL};
 use elasticlunr_lang::{AnyLanguage, from_name, languages};
+use elasticlunr_stem_stage::with_table;
 use serde_json::{Value, json};
 use std::alloc::{AllocError, Global};
 

@@ -125,7 +125,8 @@ fn arabic(alloc: Global) -> Result<Value, AllocError>
     Ok(value)
 }
 
-/// A stage, if it isn't one of the browser script's own.
+/// A stage, if it isn't one of the browser script's own. The stemmer of a table comes with the
+/// language.
 fn stage_of(alloc: Global, stage: &Stage) -> Result<Option<Value>, AllocError>
     ensures { IfOk result (λ found. HoldsStage stage.now (option_map view found)) }
 {
@@ -136,6 +137,7 @@ fn stage_of(alloc: Global, stage: &Stage) -> Result<Option<Value>, AllocError>
         Stage::Keep(name) => Ok(Some(json!(in alloc; {"name": name.as_str()})?)),
         Stage::EnglishTrimmer => Ok(None),
         Stage::EnglishStemmer => Ok(None),
+        Stage::TableStemmer(_) => Ok(None),
         Stage::Function(_) => Ok(None),
         Stage::Own(_) => Ok(None),
     }

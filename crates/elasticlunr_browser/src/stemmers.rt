@@ -5,33 +5,10 @@ ghost use Rattle.elasticlunr_browser.specs.Stemmers as spec;
 ghost use Rattle.elasticlunr_browser.specs.Stemmers.{table_data, stemmer_data};
 
 use elasticlunr_lang::AnyLanguage;
+use elasticlunr_stem_stage::with_table;
 use elasticlunr_stem_tables::{Language, Version};
 use serde_json::{Value, json};
 use std::alloc::{AllocError, Global};
-
-/// The language of the tables that has the same name.
-pub(crate) fn with_table(language: AnyLanguage) -> Option<Language>
-    ensures { result ≡ spec.with_table language }
-{
-    match language {
-        AnyLanguage::English => None,
-        AnyLanguage::Arabic => None,
-        AnyLanguage::Danish => Some(Language::Danish),
-        AnyLanguage::Dutch => Some(Language::Dutch),
-        AnyLanguage::Finnish => Some(Language::Finnish),
-        AnyLanguage::French => Some(Language::French),
-        AnyLanguage::German => Some(Language::German),
-        AnyLanguage::Italian => Some(Language::Italian),
-        AnyLanguage::Korean => None,
-        AnyLanguage::Norwegian => Some(Language::Norwegian),
-        AnyLanguage::Portuguese => Some(Language::Portuguese),
-        AnyLanguage::Romanian => Some(Language::Romanian),
-        AnyLanguage::Russian => Some(Language::Russian),
-        AnyLanguage::Spanish => Some(Language::Spanish),
-        AnyLanguage::Swedish => Some(Language::Swedish),
-        AnyLanguage::Turkish => Some(Language::Turkish),
-    }
-}
 
 /// What a script holds of a table.
 fn table_value(alloc: Global, name: &str, table: &str) -> Result<Value, AllocError>

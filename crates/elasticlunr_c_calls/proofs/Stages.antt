@@ -9,7 +9,7 @@ use Rattle.elasticlunr_text.specs.Stages.{IsKnown, MayLeaveAll}
 use Rattle.elasticlunr_text.specs.declared.pipeline.stage.Stage.{Stage}
 use Rattle.elasticlunr_text.specs.declared.pipeline.stage.Stage.TheVariants.{EnglishTrimmer, StopWords, Class}
 use Rattle.elasticlunr_text.specs.declared.pipeline.stage.Stage.TheVariants.{EnglishStemmer, ArabicStemmer, Keep}
-use Rattle.elasticlunr_text.specs.declared.pipeline.stage.Stage.TheVariants.{Function, Own}
+use Rattle.elasticlunr_text.specs.declared.pipeline.stage.Stage.TheVariants.{Function, Own, TableStemmer}
 
 -- the stage leaves each token as it is
 abbrev pub IsKeep : {f x p calls : _} → Stage f x p calls → Type 0
@@ -18,6 +18,7 @@ IsKeep (StopWords filter) = ⊥
 IsKeep (Class trimmer) = ⊥
 IsKeep EnglishStemmer = ⊥
 IsKeep ArabicStemmer = ⊥
+IsKeep (TableStemmer stemmer) = ⊥
 IsKeep (Keep name) = ⊤
 IsKeep (Function wrapper) = ⊥
 IsKeep (Own step) = ⊥
@@ -37,6 +38,7 @@ module _ {f x p calls : _} (leaves : DynBox x Global p → Text → Option Text)
   there (Class trimmer ∷ stages) all token left is = absurd all.0
   there (EnglishStemmer ∷ stages) all token left is = absurd all.0
   there (ArabicStemmer ∷ stages) all token left is = absurd all.0
+  there (TableStemmer stemmer ∷ stages) all token left is = absurd all.0
   there (Keep name ∷ stages) all token left (first, is, rest) = there stages all.1 token left
       (subst (λ o. MatchOption o (left ≡ None) (λ t. MayLeaveAll leaves stages t left)) is rest)
   there (Function wrapper ∷ stages) all token left is = absurd all.0
@@ -50,6 +52,7 @@ module _ {f x p calls : _} (leaves : DynBox x Global p → Text → Option Text)
   back (Class trimmer ∷ stages) all token left is = absurd all.0
   back (EnglishStemmer ∷ stages) all token left is = absurd all.0
   back (ArabicStemmer ∷ stages) all token left is = absurd all.0
+  back (TableStemmer stemmer ∷ stages) all token left is = absurd all.0
   back (Keep name ∷ stages) all token left is = (Some token, refl, back stages all.1 token left is)
   back (Function wrapper ∷ stages) all token left is = absurd all.0
   back (Own step ∷ stages) all token left is = absurd all.0
@@ -68,6 +71,7 @@ keeps_are_known (StopWords filter ∷ stages) all = absurd all.0
 keeps_are_known (Class trimmer ∷ stages) all = absurd all.0
 keeps_are_known (EnglishStemmer ∷ stages) all = absurd all.0
 keeps_are_known (ArabicStemmer ∷ stages) all = absurd all.0
+keeps_are_known (TableStemmer stemmer ∷ stages) all = absurd all.0
 keeps_are_known (Keep name ∷ stages) all = (tt, keeps_are_known stages all.1)
 keeps_are_known (Function wrapper ∷ stages) all = absurd all.0
 keeps_are_known (Own step ∷ stages) all = absurd all.0

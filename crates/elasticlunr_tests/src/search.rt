@@ -1,11 +1,13 @@
 //! Searches of what no index of the library's own languages prints: an index with a stage of the
-//! user's own, one with a tokenizer, and one that elasticlunr.js printed; and of an index that
-//! nests deeper than a JSON value is read.
+//! user's own, one with a tokenizer, one with stems, and one that elasticlunr.js printed; and of an
+//! index that nests deeper than a JSON value is read.
 use crate::text_lists::repeated;
-use elasticlunr::lang::English;
+use elasticlunr::lang::{AnyLanguage, English};
 use elasticlunr::pipeline::{Pipeline, PipelineFn, Stage};
 use elasticlunr::{Index, IndexBuilder};
+use elasticlunr_search::named::read_named;
 use elasticlunr_search::{Join, SearchError, Searcher};
+use elasticlunr_stem_stage::language_pipeline;
 use elasticlunr_uses::custom::{DropEmpty, Plain, Tokenize, index_with_tokenizer, whole};
 use elasticlunr_uses::own::text_of_words;
 use std::test::Fail;
@@ -36,6 +38,26 @@ fn tokens_of_the_callers_own_are_found(rt: HostRuntime) -> Result<(), Fail> {
     assert_eq!(rt; searcher.find_tokens(Join::All, "title", &tokens)?.len(), 1);
     assert_eq!(rt; searcher.find_tokens(Join::Any, "body", &tokens)?.len(), 0);
     assert_eq!(rt; searcher.find_any("title", "New York")?.len(), 0);
+    Ok(())
+}
+
+#[test]
+fn an_index_with_stems_is_searched_by_what_it_names(rt: HostRuntime) -> Result<(), Fail> {
+    let alloc = rt.alloc();
+    let pipeline = language_pipeline(alloc, AnyLanguage::German, true)?;
+    let builder = IndexBuilder::with_language(alloc, AnyLanguage::German)?;
+    let mut index = builder.with_pipeline(pipeline).add_field("body")?.build()?;
+    index.add_doc("1", &["Häuser in der Stadt"])?;
+    let text = index.to_json()?;
+    let found = match read_named(alloc, text.as_str()) {
+        Ok(searcher) => searcher.find_any("body", "Haus")?.len(),
+        Err(_) => 0,
+    };
+    assert_eq!(rt; found, 1);
+    assert_eq!(rt;
+        Searcher::read(alloc, AnyLanguage::German, text.as_str()).err(),
+        Some(SearchError::OtherPipeline)
+    );
     Ok(())
 }
 

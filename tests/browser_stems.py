@@ -9,11 +9,9 @@ from tests.browser_page import SITES, Page, site
 from tests.browser_pieces import in_pieces
 from tests.browser_sentences import PAGES
 from tests.browser_tools import ALL, in_node, must, own_script
-from tests.model_tokens import LANGUAGES, stages
-from tests.stems_model import Stemmer
+from tests.stems_index import CODES, built, index_of, stemmer
 from tools.repository import read
 
-CODES = {name.capitalize(): code for code, name in stems.NAMES.items() if name.capitalize() in PAGES}
 LEAST = 1000  # listed words of each language
 MADE_UP = 200  # words of each language, and as many with characters above U+FFFF
 WIDE = "𝒳𐐨😀"  # characters above U+FFFF
@@ -21,11 +19,6 @@ OTHERS = ["", *WIDE, "𐐨𐐨", "x" * 1000, "u" * 1000, "aeiou" * 200, "constru
 
 
 # In node.
-
-@functools.lru_cache(None)
-def stemmer(code):
-    return Stemmer(stems.table(code, "current"))
-
 
 def wider(word, chance):
     """The word with characters above U+FFFF, once or twice each."""
@@ -101,18 +94,6 @@ def in_node_cases():
 
 # On pages.
 
-def index_of(language, docs):
-    """A job, and the text of an index of it whose pipeline ends in the stemmer."""
-    code = CODES[language]
-    job = model.Job(["title", "body"], [list(doc) for doc in docs], lang=language)
-    commands = []
-    for command in model.commands_of(job):
-        tokens = {field: [stem for stem in map(stemmer(code).stem, found) if stem] for field, found in command.tokens.items()}
-        commands.append(command._replace(tokens=tokens))
-    whole = model.value(job, commands, [*stages(LANGUAGES[language]), f"stemmer-{code}"])
-    return {"fields": job.fields, "docs": job.docs}, json.dumps(whole, ensure_ascii=False)
-
-
 def same_postings(language):
     """The browser makes the same tokens of the texts as the models."""
     def case(world):
@@ -135,10 +116,10 @@ FORMS = {  # what is typed, the title of the page that is found, and the words t
 
 
 def other_forms(language):
-    """A page finds and marks another form of a word by an index with stems, and doesn't by one without."""
+    """A page finds and marks another form of a word by an index that the command builds with stems, and doesn't by one without."""
     def find(world):
         text, title, marked = FORMS[language]
-        _, index = index_of(language, SITES[language])
+        index = built(language, SITES[language])
         page = Page(world, site(world, f"{language}-with-stems", SITES[language], index=index))
         page.type(text)
         must(page.titles() == [title] and page.marks("p.excerpt") == marked, [page.titles(), page.marks("p.excerpt")])

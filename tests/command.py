@@ -31,6 +31,7 @@ from tests.command_kept import check_kept
 from tests.command_pieces import check_pieces
 from tests.command_publish import check_publishing
 from tests.command_search_pieces import check_search_pieces
+from tests.command_stems import check_stems
 from tests.memory_shim import Refusing
 from tests.report import Results
 from tests.tables import rows_missing
@@ -418,7 +419,7 @@ def check_memory(results):
         results.check(f"memory refused in turn, {form}", wrong == 0 and refused >= LEAST, f"{refused} refused, {wrong} wrong")
 
 
-CHECKS = [check_forms, check_search, check_deep_search, check_terminal, check_files, check_many, check_one_line, check_failing_input, check_memory, check_kept, check_pieces, check_publishing, check_search_pieces]
+CHECKS = [check_forms, check_search, check_deep_search, check_terminal, check_files, check_many, check_one_line, check_failing_input, check_memory, check_kept, check_stems, check_pieces, check_publishing, check_search_pieces]
 
 
 def main():

@@ -154,6 +154,7 @@ CHANGES = {  # whose program is run, what is changed of its run, and how
         'words = [str(1 + int(word)) if before == "--max-token" else word for before, word in zip(["", *words], words)]',
     ),
     "a command that indexes no reference": (COMMAND, CHANGES_WORDS, 'words = [word for word in words if word != "--index-ref"]'),
+    "a command that stems no word": (COMMAND, CHANGES_WORDS, 'words = [word for word in words if word != "--stems"]'),
     "a command that takes a failed input for its end": (COMMAND, CHANGES_WORDS, ENDS_EARLY),
     "always ends well": (COMMAND, CHANGES_ANSWER, "status = 0"),
     "stems after one version": (STEMS, CHANGES_WORDS, 'words[1:] = ["current"]'),
@@ -294,6 +295,8 @@ def forged_commands(folder):
     yield Forgery(longer, "command", "^command, kept, short, lines, English: ", longer, (few, "check_kept"), COMMAND)
     hidden = "a command that indexes no reference"
     yield Forgery(hidden, "command", "^command, kept, the reference is indexed, objects, English: ", hidden, (few, "check_kept"), COMMAND)
+    plain = "a command that stems no word"
+    yield Forgery(plain, "command", "^command, --stems, German, lines: ", plain, (few, "check_stems"), COMMAND)
     early = "a command that takes a failed input for its end"
     yield Forgery(early, "command", r"^command, an input that fails, lines, \['build'\]: ", early, (few, "check_failing_input"), COMMAND)
     yield Forgery("a table of commands cut short", "command", f"^command, table: {COMMANDS - 1} rows instead of {COMMANDS}", arguments=(cut, "none"))

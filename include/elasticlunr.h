@@ -109,11 +109,11 @@ uint32_t elasticlunr_index_pieces(const uint8_t *input, size_t input_length, uin
  *            without one has 1, and the boost of a field that is not searched has no effect.
  *   limit    the number of hits that come at most, or 0 for all
  *
- * The index must have been built with the stages of the language that it names. Refused are a text that is not JSON ("refused:
- * not JSON"), that nests too deep ("refused: nested deeper than 127 levels"), that names no built-in language ("refused: unknown
- * language") or other stages ("refused: other stages than its language has"), that has no list of fields, no trie of a field or
- * no document store ("refused: no fields", "refused: no trie of a field", "refused: no document store"), and a field that the index
- * doesn't have ("refused: no such field").
+ * The index must have been built with the stages of the language that it names, with its stemmer after them or without. Refused are
+ * a text that is not JSON ("refused: not JSON"), that nests too deep ("refused: nested deeper than 127 levels"), that names no
+ * built-in language ("refused: unknown language") or other stages ("refused: other stages than its language has"), that has no list
+ * of fields, no trie of a field or no document store ("refused: no fields", "refused: no trie of a field", "refused: no document
+ * store"), and a field that the index doesn't have ("refused: no such field").
  */
 uint32_t elasticlunr_search(const uint8_t *index, size_t index_length, const uint8_t *search, size_t search_length, uint8_t **text,
                             size_t *length);

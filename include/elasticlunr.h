@@ -54,7 +54,8 @@ size_t elasticlunr_answer_into(const uint8_t *job, size_t job_length, uint8_t *o
  *
  *   language   the number 0, and as a text the name of a built-in language, such as "German"; or the number 1, a name as a text,
  *              and a list of texts: the name of a custom language and the names of its stages. It makes words of a text, and
- *              its stages keep each token unchanged.
+ *              its stages keep each token unchanged. Or the number 2, and as a text the name of a built-in language whose stemmer
+ *              comes after its stages, as with `elasticlunr build --stems`; one without such a stemmer is as with 0.
  *   reference  as a text, the name under which an index has the reference of a document, such as "id"; a field of this name is
  *              stored and not indexed
  *   save       the number 1 if the index has the texts of the documents, or 0

@@ -3,11 +3,13 @@ import random
 
 from tests import flat_model, model, random_jobs
 from tests.flat_model import AS_GIVEN, FROM_TEXT, INTO_PIPELINE, Document, Input, Value, flat
+from tests.browser_sentences import PAGES
 from tests.model_tokens import LANGUAGES
 from tests.tables import Row, jobs
 
 SEED = 7
 OF_EACH_LANGUAGE = 12
+WITH_STEMS = 4  # of each language
 OF_OWN = 24
 OWN_STAGES = [(), ("trimmer",), ("stemmer-xx", "stemmer-xx"), ("", "é\n\0", "stopWordFilter")]
 RARE = ["", "a", "-", "two words", "Red!", "YELLOWED", "yelling", "the", "é\n\"\\\0", "\u2028", "😀", "\U0010ffff", "x" * 27, "x" * 28]
@@ -46,6 +48,7 @@ def random_inputs():
     rng = random.Random(SEED)
     for lang in LANGUAGES:
         yield from (random_input(rng, lang) for _ in range(OF_EACH_LANGUAGE))
+        yield from (random_input(rng, lang)._replace(stems=True) for _ in range(WITH_STEMS))
     for number in range(OF_OWN):
         name = rng.choice(["English", "Klingon", "", "日本語"])
         yield random_input(rng, name, OWN_STAGES[number % len(OWN_STAGES)])
@@ -72,6 +75,11 @@ def chosen_inputs():
     for save in (True, False):
         yield Input(("body",), (Document("1", (page,)), Document("2", (again,)), Document("1", (again,))), save=save)
         yield Input(("body", "id"), (Document("1", (again, page)), Document("1", (page, again))), ref="body", save=save)
+    for lang, pages in PAGES.items():
+        texts = [Value(text) for _, *values in pages for text in values]
+        yield Input(("body",), tuple(Document(str(number), (text,)) for number, text in enumerate(texts)), lang, stems=True)
+        given = tuple(" ".join(text.text for text in texts).lower().split())
+        yield one(Value("", INTO_PIPELINE, given), Value("", AS_GIVEN, given), lang=lang, stems=True)
     yield one(page, lang="own", stages=())
     yield one(Value(" ".join(f"w{place}" for place in range(MANY))))
     yield Input(tuple(f"field {number}" for number in range(300)), (Document("1", (again,) * 300),))
@@ -83,8 +91,9 @@ def refused_inputs():
     page, twice, many = Value("go"), ("a", "a"), (Document("1", ()), Document("2", (Value("go", AS_GIVEN, ("go",)),) * 3))
     for lang in ("english", "en", "", "English ", "Klingon", "\0"):
         yield one(page, lang=lang)
+        yield one(page, lang=lang, stems=True)
     yield Input(twice, many, lang="none")
-    yield Input(("a", "b"), many, lang="none")
+    yield Input(("a", "b"), many, lang="none", stems=True)
     yield from (Input(twice, many), Input(twice, ()), Input(("", "b", ""), ()), Input(twice, (), "own", ()))
     yield from (Input(("a", "b"), many), Input((), many), Input(("a", "b"), many + (Document("2", ()),), "own", ("stage",)))
 
@@ -133,6 +142,7 @@ def short_inputs():
     yield one(Value("a", INTO_PIPELINE, ("the", "pages")))
     yield one(Value("", AS_GIVEN), lang="Korean", save=False)
     yield one(given, lang="x", stages=("s", ""))
+    yield one(Value("Häuser"), lang="German", stems=True)
     yield Input(("id", "é"), (Document("1", (given, page)), Document("", ())))
     yield Input(("a",), (Document("1", (page,)), Document("1", (given,))), ref="a", save=False)
     yield Input(("a", "a"), (), "x", ())

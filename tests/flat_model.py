@@ -9,9 +9,10 @@ from typing import NamedTuple, Optional
 
 from tests import model, pieces_model
 from tests.model_tokens import LANGUAGES, left, stages, words
+from tests.stems_index import CODES, stemmer
 
 FROM_TEXT, INTO_PIPELINE, AS_GIVEN = 0, 1, 2  # where the tokens of a value come from
-BUILT_IN, OWN = 0, 1  # whose language it is
+BUILT_IN, OWN, STEMMED = 0, 1, 2  # whose language it is, and whether it stems
 ONE, EACH_IN_ONE_FIELD, EACH = 0, 1, 2  # which words of a query are needed
 DONE, REFUSED, MALFORMED = 0, 2, 3  # statuses
 
@@ -34,6 +35,7 @@ class Input(NamedTuple):
     stages: Optional[tuple] = None  # the names of the stages of a custom language
     ref: str = "id"
     save: bool = True
+    stems: bool = False  # whether the stemmer of the language comes after its stages
 
 
 class Cutting(NamedTuple):
@@ -68,10 +70,10 @@ def flat_list(flat_item, items):
     return flat_number(len(items)) + b"".join(map(flat_item, items))
 
 
-def flat_language(lang, names):
-    if names is None:
-        return flat_number(BUILT_IN) + flat_text(lang)
-    return flat_number(OWN) + flat_text(lang) + flat_list(flat_text, names)
+def flat_language(it):
+    if it.stages is None:
+        return flat_number(STEMMED if it.stems else BUILT_IN) + flat_text(it.lang)
+    return flat_number(OWN) + flat_text(it.lang) + flat_list(flat_text, it.stages)
 
 
 def flat_value(value):
@@ -84,7 +86,7 @@ def flat_document(doc):
 
 
 def flat(it):
-    settings = flat_language(it.lang, it.stages) + flat_text(it.ref) + flat_number(it.save)
+    settings = flat_language(it) + flat_text(it.ref) + flat_number(it.save)
     return settings + flat_list(flat_text, it.fields) + flat_list(flat_document, it.docs)
 
 
@@ -136,11 +138,11 @@ class Decoder:
         return Document(self.text(), self.items(self.value))
 
     def input(self):
-        is_own = self.number(2)
+        kind = self.number(3)
         lang = self.text()
-        names = self.items(self.text) if is_own else None
+        names = self.items(self.text) if kind == OWN else None
         ref, save = self.text(), bool(self.number(2))
-        return self.whole(Input(self.items(self.text), self.items(self.document), lang, names, ref, save))
+        return self.whole(Input(self.items(self.text), self.items(self.document), lang, names, ref, save, kind == STEMMED))
 
     def cutting(self):
         return Cutting(self.text(), self.number(), self.input())
@@ -168,7 +170,10 @@ def tokens_of(it, value):
     found = words(value.text) if value.source == FROM_TEXT else list(value.tokens)
     if it.stages is None:
         found = [left(LANGUAGES[it.lang], token) for token in found]
-    return [token for token in found if token is not None]
+    found = [token for token in found if token is not None]
+    if it.stems and it.lang in CODES:
+        found = [stem for stem in map(stemmer(CODES[it.lang]).stem, found) if stem]
+    return found
 
 
 def commands_of(it):
@@ -189,7 +194,9 @@ def refusal(it):
 
 def index(it):
     """The text of the index that an input asks for."""
-    names = stages(LANGUAGES[it.lang]) if it.stages is None else it.stages
+    names = [*(stages(LANGUAGES[it.lang]) if it.stages is None else it.stages)]
+    if it.stems and it.lang in CODES:
+        names.append(f"stemmer-{CODES[it.lang]}")
     return json.dumps(model.value(it, list(commands_of(it)), names), ensure_ascii=False, sort_keys=True, separators=(",", ":"))
 
 

@@ -22,7 +22,7 @@ PLACES = ("out/lib", "lib")  # of the repository, and of a release
 DONE, MEMORY, MALFORMED = 0, 1, 3  # statuses of a call
 PIECE_SIZE = 8192  # bytes that a piece may have where no others are asked for
 MOST = 1 << 32  # numbers of the flat form are below
-BUILT_IN, OWN = 0, 1  # whose language it is, in the flat form that elasticlunr.h describes
+BUILT_IN, OWN, STEMMED = 0, 1, 2  # whose language it is, in the flat form that elasticlunr.h describes
 FROM_TEXT, AS_GIVEN = 0, 2  # where the tokens of a value come from
 NEEDED = {"one": 0, "each in one field": 1, "each": 2}  # which words of a query are needed, in the flat form
 Member = Union[str, int]
@@ -142,10 +142,10 @@ def _flat_document(document: Sequence[str], fields: Sequence[str], tokens: Mappi
     return _flat_text(reference) + _flat_list([_flat_value(field, text, tokens[field], number) for field, text in zip(fields, values)])
 
 
-def _flat_language(lang: str, stages: Optional[Sequence[str]]) -> bytes:
-    """A built-in language, or one of the caller's with these stages, in the flat form."""
+def _flat_language(lang: str, stages: Optional[Sequence[str]], stems: bool) -> bytes:
+    """A built-in language, with its stemmer or without, or one of the caller's with these stages, in the flat form."""
     if stages is None:
-        return _flat_number(BUILT_IN) + _flat_text(lang)
+        return _flat_number(STEMMED if stems else BUILT_IN) + _flat_text(lang)
     return _flat_number(OWN) + _flat_text(lang) + _flat_list([_flat_text(stage) for stage in stages])
 
 
@@ -201,6 +201,7 @@ def build_index(
     piece_size: int = PIECE_SIZE,
     keep: int = 1,
     index_ref: bool = False,
+    stems: bool = False,
 ) -> str:
     """The text of the index of these documents, which elasticlunr.js loads.
 
@@ -208,7 +209,8 @@ def build_index(
     came before replaces it. The member of each field is a text, or is not there, which counts as an empty one.
     Without `fields` these are the members of the first document that are texts, in the order of their bytes.
 
-    `lang` is the name of a language, as "German". Without `save` the index has no texts. `pretty` puts each of its members on a
+    `lang` is the name of a language, as "German". With `stems` its stemmer comes after its stages, so that a search finds other forms
+    of a word; English and Arabic stem without it, and for Korean there is none. Without `save` the index has no texts. `pretty` puts each of its members on a
     line.
 
     The field `ref` is stored and not indexed. With `index_ref` it is a field like the others, the last one where `fields` does not
@@ -227,13 +229,16 @@ def build_index(
     process leaves the earlier index or this one.
 
     Raises a TypeError for a member or a token that is not a text, a RefusedError for an unknown language, a field that is listed twice,
-    or texts that are no Unicode, a ValueError for `pretty` with `tokens`, `stages`, `store` or `pieces` and for numbers that are none,
-    and an OSError for `pieces` that can't be written: the earlier ones stay.
+    or texts that are no Unicode, a ValueError for `pretty` with `tokens`, `stages`, `store`, `pieces` or `stems`, for `stages`
+    with `stems`, and for numbers that are none, and an OSError for `pieces` that can't be written: the earlier ones stay.
     """
     flat_ones = {"tokens": tokens is not None, "stages": stages is not None, "store": bool(store), "pieces": pieces is not None}
+    flat_ones["stems"] = bool(stems)
     is_flat = any(flat_ones.values())
     if pretty and is_flat:
         raise ValueError(f"{next(filter(flat_ones.get, flat_ones))} and pretty can't be used together")
+    if stems and stages is not None:
+        raise ValueError("stages and stems can't be used together: the caller's stages stem, or don't")
     if not 1 <= piece_size < MOST or keep < 1:
         raise ValueError(f"piece_size is {piece_size!r} and keep is {keep!r} instead of whole numbers from 1, and piece_size below 2^32")
     listed = list(documents)
@@ -245,7 +250,7 @@ def build_index(
     if not is_flat:
         job = {"fields": fields, "docs": docs, "lang": lang, "ref": key, "save": bool(save), "pretty": bool(pretty)}
         return _answer("elasticlunr_answer", json.dumps(job).encode())
-    settings = _flat_language(lang, stages) + _flat_text(key) + _flat_number(bool(save))
+    settings = _flat_language(lang, stages, stems) + _flat_text(key) + _flat_number(bool(save))
     makers = {field: None if field == key else _no_tokens if field in store else tokens for field in fields}
     flat = [_flat_document(it, fields, makers, number) for number, it in enumerate(docs, 1)]
     given = settings + _flat_list([_flat_text(it) for it in fields]) + _flat_list(flat)

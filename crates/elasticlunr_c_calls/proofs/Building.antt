@@ -32,14 +32,14 @@ use Rattle.elasticlunr_c_calls.specs.Indexes as calls
 use Rattle.elasticlunr_c_calls.specs.Indexes.{FailsAt, IsAdded, IsBuiltFor, NamesAny}
 use Rattle.elasticlunr_c_calls.specs.Languages.{leaves_in, name_in, stages_in, IsNamed}
 use Rattle.elasticlunr_c_calls.specs.declared.language.InputLanguage.{InputLanguage}
-use Rattle.elasticlunr_c_calls.specs.declared.language.InputLanguage.TheVariants.{BuiltIn, Own}
+use Rattle.elasticlunr_c_calls.specs.declared.language.InputLanguage.TheVariants.{BuiltIn, Own, Stemmed}
 use Rattle.elasticlunr_c_calls.proofs.Filling.{Makes}
 
 -- a language that is named is there
 pub names_any : (named : flat.Language) (language : InputLanguage) → IsNamed named language → NamesAny named
-names_any (flat.built_in name) (BuiltIn language) is = (language, is)
-names_any (flat.built_in name) (Own own stages) is = absurd is
-names_any (flat.own name stages) language is = tt
+names_any named (BuiltIn language) is = subst NamesAny is (language, refl)
+names_any named (Own name stages) is = subst NamesAny is tt
+names_any named (Stemmed language) is = subst NamesAny is (language, refl)
 
 -- the exit of the fields, where a name may stand twice
 pub fields_exit : {T : Type 0} (r : Result T JobError) (input : flat.Input) (e : IndexError)

@@ -104,6 +104,7 @@ IsTextOf input text = IsMadeOf input (IsTextOfIndex text)
 abbrev pub NamesAny : flat.Language → Type 0
 NamesAny (flat.built_in name) = NamesLanguage name
 NamesAny (flat.own name stages) = ⊤
+NamesAny (flat.stemmed name) = NamesLanguage name
 
 -- the check that the input fails first
 abbrev pub FailsAt : flat.Input → Refusal → Type 0

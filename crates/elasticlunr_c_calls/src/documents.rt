@@ -3,6 +3,7 @@ ghost use Rattle.std.specs.Prelude.{◌≡◌, Any, Err, map, string_bytes, IfEr
 ghost use Rattle.elasticlunr.specs.History.{Commands};
 ghost use Rattle.elasticlunr.specs.Index.{choices_of, fields_of, plan_of, IsFailed, StandsFor};
 ghost use Rattle.elasticlunr.specs.Index.{IsDocumentWithTokens};
+ghost use Rattle.elasticlunr.specs.Known.{language_name};
 ghost use Rattle.elasticlunr.specs.Words.{words};
 ghost use Rattle.elasticlunr_c_calls.specs.Carried.{field_told, source_told};
 ghost use Rattle.elasticlunr_c_calls.specs.Indexes.{FailsAt, Fits, HasTooMany, IsBuiltFor};
@@ -14,13 +15,14 @@ ghost use Rattle.elasticlunr_flat.specs.Flat.{own};
 ghost use Rattle.elasticlunr_flat.specs.Told.{input_told, language_told, texts_told, tokens_told};
 ghost use Rattle.elasticlunr_flat.specs.Told.{value_told};
 ghost use Rattle.elasticlunr_flat.specs.declared.fault.FlatError.TheVariants.{Malformed};
+ghost use Rattle.elasticlunr_job.specs.Answer.{NamesLanguage};
 ghost use Rattle.elasticlunr_job_format.specs.JobError.{StopsOnlyBy, StopsWithReason};
 ghost use Rattle.elasticlunr_job_format.specs.declared.outcome.Refusal.TheVariants.{TooManyValues};
 ghost use Rattle.elasticlunr_job_format.specs.declared.outcome.Refusal.TheVariants.{UnknownLanguage};
 
 use crate::language::InputLanguage;
 use crate::make::{CompactText, Make};
-use elasticlunr::lang::from_name;
+use elasticlunr::lang::{AnyLanguage, from_name};
 use elasticlunr::laws::given::values_with_tokens_make_what_a_language_makes;
 use elasticlunr::{FieldValue, Index, IndexBuilder, TokenSource};
 use elasticlunr_flat::{FlatError, GivenTokens, Input, LanguageName, Value, read_input};
@@ -60,11 +62,20 @@ fn language_of(alloc: Global, name: &LanguageName<'_>) -> Result<InputLanguage, 
         (¬ NamesAny (language_told name.now))) }
 {
     match name {
-        LanguageName::BuiltIn(name) => match from_name(name) {
-            Some(language) => Ok(InputLanguage::BuiltIn(language)),
-            None => Err(JobError::Refused(Refusal::UnknownLanguage)),
-        },
+        LanguageName::BuiltIn(name) => Ok(InputLanguage::BuiltIn(built_in(name)?)),
         LanguageName::Own { name, stages } => own_language(alloc, name, stages),
+        LanguageName::Stemmed(name) => Ok(InputLanguage::Stemmed(built_in(name)?)),
+    }
+}
+
+/// The built-in language of this name.
+fn built_in(name: &str) -> Result<AnyLanguage, JobError>
+    ensures named { IfOk result (λ language. language_name language ≡ name.now) }
+    ensures err { IfErr result (StopsOnlyBy UnknownLanguage (¬ NamesLanguage name.now)) }
+{
+    match from_name(name) {
+        Some(language) => Ok(language),
+        None => Err(JobError::Refused(Refusal::UnknownLanguage)),
     }
 }
 

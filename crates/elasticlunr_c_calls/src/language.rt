@@ -1,11 +1,15 @@
-//! The language of an input: a built-in one, or a custom one, of which only the names are known.
-ghost use Rattle.std.specs.Prelude.{◌≡◌, Some, IfOk};
+//! The language of an input: a built-in one, with its stemmer or without, or a custom one, of which
+//! only the names are known.
+ghost use Rattle.std.specs.Prelude.{◌≡◌, Some, true, IfOk};
+ghost use Rattle.elasticlunr.specs.Known.{language_leaves, language_stages};
 ghost use Rattle.elasticlunr.specs.Stages.{names_by, HasKnownStages, LeavesBy};
 ghost use Rattle.elasticlunr.specs.Text.{bytes_of};
+ghost use Rattle.elasticlunr_stem_stage.specs.Stemmed.{leaves_with, stages_with};
 
 use elasticlunr::Language;
 use elasticlunr::lang::{AnyLanguage, tokenize_whitespace};
 use elasticlunr::pipeline::{Pipeline, Stage};
+use elasticlunr_stem_stage::{table_stemmer, with_table};
 use std::alloc::{AllocError, Global};
 
 /// A language that an input names. The caller runs a custom language before the call: here its
@@ -14,6 +18,8 @@ use std::alloc::{AllocError, Global};
 pub enum InputLanguage {
     BuiltIn(AnyLanguage),
     Own { name: String, stages: Vec<String> },
+    /// A built-in one, with its stemmer after its stages.
+    Stemmed(AnyLanguage),
 }
 
 impl Language for InputLanguage {
@@ -34,6 +40,7 @@ impl Language for InputLanguage {
         match self {
             InputLanguage::BuiltIn(language) => language.name(alloc),
             InputLanguage::Own { name, .. } => String::from_str(alloc, name.as_str()),
+            InputLanguage::Stemmed(language) => language.name(alloc),
         }
     }
 
@@ -41,6 +48,7 @@ impl Language for InputLanguage {
         match self {
             InputLanguage::BuiltIn(language) => language.code(alloc),
             InputLanguage::Own { .. } => String::from_str(alloc, ""),
+            InputLanguage::Stemmed(language) => language.code(alloc),
         }
     }
 
@@ -56,8 +64,32 @@ impl Language for InputLanguage {
         match self {
             InputLanguage::BuiltIn(language) => language.make_pipeline(alloc, empty),
             InputLanguage::Own { stages, .. } => named_stages(alloc, stages, empty),
+            InputLanguage::Stemmed(language) => {
+                let pipeline = language.make_pipeline(alloc, empty)?;
+                with_stemmer(alloc, *language, pipeline)
+            }
         }
     }
+}
+
+/// The stages of a language, and after them its stemmer, where it has one by a table.
+fn with_stemmer(
+    alloc: Global,
+    language: AnyLanguage,
+    mut pipeline: Pipeline,
+) -> Result<Pipeline, AllocError>
+    ensures names { IfOk result (λ more. names_by name_text pipeline ≡ language_stages language
+        → names_by name_text more ≡ stages_with true language) }
+    ensures leaves { IfOk result (λ more. LeavesBy leaves pipeline (language_leaves language)
+        → LeavesBy leaves more (leaves_with true language)) }
+    ensures known { IfOk result (λ more. HasKnownStages pipeline → HasKnownStages more) }
+{
+    let Some(table) = with_table(language) else {
+        return Ok(pipeline);
+    };
+    let stemmer = table_stemmer(alloc, table)?;
+    pipeline.queue.push(Stage::TableStemmer(stemmer))?;
+    Ok(pipeline)
 }
 
 /// A pipeline of stages with these names that change no token.

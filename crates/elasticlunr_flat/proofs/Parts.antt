@@ -2,7 +2,7 @@
 use Rattle.std.proofs.Common.{◌≡◌, ℕ, ◌<◌, Bool, List, [], ◌++◌, sym, ap, ◌∙◌, append_assoc, arith}
 use Rattle.std.proofs.lemmas.List.{append-nil}
 use Rattle.elasticlunr_error.specs.Text.{Bytes}
-use Rattle.elasticlunr_flat.specs.Flat.{Language, built_in, own, from_text, into_pipeline, as_given}
+use Rattle.elasticlunr_flat.specs.Flat.{Language, built_in, own, stemmed, from_text, into_pipeline, as_given}
 use Rattle.elasticlunr_flat.specs.Flat.{flat_number, flat_text, flat_list, flat_texts, flat_truth, flat_language}
 use Rattle.elasticlunr_flat.specs.Flat.{flat_tokens, flat_value, flat_document, flat_input, IsNumber, IsText, IsList}
 use Rattle.elasticlunr_flat.specs.Flat.{AreTexts, IsLanguage, AreTokens, IsValue, IsDocument, IsInput}
@@ -79,15 +79,19 @@ no_stages bytes rest name read none = λ other stages more fits fit is.
 -- no language of a kind that the number says
 pub no_language : (bytes rest : Bytes) (n : ℕ) → IsRead IsNumber flat_number bytes n rest
     → (n ≡ 0 → BeginsWithNone IsText flat_text rest) → (n ≡ 1 → HasNoNameAndStages rest)
-    → BeginsWithNone IsLanguage flat_language bytes
-no_language bytes rest n read at_0 at_1 (built_in name) more fits is =
+    → (n ≡ 2 → BeginsWithNone IsText flat_text rest) → BeginsWithNone IsLanguage flat_language bytes
+no_language bytes rest n read at_0 at_1 at_2 (built_in name) more fits is =
     let after = next IsNumber flat_number number_one_way bytes n rest read 0 (flat_text name ++ more) (omega arith)
     (is ∙ append_assoc (flat_number 0) (flat_text name) more) in
     at_0 after.0 name more fits after.1
-no_language bytes rest n read at_0 at_1 (own name stages) more fits is =
+no_language bytes rest n read at_0 at_1 at_2 (own name stages) more fits is =
     let after = next IsNumber flat_number number_one_way bytes n rest read 1
     (flat_text name ++ (flat_texts stages ++ more)) (omega arith) (is ∙ own_in_order name stages more) in
     at_1 after.0 name stages more fits.0 fits.1 after.1
+no_language bytes rest n read at_0 at_1 at_2 (stemmed name) more fits is =
+    let after = next IsNumber flat_number number_one_way bytes n rest read 2 (flat_text name ++ more) (omega arith)
+    (is ∙ append_assoc (flat_number 2) (flat_text name) more) in
+    at_2 after.0 name more fits after.1
 
 -- ---- an input, from each of its fields on
 

@@ -7,10 +7,12 @@ use Rattle.elasticlunr_error.specs.Text.{Bytes}
 
 -- ---- what is indexed
 
--- a built-in language by its name, or a custom one with the names of its stages
+-- a built-in language by its name, a custom one with the names of its stages, or a built-in one with
+-- its stemmer after its stages
 pub data Language : Type 0 where
   built_in : Bytes → Language
   own : Bytes → List Bytes → Language
+  stemmed : Bytes → Language
 
 -- the tokens of a value: produced of its text, given into the pipeline, or given as they are
 pub data Tokens : Type 0 where
@@ -83,6 +85,7 @@ flat_truth true = flat_number 1
 abbrev pub flat_language : Language → Bytes
 flat_language (built_in name) = flat_number 0 ++ flat_text name
 flat_language (own name stages) = flat_number 1 ++ flat_text name ++ flat_texts stages
+flat_language (stemmed name) = flat_number 2 ++ flat_text name
 
 -- their kind, and those that are given
 abbrev pub flat_tokens : Tokens → Bytes
@@ -144,6 +147,7 @@ AreTexts texts = IsList IsText texts
 abbrev pub IsLanguage : Language → Type 0
 IsLanguage (built_in name) = IsText name
 IsLanguage (own name stages) = IsText name × AreTexts stages
+IsLanguage (stemmed name) = IsText name
 
 abbrev pub AreTokens : Tokens → Type 0
 AreTokens from_text = Unit {0}

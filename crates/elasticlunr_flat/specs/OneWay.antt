@@ -8,7 +8,7 @@ use Rattle.std.proofs.lemmas.List.{take_at, drop_at}
 use Rattle.std.proofs.lemmas.List.Elements.{All-head, All-tail}
 use Rattle.std.proofs.lemmas.Nat.{from_le_bytes-to_le_bytes_4}
 use Rattle.elasticlunr_error.specs.Text.{Bytes}
-use Rattle.elasticlunr_flat.specs.Flat.{built_in, own, Cutting, Input, Needed, Search}
+use Rattle.elasticlunr_flat.specs.Flat.{built_in, own, stemmed, Cutting, Input, Needed, Search}
 use Rattle.elasticlunr_flat.specs.Flat.{one, each_in_one_field, each, needed_number}
 use Rattle.elasticlunr_flat.specs.Flat.{from_text, into_pipeline, as_given}
 use Rattle.elasticlunr_flat.specs.Flat.{flat_number, flat_text, flat_list, flat_texts, flat_truth}
@@ -145,6 +145,10 @@ language_one_way (built_in m) (built_in n) a b fits_x fits_y same =
     let after = after_number 0 0 (flat_text m) a (flat_text n) b (omega arith) (omega arith) same in
     let name = text_one_way m n a b fits_x fits_y after.1 in
     (ap built_in name.0, name.1)
+language_one_way (stemmed m) (stemmed n) a b fits_x fits_y same =
+    let after = after_number 2 2 (flat_text m) a (flat_text n) b (omega arith) (omega arith) same in
+    let name = text_one_way m n a b fits_x fits_y after.1 in
+    (ap stemmed name.0, name.1)
 language_one_way (own m s) (own n t) a b fits_x fits_y same =
     let after = number_one_way 1 1 (flat_text m ++ (flat_texts s ++ a))
     (flat_text n ++ (flat_texts t ++ b)) (omega arith) (omega arith)
@@ -161,6 +165,22 @@ language_one_way (own m s) (built_in n) a b fits_x fits_y same =
     let after = number_one_way 1 0 (flat_text m ++ (flat_texts s ++ a)) (flat_text n ++ b)
     (omega arith) (omega arith)
     (sym (own_in_order m s a) ∙ same ∙ append_assoc (flat_number 0) (flat_text n) b) in
+    absurd (omega arith)
+language_one_way (stemmed m) (own n t) a b fits_x fits_y same =
+    let after = number_one_way 2 1 (flat_text m ++ a) (flat_text n ++ (flat_texts t ++ b))
+    (omega arith) (omega arith)
+    (sym (append_assoc (flat_number 2) (flat_text m) a) ∙ same ∙ own_in_order n t b) in
+    absurd (omega arith)
+language_one_way (own m s) (stemmed n) a b fits_x fits_y same =
+    let after = number_one_way 1 2 (flat_text m ++ (flat_texts s ++ a)) (flat_text n ++ b)
+    (omega arith) (omega arith)
+    (sym (own_in_order m s a) ∙ same ∙ append_assoc (flat_number 2) (flat_text n) b) in
+    absurd (omega arith)
+language_one_way (built_in m) (stemmed n) a b fits_x fits_y same =
+    let after = after_number 0 2 (flat_text m) a (flat_text n) b (omega arith) (omega arith) same in
+    absurd (omega arith)
+language_one_way (stemmed m) (built_in n) a b fits_x fits_y same =
+    let after = after_number 2 0 (flat_text m) a (flat_text n) b (omega arith) (omega arith) same in
     absurd (omega arith)
 
 -- ---- items of several fields

@@ -10,7 +10,7 @@ use Rattle.elasticlunr_flat.specs.declared.form.GivenTokens.TheVariants.{FromTex
 use Rattle.elasticlunr_flat.specs.declared.form.GivenTokens.TheVariants.{AsGiven}
 use Rattle.elasticlunr_flat.specs.declared.form.Input.{Input}
 use Rattle.elasticlunr_flat.specs.declared.form.LanguageName.{LanguageName}
-use Rattle.elasticlunr_flat.specs.declared.form.LanguageName.TheVariants.{BuiltIn, Own}
+use Rattle.elasticlunr_flat.specs.declared.form.LanguageName.TheVariants.{BuiltIn, Own, Stemmed}
 use Rattle.elasticlunr_flat.specs.declared.form.Needed.{Needed}
 use Rattle.elasticlunr_flat.specs.declared.form.Needed.TheVariants.{One, EachInOneField, Each}
 use Rattle.elasticlunr_flat.specs.declared.form.Search.{Search}
@@ -22,6 +22,7 @@ texts_told texts = map (λ text. text.now) texts
 abbrev pub language_told : LanguageName → spec.Language
 language_told (BuiltIn name) = spec.built_in name.now
 language_told (Own name stages) = spec.own name.now (texts_told stages.items)
+language_told (Stemmed name) = spec.stemmed name.now
 
 abbrev pub tokens_told : GivenTokens → spec.Tokens
 tokens_told FromText = spec.from_text

@@ -28,6 +28,8 @@ pub enum LanguageName<'a> {
     BuiltIn(&'a str),
     /// Its name, and the names of its stages.
     Own { name: &'a str, stages: Vec<&'a str> },
+    /// A built-in one with its stemmer after its stages.
+    Stemmed(&'a str),
 }
 
 /// A document: its reference, and its values in the order of the fields.

@@ -97,6 +97,7 @@ impl<'a> Item<'a> for LanguageName<'a> {
                 name: reader.text()?,
                 stages: Vec::read(alloc, reader)?,
             }),
+            2 => Ok(LanguageName::Stemmed(reader.text()?)),
             _ => Err(FlatError::Malformed),
         }
     }

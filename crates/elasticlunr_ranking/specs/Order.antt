@@ -36,7 +36,12 @@ pub record AreRanked (fields : List Field) (tokens : List Text) (hits : List (By
   pub each : IsPermutation scores hits
   pub in_order : IsSorted best_first hits
 
--- these are the first of them
+-- these are the first of the scores, in order
+abbrev pub AreFirst : List (Bytes × Float) → (limit : ℕ) → List (Bytes × Float) → Type 0
+AreFirst scores limit hits = (all : List (Bytes × Float)) × IsPermutation scores all
+    × IsSorted best_first all × (hits ≡ take limit all)
+
+-- these are the first of those that are ranked
 abbrev pub AreBest : List Field → List Text → (limit : ℕ) → List (Bytes × Float) → Type 0
 AreBest fields tokens limit hits = (all : List (Bytes × Float)) × AreRanked fields tokens all
     × (hits ≡ take limit all)

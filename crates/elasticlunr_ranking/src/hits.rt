@@ -1,19 +1,20 @@
 //! What is found, the best first.
-ghost use Rattle.std.specs.Prelude.{◌≡◌, ◌<◌, true, List, All, map, take, IfOk, OnOk};
+ghost use Rattle.std.specs.Prelude.{◌≡◌, ◌<◌, true, All, map, IfOk, OnOk};
 ghost use Rattle.std.specs.BinaryHeap.{IsHeap, heap_items, heap_len};
 ghost use Rattle.std.specs.Bool.{MatchBool};
-ghost use Rattle.std.specs.Float.{Float};
 ghost use Rattle.std.specs.List.{HoldsAt};
 ghost use Rattle.std.specs.List.Sorted.{IsPermutation, IsSorted};
 ghost use Rattle.std.specs.Ordering.{is_lt};
-ghost use Rattle.elasticlunr_error.specs.Text.{Bytes};
 ghost use Rattle.elasticlunr_ranking.specs.Held.{told};
 ghost use Rattle.elasticlunr_ranking.specs.Keys.{IsKey, IsLastOf, KeepsFirst, key_cmp, told_key};
-ghost use Rattle.elasticlunr_ranking.specs.Order.{best_first, told_hits};
+ghost use Rattle.elasticlunr_ranking.specs.Order.{AreFirst, best_first, told_hits};
 
 use std::alloc::{AllocError, Global};
 use std::cmp::{OrderedFloat, Reverse};
 use std::collections::BinaryHeap;
+
+/// The hits that are asked for are few where they are less than one in so many.
+const FEW: usize = 16;
 
 /// A document that a search found, and its score.
 #[derive(Drop)]
@@ -44,18 +45,15 @@ pub(crate) fn ranked(alloc: Global, scores: &[(&str, f64)]) -> Result<Vec<Hit>, 
     Ok(hits)
 }
 
-/// The first of these. No more than `limit` of their keys are kept at a time, and only the
-/// references that are returned are copied.
+/// The first of these. Only the references that are returned are copied.
 pub(crate) fn best(
     alloc: Global,
     scores: &[(&str, f64)],
     limit: usize,
 ) -> Result<Vec<Hit>, AllocError>
-    ensures { IfOk result (λ hits. (all : List (Bytes × Float))
-        × IsPermutation (told scores.now) all × IsSorted best_first all
-        × (told_hits hits.items ≡ take limit all)) }
+    ensures { IfOk result (λ hits. AreFirst (told scores.now) limit (told_hits hits.items)) }
 {
-    let keys = first_keys(alloc, scores, limit)?;
+    let keys = leading_keys(alloc, scores, limit)?;
     let hits = hits_of(alloc, &keys)?;
     Ok(hits)
 }
@@ -81,15 +79,31 @@ fn keys_of<'a>(alloc: Global, scores: &[(&'a str, f64)]) -> Result<Vec<Key<'a>>,
     Ok(keys)
 }
 
-// The first keys in order. The last of those that are kept is on top of the heap.
+// The first keys in order. A heap takes less time where they are few of all, and more where they
+// are many: then all are sorted, and the others let go.
+fn leading_keys<'a>(
+    alloc: Global,
+    scores: &[(&'a str, f64)],
+    limit: usize,
+) -> Result<Vec<Key<'a>>, AllocError>
+    ensures { IfOk result (λ keys. AreFirst (told scores.now) limit (map told_key keys.items)) }
+{
+    if limit < scores.len() / FEW {
+        return first_keys(alloc, scores, limit);
+    }
+    let mut keys = sorted_keys(alloc, scores)?;
+    keys.truncate(limit);
+    Ok(keys)
+}
+
+// The first keys in order. No more than `limit` are kept at a time, the last of them on top of the
+// heap.
 fn first_keys<'a>(
     alloc: Global,
     scores: &[(&'a str, f64)],
     limit: usize,
 ) -> Result<Vec<Key<'a>>, AllocError>
-    ensures { IfOk result (λ keys. (all : List (Bytes × Float))
-        × IsPermutation (told scores.now) all × IsSorted best_first all
-        × (map told_key keys.items ≡ take limit all)) }
+    ensures { IfOk result (λ keys. AreFirst (told scores.now) limit (map told_key keys.items)) }
 {
     let mut kept = BinaryHeap::new(alloc);
     for (reference, score) in scores {

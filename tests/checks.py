@@ -63,7 +63,7 @@ LEAST = {
     "c_calls": 38_500,
     "rust_crate --built": 560,
     "dist_files --built": 440,
-    "forgeries c_calls dist_files": 37,
+    "forgeries c_calls dist_files": 39,
     "check_jobs": 150,
     "check_gate": 48,
 }

@@ -483,6 +483,9 @@ C_CALLS = {
         "if it.stages is None and it.lang not in LANGUAGES and len(set(it.fields)) == len(it.fields):",
         "status 2 instead of 2, or another text",
     ),
+    "a model that stems no word": (
+        "tests/flat_model.py", "found = [stem for stem in map(stemmer(CODES[it.lang]).stem, found) if stem]", "pass", "status 0 instead of 0, or another text",
+    ),
     "a decoder that reads another input": ("tests/flat_model.py", "Value(text, source, ", "Value(text, AS_GIVEN, ", "inputs are not read back"),
     "inputs without damage": (
         "tests/flat_inputs.py", "for it in short_inputs() for damaged in", "for it in () for damaged in", r"\d+ inputs, and \d+ are the least",
@@ -492,6 +495,7 @@ C_CALLS = {
         r"status 0, \d+ answers",
     ),
     "a module that runs tokens through the pipeline": ("python/elasticlunr/__init__.py", "AS_GIVEN = 0, 2", "AS_GIVEN = 0, 1", "Python, tokens of a field: "),
+    "a module that stems no word": ("python/elasticlunr/__init__.py", "STEMMED if stems else BUILT_IN", "BUILT_IN", "Python, words that are stemmed: "),
     "a module that makes tokens of the reference": (
         "python/elasticlunr/__init__.py", "None if field == key else _no_tokens", "_no_tokens", "Python, the reference has no tokens: ",
     ),

@@ -1,10 +1,10 @@
-//! Stages that stem the words of fourteen languages besides English.
+//! Stemmers of fourteen languages besides English, and pipelines that end in one.
 #![tactic(auto)]
 
-mod stage;
+mod read;
 mod stemmed;
 
 pub use elasticlunr_stem_tables::{Language, Version};
 pub use elasticlunr_stems::TableError;
-pub use stage::StemmerStage;
+pub use read::read_stemmer;
 pub use stemmed::{language_pipeline, table_stemmer, with_table};

@@ -10,9 +10,9 @@ ghost use Rattle.elasticlunr_stem_stage.specs.Stemmed.{StemmedLeaves, StemsTo, l
 ghost use Rattle.elasticlunr_stem_stage.specs.Stemmed.{stages_with};
 ghost use Rattle.elasticlunr_stem_tables.specs.Languages.{language_code};
 
+use crate::read::read_stemmer;
 use elasticlunr_lang::{AnyLanguage, Language};
 use elasticlunr_stem_tables::{Language as Table, Version};
-use elasticlunr_stems::Stemmer;
 use elasticlunr_text::lang::common::TableStemmer;
 use elasticlunr_text::pipeline::{Pipeline, Stage};
 use std::alloc::{AllocError, Global};
@@ -42,8 +42,9 @@ pub fn with_table(language: AnyLanguage) -> Option<Table>
     }
 }
 
-/// The pipeline of a language, and with stems its stemmer after its stages, where it has a table: for
-/// `IndexBuilder::with_pipeline` and `Searcher::with_pipeline`. The stems are those of Snowball 2.2.
+/// The pipeline of a language, and with stems its stemmer after its stages, where it has a table:
+/// for `IndexBuilder::with_pipeline` and `Searcher::with_pipeline`. The stems are those of
+/// Snowball 2.2.
 ///
 /// With stems it reads the table, of some thousand steps and suffixes.
 pub fn language_pipeline(
@@ -53,7 +54,8 @@ pub fn language_pipeline(
 ) -> Result<Pipeline, AllocError>
     ensures names { IfOk result (λ pipeline.
         names_by name_text pipeline ≡ stages_with stems language) }
-    ensures leaves { IfOk result (λ pipeline. LeavesBy leaves pipeline (leaves_with stems language)) }
+    ensures leaves { IfOk result (λ pipeline.
+        LeavesBy leaves pipeline (leaves_with stems language)) }
     ensures known { IfOk result (λ pipeline. HasKnownStages pipeline) }
 {
     let empty = Pipeline {
@@ -90,10 +92,8 @@ pub fn table_stemmer(alloc: Global, table: Table) -> Result<TableStemmer, AllocE
     ensures stems { IfOk result (λ stemmer. (word : Text)
         → StemsTo table word (table_stem stemmer word)) }
 {
-    let code = table.code();
-    let name = format!(in alloc; "stemmer-{code}")?;
-    match Stemmer::read(alloc, table.table(Version::Current)) {
-        Ok(stemmer) => Ok(TableStemmer { name, stemmer }),
+    match read_stemmer(alloc, table, Version::Current) {
+        Ok(stemmer) => Ok(stemmer),
         Err(_) => Err(AllocError),
     }
 }

@@ -10,7 +10,7 @@ use elasticlunr::lang::{English, German};
 use elasticlunr::pipeline::{FnWrapper, Pipeline, PipelineFn, Stage};
 use elasticlunr::{ELASTICLUNR_VERSION, IndexBuilder, IndexError};
 use elasticlunr_site::{Page, search_index};
-use elasticlunr_stem_stage::{Language, StemmerStage, Version};
+use elasticlunr_stem_stage::{Language, Version, read_stemmer};
 use elasticlunr_uses::custom::{Tokenize, index_with_tokenizer, whole};
 use elasticlunr_uses::own::text_of_words;
 use std::alloc::{AllocError, Global};
@@ -106,9 +106,8 @@ fn printed_german(alloc: Global, pipeline: Pipeline) -> Result<String, IndexErro
 #[test]
 fn a_stage_stems_german_words(rt: HostRuntime) -> Result<(), Fail> {
     let alloc = rt.alloc();
-    let stems = StemmerStage::new(alloc, Language::German, Version::Current)?;
-    let own: Box<dyn PipelineFn> = Box::new(alloc, stems)?;
-    let queue = vec![in alloc; Stage::Own(own)]?;
+    let stemmer = read_stemmer(alloc, Language::German, Version::Current)?;
+    let queue = vec![in alloc; Stage::TableStemmer(stemmer)]?;
     let text = printed_german(alloc, Pipeline { queue })?;
     for part in [
         r#""h":{"a":{"df":0,"docs":{},"u":{"df":0,"docs":{},"s":{"df":1,"docs":{"1":{"tf":1000000}}}}},"df":0,"docs":{}}"#,

@@ -12,6 +12,6 @@ use Rattle.elasticlunr_stem_tables.specs.declared.language.Version.{Version}
 -- its name is `stemmer-` and the code of the language, and its table is the language's after this
 -- version
 pub record IsStemmerOf (language : Language) (version : Version) (stemmer : TableStemmer) : Type 0
-    where
-  pub named : stemmer_name stemmer ≡ codes "stemmer-" ++ language_code language
-  pub reads : table_in (chars (table_text version language)) ≡ Some (table_of stemmer.stemmer)
+  where
+    pub named : stemmer_name stemmer ≡ codes "stemmer-" ++ language_code language
+    pub reads : table_in (chars (table_text version language)) ≡ Some (table_of stemmer.stemmer)

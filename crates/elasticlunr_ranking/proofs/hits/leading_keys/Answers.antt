@@ -9,5 +9,5 @@ returns c =
       map told_key keys,
       c.in_ok-keys.ensures.permutation,
       c.in_ok-keys.ensures.order,
-      ap (map told_key) c.truncate.ensures ∙ sym (take-map told_key c.args.limit keys),
+      ap (map told_key) c.truncate.ensures.items ∙ sym (take-map told_key c.args.limit keys),
     )

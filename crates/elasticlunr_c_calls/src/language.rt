@@ -1,15 +1,14 @@
 //! The language of an input: a built-in one, with its stemmer or without, or a custom one, of which
 //! only the names are known.
-ghost use Rattle.std.specs.Prelude.{◌≡◌, Some, true, IfOk};
-ghost use Rattle.elasticlunr.specs.Known.{language_leaves, language_stages};
+ghost use Rattle.std.specs.Prelude.{◌≡◌, Some, IfOk};
 ghost use Rattle.elasticlunr.specs.Stages.{names_by, HasKnownStages, LeavesBy};
 ghost use Rattle.elasticlunr.specs.Text.{bytes_of};
-ghost use Rattle.elasticlunr_stem_stage.specs.Stemmed.{leaves_with, stages_with};
 
 use elasticlunr::Language;
 use elasticlunr::lang::{AnyLanguage, tokenize_whitespace};
 use elasticlunr::pipeline::{Pipeline, Stage};
-use elasticlunr_stem_stage::{table_stemmer, with_table};
+use elasticlunr_stem_languages::Stemmed;
+use elasticlunr_stem_stage::with_table;
 use std::alloc::{AllocError, Global};
 
 /// A language that an input names. The caller runs a custom language before the call: here its
@@ -64,32 +63,15 @@ impl Language for InputLanguage {
         match self {
             InputLanguage::BuiltIn(language) => language.make_pipeline(alloc, empty),
             InputLanguage::Own { stages, .. } => named_stages(alloc, stages, empty),
-            InputLanguage::Stemmed(language) => {
-                let pipeline = language.make_pipeline(alloc, empty)?;
-                with_stemmer(alloc, *language, pipeline)
-            }
+            InputLanguage::Stemmed(language) => match with_table(*language) {
+                Some(table) => {
+                    let language = *language;
+                    Stemmed { language, table }.make_pipeline(alloc, empty)
+                }
+                None => language.make_pipeline(alloc, empty),
+            },
         }
     }
-}
-
-/// The stages of a language, and after them its stemmer, where it has one by a table.
-fn with_stemmer(
-    alloc: Global,
-    language: AnyLanguage,
-    mut pipeline: Pipeline,
-) -> Result<Pipeline, AllocError>
-    ensures names { IfOk result (λ more. names_by name_text pipeline ≡ language_stages language
-        → names_by name_text more ≡ stages_with true language) }
-    ensures leaves { IfOk result (λ more. LeavesBy leaves pipeline (language_leaves language)
-        → LeavesBy leaves more (leaves_with true language)) }
-    ensures known { IfOk result (λ more. HasKnownStages pipeline → HasKnownStages more) }
-{
-    let Some(table) = with_table(language) else {
-        return Ok(pipeline);
-    };
-    let stemmer = table_stemmer(alloc, table)?;
-    pipeline.queue.push(Stage::TableStemmer(stemmer))?;
-    Ok(pipeline)
 }
 
 /// A pipeline of stages with these names that change no token.

@@ -8,8 +8,9 @@ ghost use Rattle.elasticlunr.specs.OneAnswer.{HasOneAnswer};
 use crate::text_lists::repeated;
 use elasticlunr::lang::{English, German};
 use elasticlunr::pipeline::{FnWrapper, Pipeline, PipelineFn, Stage};
-use elasticlunr::{ELASTICLUNR_VERSION, IndexBuilder, IndexError};
+use elasticlunr::{ELASTICLUNR_VERSION, Index, IndexBuilder, IndexError};
 use elasticlunr_site::{Page, search_index};
+use elasticlunr_stem_languages::Stemmed;
 use elasticlunr_stem_stage::{Language, Version, read_stemmer};
 use elasticlunr_uses::custom::{Tokenize, index_with_tokenizer, whole};
 use elasticlunr_uses::own::text_of_words;
@@ -103,16 +104,37 @@ fn printed_german(alloc: Global, pipeline: Pipeline) -> Result<String, IndexErro
     index.to_json()
 }
 
+// The language and the stages of German with stems.
+const STEMMED_GERMAN: &str =
+    r#""lang":"German","pipeline":["trimmer-de","stopWordFilter-de","stemmer-de"]"#;
+
+// The trie of the word `haus` in document 1.
+const HAUS: &str =
+    r#""h":{"a":{"df":0,"docs":{},"u":{"df":0,"docs":{},"s":{"df":1,"docs":{"1":{"tf":1000000}}}}},"df":0,"docs":{}}"#;
+
 #[test]
 fn a_stage_stems_german_words(rt: HostRuntime) -> Result<(), Fail> {
     let alloc = rt.alloc();
     let stemmer = read_stemmer(alloc, Language::German, Version::Current)?;
     let queue = vec![in alloc; Stage::TableStemmer(stemmer)]?;
     let text = printed_german(alloc, Pipeline { queue })?;
-    for part in [
-        r#""h":{"a":{"df":0,"docs":{},"u":{"df":0,"docs":{},"s":{"df":1,"docs":{"1":{"tf":1000000}}}}},"df":0,"docs":{}}"#,
-        r#""pipeline":["stemmer-de"]"#,
-    ] {
+    for part in [HAUS, r#""pipeline":["stemmer-de"]"#] {
+        assert!(rt; text.as_str().contains(part), "{part}");
+    }
+    Ok(())
+}
+
+#[test]
+fn a_language_stems_german_words(rt: HostRuntime) -> Result<(), Fail> {
+    let alloc = rt.alloc();
+    let german = Stemmed {
+        language: German::new(),
+        table: Language::German,
+    };
+    let mut index = Index::with_language(alloc, german, &["body"])?;
+    index.add_doc("1", &["Die Häuser"])?;
+    let text = index.to_json()?;
+    for part in [HAUS, STEMMED_GERMAN] {
         assert!(rt; text.as_str().contains(part), "{part}");
     }
     Ok(())

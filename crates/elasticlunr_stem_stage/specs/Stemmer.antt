@@ -3,7 +3,7 @@ use Rattle.std.specs.Prelude.{◌≡◌, ◌++◌, Some, codes}
 use Rattle.std.specs.Str.{chars}
 use Rattle.elasticlunr_text.specs.TableStemmers.{stemmer_name}
 use Rattle.elasticlunr_text.specs.declared.lang.common.table_stemmer.TableStemmer.{TableStemmer}
-use Rattle.elasticlunr_stems.specs.Held.{table_of}
+use Rattle.elasticlunr_stem_cache.specs.Cached.{cached_table}
 use Rattle.elasticlunr_stems.specs.Reading.{table_in}
 use Rattle.elasticlunr_stem_tables.specs.Languages.{language_code, table_text}
 use Rattle.elasticlunr_stem_tables.specs.declared.language.Language.{Language}
@@ -14,4 +14,4 @@ use Rattle.elasticlunr_stem_tables.specs.declared.language.Version.{Version}
 pub record IsStemmerOf (language : Language) (version : Version) (stemmer : TableStemmer) : Type 0
   where
     pub named : stemmer_name stemmer ≡ codes "stemmer-" ++ language_code language
-    pub reads : table_in (chars (table_text version language)) ≡ Some (table_of stemmer.stemmer)
+    pub reads : table_in (chars (table_text version language)) ≡ Some (cached_table stemmer.stemmer)

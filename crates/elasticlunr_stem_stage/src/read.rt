@@ -6,8 +6,9 @@ ghost use Rattle.elasticlunr_stem_tables.specs.Languages.{table_text};
 ghost use Rattle.elasticlunr_stems.specs.Held.{Refuses};
 ghost use Rattle.elasticlunr_stems.specs.Reading.{table_in};
 
+use elasticlunr_stem_cache::CachedStemmer;
 use elasticlunr_stem_tables::{Language, Version};
-use elasticlunr_stems::{Stemmer, TableError};
+use elasticlunr_stems::TableError;
 use elasticlunr_text::lang::common::TableStemmer;
 use std::alloc::Global;
 
@@ -25,6 +26,6 @@ pub fn read_stemmer(
 {
     let code = language.code();
     let name = format!(in alloc; "stemmer-{code}")?;
-    let stemmer = Stemmer::read(alloc, language.table(version))?;
+    let stemmer = CachedStemmer::read(alloc, language, version)?;
     Ok(TableStemmer { name, stemmer })
 }

@@ -3,7 +3,7 @@ ghost use Rattle.std.specs.Prelude.{◌≡◌};
 ghost use Rattle.elasticlunr_text.specs.TableStemmers.{stemmer_name, table_stem};
 
 use crate::pipeline::PipelineFn;
-use elasticlunr_stems::Stemmer;
+use elasticlunr_stem_cache::CachedStemmer;
 use std::alloc::{AllocError, Global};
 
 /// Makes each token its stem by a table, and drops it where the stem is empty. It goes after the
@@ -13,8 +13,8 @@ use std::alloc::{AllocError, Global};
 pub struct TableStemmer {
     /// The name by which a printed index lists the stage.
     pub name: String,
-    /// The table, as it was read.
-    pub stemmer: Stemmer,
+    /// The stemmer of the table, which remembers the stems of the words that came last.
+    pub stemmer: CachedStemmer,
 }
 
 impl PipelineFn for TableStemmer {

@@ -13,7 +13,7 @@ is fetched. Without cargo or these crates the check is skipped, and says so.
   prints (rust/elasticlunr-rs/tests/original.jsonl: the original without its Snowball stemmers). With `rust-stemmers` it prints
   of a small site in each language that has a stemmer what the definitions say of its stems (tests/stems_model.py).
 - Out of memory ends a program as it does everywhere in Rust.
-- The lists of stop words and the tables of stemmers are those of the repository; the Hungarian list stands here alone.
+- The lists of stop words and the tables of stemmers are those of the repository.
 - A feature of elasticlunr-rs that is missing stops the build with a message.
 """
 import glob
@@ -45,7 +45,6 @@ REGISTRIES = ["/usr/share/cargo/registry", os.path.join(TOP, "out/compare/*/regi
 MODES = {"plain": [], "as-original": ["--features", "as-original"], "stems": ["--features", "rust-stemmers hu"]}
 MISSING = ("bin", "ja", "zh")
 STOP_WORDS = ("crates/elasticlunr_vectors/data/stopwords", "rust/elasticlunr-rs/src/lang/stop_words")
-HUNGARIAN = ("hu.txt", 790)  # a list of stop words that only the crate has, and its words
 FIXED = ("remove", "compact")  # keys of a job for which the crate has no call
 SECONDS = 900
 RANDOM = 300
@@ -195,11 +194,9 @@ def check_memory(site, results):
 
 
 def check_stop_words(results):
-    """Whether the crate's lists of stop words are those of the repository, and one for Hungarian."""
+    """Whether the crate's lists of stop words are those of the repository."""
     theirs, own = (set(os.listdir(os.path.join(TOP, folder))) for folder in STOP_WORDS)
-    name, words = HUNGARIAN
-    results.note(own - theirs == {name} and theirs <= own, "rust: other lists of stop words than the repository's")
-    results.note(len(set(json.loads(read(os.path.join(STOP_WORDS[1], name))))) == words, f"rust: {name} has not {words} words")
+    results.note(own == theirs, "rust: other lists of stop words than the repository's")
     for name in theirs & own:
         results.note(len({read(os.path.join(folder, name)) for folder in STOP_WORDS}) == 1, f"rust: another list of stop words: {name}")
 

@@ -48,8 +48,11 @@ fn stage_name(alloc: Global, prefix: &str, code: &str) -> Result<String, AllocEr
     Ok(name)
 }
 
-/// The filter of the stop words of the language with the code.
-fn filter_of_language(
+/// The filter of the stop words of the language with the code, by the name `stopWordFilter-` and the
+/// code. The words stand in one text, with commas between them.
+///
+/// It fails for lack of memory alone.
+pub fn filter_of_language(
     alloc: Global,
     code: &str,
     stop_words: &str,
@@ -61,8 +64,11 @@ fn filter_of_language(
     stop_word_filter(alloc, name.as_str(), stop_words)
 }
 
-/// The trimmer of the characters of the scripts, for the language with the code.
-fn trimmer_of_language(
+/// The trimmer of the characters of the scripts, for the language with the code, by the name
+/// `trimmer-` and the code.
+///
+/// It fails for lack of memory alone.
+pub fn trimmer_of_language(
     alloc: Global,
     code: &str,
     scripts: &[Script],

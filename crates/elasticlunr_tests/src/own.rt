@@ -10,7 +10,7 @@ use elasticlunr::lang::{English, German};
 use elasticlunr::pipeline::{FnWrapper, Pipeline, PipelineFn, Stage};
 use elasticlunr::{ELASTICLUNR_VERSION, Index, IndexBuilder, IndexError};
 use elasticlunr_site::{Page, search_index};
-use elasticlunr_stem_languages::Stemmed;
+use elasticlunr_stem_languages::{german, hungarian};
 use elasticlunr_stem_stage::{Language, Version, read_stemmer};
 use elasticlunr_uses::custom::{Tokenize, index_with_tokenizer, whole};
 use elasticlunr_uses::own::text_of_words;
@@ -127,14 +127,30 @@ fn a_stage_stems_german_words(rt: HostRuntime) -> Result<(), Fail> {
 #[test]
 fn a_language_stems_german_words(rt: HostRuntime) -> Result<(), Fail> {
     let alloc = rt.alloc();
-    let german = Stemmed {
-        language: German::new(),
-        table: Language::German,
-    };
-    let mut index = Index::with_language(alloc, german, &["body"])?;
+    let mut index = Index::with_language(alloc, german(), &["body"])?;
     index.add_doc("1", &["Die Häuser"])?;
     let text = index.to_json()?;
     for part in [HAUS, STEMMED_GERMAN] {
+        assert!(rt; text.as_str().contains(part), "{part}");
+    }
+    Ok(())
+}
+
+// The language and the stages of Hungarian with stems.
+const STEMMED_HUNGARIAN: &str =
+    r#""lang":"Hungarian","pipeline":["trimmer-hu","stopWordFilter-hu","stemmer-hu"]"#;
+
+// The tries of an index in which document 1 has the word `ház` alone.
+const HAZ: &str =
+    r#""index":{"body":{"root":{"df":0,"docs":{},"h":{"df":0,"docs":{},"á":{"df":0,"docs":{},"z":{"df":1,"docs":{"1":{"tf":1414213}}}}}}}}"#;
+
+#[test]
+fn hungarian_has_stop_words_and_stems(rt: HostRuntime) -> Result<(), Fail> {
+    let alloc = rt.alloc();
+    let mut index = Index::with_language(alloc, hungarian(), &["body"])?;
+    index.add_doc("1", &["A házak, azok a házak!"])?;
+    let text = index.to_json()?;
+    for part in [HAZ, STEMMED_HUNGARIAN] {
         assert!(rt; text.as_str().contains(part), "{part}");
     }
     Ok(())

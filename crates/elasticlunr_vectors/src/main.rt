@@ -26,8 +26,8 @@ const TABLES: [Table; 5] = [
 ];
 
 /// The languages that have a list of stop words, by their codes.
-const STOPPED: [&str; 15] = [
-    "da", "de", "du", "en", "es", "fi", "fr", "it", "ko", "no", "pt", "ro", "ru", "sv", "tr",
+const STOPPED: [&str; 16] = [
+    "da", "de", "du", "en", "es", "fi", "fr", "hu", "it", "ko", "no", "pt", "ro", "ru", "sv", "tr",
 ];
 
 /// Runs all tables.

@@ -1,10 +1,11 @@
-//! The stop words of the built-in languages: each list compared whole with that of the original.
+//! The stop words of the built-in languages and of Hungarian: each list compared whole with that of the original.
 use crate::cells;
 use crate::tables::Counts;
 use elasticlunr::Language;
 use elasticlunr::lang::common::StopWordFilter;
 use elasticlunr::lang::from_code;
 use elasticlunr::pipeline::{Pipeline, PipelineFn, Stage};
+use elasticlunr_stem_languages::Hungarian;
 use std::alloc::{AllocError, Global};
 use std::{fs, io};
 
@@ -18,17 +19,25 @@ pub fn run(rt: &HostRuntime, code: &str) -> io::Result<()> {
 
 fn compared(alloc: Global, code: &str, list: &str) -> Result<Counts, AllocError> {
     let mut counts = Counts::new();
-    match (from_code(code), cells::texts(alloc, list)?) {
-        (Some(language), Some(words)) => {
-            let empty = Pipeline {
-                queue: Vec::new(alloc),
-            };
-            let pipeline = language.make_pipeline(alloc, empty)?;
-            compare(alloc, &pipeline, &words, &mut counts)?;
-        }
+    match (pipeline_of(alloc, code)?, cells::texts(alloc, list)?) {
+        (Some(pipeline), Some(words)) => compare(alloc, &pipeline, &words, &mut counts)?,
         _ => counts.add(false),
     }
     Ok(counts)
+}
+
+/// The pipeline of the language with the code, `None` where no language has it.
+fn pipeline_of(alloc: Global, code: &str) -> Result<Option<Pipeline>, AllocError> {
+    let empty = Pipeline {
+        queue: Vec::new(alloc),
+    };
+    if code == "hu" {
+        return Ok(Some(Hungarian::new().make_pipeline(alloc, empty)?));
+    }
+    match from_code(code) {
+        Some(language) => Ok(Some(language.make_pipeline(alloc, empty)?)),
+        None => Ok(None),
+    }
 }
 
 fn compare(

@@ -2,7 +2,7 @@
 ghost use Rattle.std.specs.Prelude.{◌≡◌};
 ghost use Rattle.elasticlunr_stem_tables.specs.declared.language.Language.{Language};
 
-use crate::hungarian::Hungarian;
+use crate::hungarian_language::Hungarian;
 use crate::stemmed::Stemmed;
 use elasticlunr_lang::{
     Danish, Dutch, Finnish, French, German, Italian, Norwegian, Portuguese, Romanian, Russian,

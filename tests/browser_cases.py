@@ -9,6 +9,7 @@ import sys
 from tests import browser_book, browser_page, browser_pieces, browser_policy, browser_results, browser_speed, browser_stems
 from tests.browser_sentences import PAGES
 from tests.browser_tools import ALL, SECONDS, in_node, must, own_script
+from tests.model_tokens import OTHERS
 from tools import search_page
 from tools.repository import TOP, lines_of, program, read, run
 
@@ -57,12 +58,12 @@ def several(_world):
 
 def script_sizes(_world):
     size = lambda name: round(os.path.getsize(os.path.join(TOP, "browser", name)) / 1000)
-    own = [size(own_script(language)) for language in PAGES]
+    own = [size(own_script(language)) for language in [*PAGES, *OTHERS]]
     must(f"all languages in {size(ALL)} kB; the script of one language has {min(own)} to {max(own)} kB." in read("docs/BROWSER.md"), [size(ALL), own])
 
 
 def scripts():
-    made = [committed(ALL, "")] + [committed(own_script(language), language + "\n") for language in PAGES]
+    made = [committed(ALL, "")] + [committed(own_script(language), language + "\n") for language in [*PAGES, *OTHERS]]
     return made + [("a name that is no language is refused", refused_name), ("a script for two languages", several), ("docs: sizes of the scripts", script_sizes)]
 
 

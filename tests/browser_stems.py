@@ -9,7 +9,7 @@ from tests.browser_page import SITES, Page, site
 from tests.browser_pieces import in_pieces
 from tests.browser_sentences import PAGES
 from tests.browser_tools import ALL, in_node, must, own_script
-from tests.stems_index import CODES, built, index_of, stemmer
+from tests.stems_index import CODES, IN_SCRIPTS, built, index_of, stemmer
 from tools.repository import read
 
 LEAST = 1000  # listed words of each language
@@ -39,7 +39,7 @@ def asked(code):
 def same_stems(language, script):
     """The stage of the script makes each word its stem, and drops a word whose stem is empty."""
     def case(world):
-        code = CODES[language]
+        code = IN_SCRIPTS[language]
         rows = asked(code)
         world.write("words.json", json.dumps([word for word, _ in rows]))
         lines = [f"require('./{script}')(elasticlunr);", f"const stage = elasticlunr.Pipeline.registeredFunctions['stemmer-{code}'];",
@@ -63,7 +63,7 @@ def without_stem(world):
 def long_words(world):
     """Words of many letters have stems in each language, in time that grows with their length."""
     lines = [f"require('./{ALL}')(elasticlunr);", f"for (const letters of {json.dumps(['x', 'u', 'ß', 'aeiouy', 'ëïäü', 'qu', WIDE])})",
-             f"for (const code of {json.dumps(list(CODES.values()))})",
+             f"for (const code of {json.dumps(list(IN_SCRIPTS.values()))})",
              "console.log(typeof elasticlunr.Pipeline.registeredFunctions['stemmer-' + code](letters.repeat(50000 / letters.length)));"]
     must(set(in_node(world, lines).split()) <= {"string", "undefined"}, "another answer")
 
@@ -88,17 +88,24 @@ def damaged(world):
 
 
 def in_node_cases():
-    made = [same_stems(language, script) for language in CODES for script in (own_script(language), ALL)]
+    made = [same_stems(language, script) for language in IN_SCRIPTS for script in (own_script(language), ALL)]
     return made + [("stems: a word without a stem", without_stem), ("stems: long words", long_words), ("stems: damaged tables", damaged)]
 
 
 # On pages.
 
-def same_postings(language):
+HUNGARIAN = [
+    ["piac", "A vasárnapi piac", "Az almákat és a körtéket reggel hozzák a falvakból. A gyerekek cseresznyét esznek a padokon, és a vásárlókat nézik."],
+    ["folyó", "Hajók a folyón", "Esténként lassú hajók úsznak a hidak alatt. A házak ablakaiban lámpák égnek, a kertekben kutyák ugatnak."],
+    ["könyv", "Régi könyvek", "A könyvtárban régi könyveket, térképeket és leveleket őriznek. ŐRÜLT-ÍRÓK jegyzetei is vannak köztük: 1848-ból!"],
+]
+
+
+def same_postings(language, pages):
     """The browser makes the same tokens of the texts as the models."""
     def case(world):
         name = f"{language}-stems"
-        job, index = index_of(language, PAGES[language])
+        job, index = index_of(language, pages)
         world.write(name + ".job.json", json.dumps(job, ensure_ascii=False))
         world.write(name + ".json", index)
         answer = world.call([own_script(language)], "compare", name + ".job.json", name + ".json")
@@ -133,4 +140,5 @@ def other_forms(language):
 def cases():
     whole = [(f"stems: {language}, a page finds another form of a word", other_forms(language)) for language in FORMS]
     apart = [(f"stems: {language}, a page over pieces finds another form of a word", in_pieces(other_forms(language))) for language in FORMS]
-    return [same_postings(language) for language in CODES] + whole + apart
+    same = [same_postings(language, PAGES[language]) for language in CODES] + [same_postings("Hungarian", HUNGARIAN)]
+    return same + whole + apart

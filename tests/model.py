@@ -7,7 +7,7 @@ import json
 import math
 from typing import NamedTuple, Optional
 
-from tests.model_tokens import LANGUAGES, stages, tokens
+from tests.model_tokens import LANGUAGES, language_of, stages, tokens
 
 VERSION = "0.9.5"
 
@@ -126,7 +126,7 @@ def commands_of(job):
     indexed = [(place, field) for place, field in enumerate(job.fields) if field != job.ref]
     commands = []
     for ref, *values in job.docs:
-        found = {field: tokens(LANGUAGES[job.lang], values[place]) for place, field in indexed if place < len(values)}
+        found = {field: tokens(language_of(job.lang), values[place]) for place, field in indexed if place < len(values)}
         commands.append(Add(ref, tuple(values), found))
     return commands + [Remove(ref) for ref in job.remove] + ([Compact()] if job.compact else [])
 

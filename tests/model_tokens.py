@@ -247,6 +247,11 @@ for name_and_code in (
 ).split():
     name, code = name_and_code.split(":")
     LANGUAGES[name] = Language(code, ("Latin",))
+OTHERS = {"Hungarian": Language("hu", ("Latin",))}  # that the library has, and no input
+
+
+def language_of(name):
+    return LANGUAGES.get(name) or OTHERS[name]
 
 
 @functools.lru_cache(None)

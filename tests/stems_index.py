@@ -4,11 +4,12 @@ import json
 
 from tests import model, stems
 from tests.browser_sentences import PAGES
-from tests.model_tokens import LANGUAGES, stages
+from tests.model_tokens import OTHERS, language_of, stages
 from tests.stems_model import Stemmer
 from tools.repository import program, run
 
 CODES = {name.capitalize(): code for code, name in stems.NAMES.items() if name.capitalize() in PAGES}
+IN_SCRIPTS = {**CODES, **{name: language.code for name, language in OTHERS.items()}}  # languages with a stemmer in the scripts
 
 
 @functools.lru_cache(None)
@@ -18,12 +19,12 @@ def stemmer(code):
 
 def value_of(job):
     """The value of the index."""
-    code = CODES[job.lang]
+    code = IN_SCRIPTS[job.lang]
     commands = []
     for command in model.commands_of(job):
         tokens = {field: [stem for stem in map(stemmer(code).stem, found) if stem] for field, found in command.tokens.items()}
         commands.append(command._replace(tokens=tokens))
-    return model.value(job, commands, [*stages(LANGUAGES[job.lang]), f"stemmer-{code}"])
+    return model.value(job, commands, [*stages(language_of(job.lang)), f"stemmer-{code}"])
 
 
 def job_of(language, docs):

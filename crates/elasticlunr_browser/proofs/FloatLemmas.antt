@@ -6,13 +6,14 @@ use Rattle.serde_json.specs.Data.{Data, number, unsigned, string}
 use Rattle.serde_json.specs.View.{items_of}
 use Rattle.serde_json.specs.Written.{has_float, items_have_float}
 use Rattle.elasticlunr_text.specs.Text.{Bytes, bytes_of}
-use Rattle.elasticlunr_lang.specs.declared.any.AnyLanguage.{AnyLanguage}
+use Rattle.elasticlunr_browser.specs.declared.language.ScriptLanguage.{ScriptLanguage}
+use Rattle.elasticlunr_browser.specs.declared.language.ScriptLanguage.TheVariants.{BuiltIn}
 use Rattle.elasticlunr_lang.specs.declared.any.AnyLanguage.TheVariants.{English}
 use Rattle.elasticlunr_browser.specs.Facts.{IsFacts}
 use Rattle.elasticlunr_browser.specs.Kinds.{Kind, english_trimmer, stop_words, trimmer, english_stemmer, arabic_stemmer, table_stemmer}
 use Rattle.elasticlunr_browser.specs.Kinds.{keep, HoldsKind, HoldsKinds, HoldsLanguage, HoldsLanguages}
 use Rattle.elasticlunr_browser.specs.Stemmers.{stemmer_data, stemmer_of}
-use Rattle.elasticlunr_stem_stage.specs.Stemmed.{with_table}
+use Rattle.elasticlunr_browser.specs.Languages.{script_table}
 use Rattle.elasticlunr_stem_tables.specs.declared.language.Language.{Language}
 
 -- none of these values has a float
@@ -62,21 +63,21 @@ none-stemmer : (found : Option Language) → HaveNone (option_to_list (option_ma
 none-stemmer None = tt
 none-stemmer (Some language) = (refl, tt)
 
-none-language : (language : AnyLanguage) (ds : List Data) → HoldsLanguage language ds → HaveNone ds
-none-language English ds holds = subst HaveNone (sym holds) tt
+none-language : (language : ScriptLanguage) (ds : List Data) → HoldsLanguage language ds → HaveNone ds
+none-language (BuiltIn English) ds holds = subst HaveNone (sym holds) tt
 none-language language ds holds =
     let (kinds, its, are, all, is) = holds in
     subst HaveNone (sym is) (none-append its (option_to_list (stemmer_of language)) (held kinds its all)
-    (none-stemmer (with_table language)))
+    (none-stemmer (script_table language)))
 
-none-languages : (languages : List AnyLanguage) (ds : List Data) → HoldsLanguages languages ds → HaveNone ds
+none-languages : (languages : List ScriptLanguage) (ds : List Data) → HoldsLanguages languages ds → HaveNone ds
 none-languages [] ds holds = subst HaveNone (sym holds) tt
 none-languages (language ∷ languages) ds holds =
     let (its, others, one, more, is) = holds in
     subst HaveNone (sym is) (none-append its others (none-language language its one)
     (none-languages languages others more))
 
-pub none-facts : (languages : List AnyLanguage) (stages : List Data) (d : Data) → HoldsLanguages languages stages
+pub none-facts : (languages : List ScriptLanguage) (stages : List Data) (d : Data) → HoldsLanguages languages stages
     → IsFacts stages d → has_float d ≡ false
 none-facts languages stages d holds is =
     let listed = items_have_float (items_of stages) in

@@ -1,6 +1,6 @@
 -- Stages of a pipeline by their kinds, and what a script holds of languages, as a loop puts it together.
-use Rattle.std.proofs.Common.{◌≡◌, ◌≢◌, ◌↔◌, ◌<◌, ◌+◌, ℕ, length, take, get_or, List, [], ◌∷◌, ◌++◌, Option, Some, None}
-use Rattle.std.proofs.Common.{MatchOption, IsTrue, map, string_bytes, Result, Ok, Err, refl, sym, ap, subst, ◌∙◌}
+use Rattle.std.proofs.Common.{◌≡◌, ◌↔◌, ◌<◌, ◌+◌, ℕ, length, take, get_or, List, [], ◌∷◌, ◌++◌, Option, Some, None}
+use Rattle.std.proofs.Common.{MatchOption, IsTrue, true, false, map, string_bytes, Result, Ok, Err, refl, sym, ap, subst, ◌∙◌}
 use Rattle.std.proofs.Common.{option_map, option_to_list}
 use Rattle.std.specs.List.{AllZip, AllByRecursion}
 use Rattle.std.specs.Str.{all_scalars}
@@ -18,11 +18,10 @@ use Rattle.elasticlunr_text.specs.declared.pipeline.stage.Stage.{Stage}
 use Rattle.elasticlunr_text.specs.declared.pipeline.stage.Stage.TheVariants.{EnglishTrimmer, StopWords, Class}
 use Rattle.elasticlunr_text.specs.declared.pipeline.stage.Stage.TheVariants.{EnglishStemmer, ArabicStemmer, Keep}
 use Rattle.elasticlunr_text.specs.declared.pipeline.stage.Stage.TheVariants.{Function, Own, TableStemmer}
-use Rattle.elasticlunr_lang.specs.Known.{language_stages, language_leaves}
-use Rattle.elasticlunr_lang.specs.declared.any.AnyLanguage.{AnyLanguage}
-use Rattle.elasticlunr_lang.specs.declared.any.AnyLanguage.TheVariants.{English, Arabic, Danish, Dutch, Finnish, French}
-use Rattle.elasticlunr_lang.specs.declared.any.AnyLanguage.TheVariants.{German, Italian, Korean, Norwegian, Portuguese}
-use Rattle.elasticlunr_lang.specs.declared.any.AnyLanguage.TheVariants.{Romanian, Russian, Spanish, Swedish, Turkish}
+use Rattle.elasticlunr_browser.specs.Languages.{is_english, script_stages, script_leaves}
+use Rattle.elasticlunr_browser.specs.declared.language.ScriptLanguage.{ScriptLanguage}
+use Rattle.elasticlunr_browser.specs.declared.language.ScriptLanguage.TheVariants.{BuiltIn}
+use Rattle.elasticlunr_lang.specs.declared.any.AnyLanguage.TheVariants.{English}
 use Rattle.elasticlunr_browser.specs.Kinds.{Kind, english_trimmer, stop_words, trimmer, english_stemmer, arabic_stemmer, table_stemmer}
 use Rattle.elasticlunr_browser.specs.Kinds.{keep, kind_name, kind_of, KindLeaves, KindsLeave, HoldsKind, HoldsKinds}
 use Rattle.elasticlunr_browser.specs.Kinds.{HoldsStage, HoldsStages, AreStagesOf, HoldsLanguage, HoldsLanguages}
@@ -127,10 +126,10 @@ module _ {f x p calls : _} (name_text : DynBox x Global p → Bytes) (leaves : D
 
     -- what is held of a pipeline's stages is held of stages of the language, where the pipeline has its names and leaves
     -- what it leaves
-    pub held_of : (language : AnyLanguage) (stages : List (Stage f x p calls)) (ds : List Data)
-        → map (stage_name name_text) stages ≡ language_stages language
+    pub held_of : (language : ScriptLanguage) (stages : List (Stage f x p calls)) (ds : List Data)
+        → map (stage_name name_text) stages ≡ script_stages language
         → ((token : Text) (left : Option Text) → IsTrue (all_scalars token) → MayLeaveAll leaves stages token left
-        ↔ language_leaves language token left)
+        ↔ script_leaves language token left)
         → AllByRecursion IsKnown stages → HoldsStages stages ds → (kinds : List Kind) × AreStagesOf language kinds
         × HoldsKinds kinds ds
     held_of language stages ds names leave known held =
@@ -153,29 +152,20 @@ with_stemmer old new found stemmer is put =
     ap (map view) put ∙ map-append view old (option_to_list found)
     ∙ ap (λ ds. map view old ++ ds) (viewed found ∙ ap option_to_list is)
 
--- of a language other than English that is all
-pub holds_language : (language : AnyLanguage) (ds : List Data) → language ≢ English → (kinds : List Kind)
+-- of English a script holds nothing
+pub holds_none : (language : ScriptLanguage) → is_english language ≡ true → HoldsLanguage language []
+holds_none (BuiltIn English) is = refl
+holds_none language is = absurd (cc (is))
+
+-- of another language that is all
+pub holds_language : (language : ScriptLanguage) (ds : List Data) → is_english language ≡ false → (kinds : List Kind)
     × (its : List Data) × AreStagesOf language kinds × HoldsKinds kinds its
     × (ds ≡ its ++ option_to_list (stemmer_of language)) → HoldsLanguage language ds
-holds_language English ds other h = absurd (other refl)
-holds_language Arabic ds other h = h
-holds_language Danish ds other h = h
-holds_language Dutch ds other h = h
-holds_language Finnish ds other h = h
-holds_language French ds other h = h
-holds_language German ds other h = h
-holds_language Italian ds other h = h
-holds_language Korean ds other h = h
-holds_language Norwegian ds other h = h
-holds_language Portuguese ds other h = h
-holds_language Romanian ds other h = h
-holds_language Russian ds other h = h
-holds_language Spanish ds other h = h
-holds_language Swedish ds other h = h
-holds_language Turkish ds other h = h
+holds_language (BuiltIn English) ds other h = absurd (cc (other))
+holds_language language ds other h = h
 
 -- one language more
-one_more : (languages : List AnyLanguage) (language : AnyLanguage) (ds its : List Data) → HoldsLanguages languages ds
+one_more : (languages : List ScriptLanguage) (language : ScriptLanguage) (ds its : List Data) → HoldsLanguages languages ds
     → HoldsLanguage language its → HoldsLanguages (languages ++ language ∷ []) (ds ++ its)
 one_more [] language ds its held is = (its, [], is, refl, ap (λ old. old ++ its) held ∙ sym (append-nil its))
 one_more (first ∷ languages) language ds its held is = (
@@ -187,7 +177,7 @@ one_more (first ∷ languages) language ds its held is = (
       ∙ append_assoc held.0 held.1 its,
 )
 
-pub one_language : (languages : List AnyLanguage) (i : ℕ) (d : AnyLanguage) (old new its : List Data)
+pub one_language : (languages : List ScriptLanguage) (i : ℕ) (d : ScriptLanguage) (old new its : List Data)
     → i < length languages → HoldsLanguages (take i languages) old → HoldsLanguage (get_or languages i d) its → new
     ≡ old ++ its → HoldsLanguages (take (i + 1) languages) new
 one_language languages i d old new its inside held is put =
@@ -196,7 +186,7 @@ one_language languages i d old new its inside held is put =
     (one_more (take i languages) (get_or languages i d) old its held is))
 
 -- what is appended is held
-pub appended : {F : Type 0} (r : Result (Unit {0}) F) (language : AnyLanguage) (old new its : List Value) → new
+pub appended : {F : Type 0} (r : Result (Unit {0}) F) (language : ScriptLanguage) (old new its : List Value) → new
     ≡ (if is_ok r then old ++ its else old) → HoldsLanguage language (map view its)
     → OnOk r ((ds : List Data) × HoldsLanguage language ds × (map view new ≡ map view old ++ ds))
 appended (Ok done) language old new its put held = (map view its, held, ap (map view) put ∙ map-append view old its)

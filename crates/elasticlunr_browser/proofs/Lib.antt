@@ -4,3 +4,4 @@ pub mod StageLemmas
 pub mod NameLemmas
 pub mod KindLemmas
 pub mod FloatLemmas
+mod LanguageLemmas

@@ -9,13 +9,13 @@ use Rattle.serde_json.specs.Written.{compact_text}
 use Rattle.elasticlunr_text.specs.Text.{Bytes, texts_of, bytes_of}
 use Rattle.elasticlunr_lang.specs.Lower.{lower}
 use Rattle.elasticlunr_lang.specs.Words.{is_separator}
-use Rattle.elasticlunr_lang.specs.declared.any.AnyLanguage.{AnyLanguage}
 use Rattle.elasticlunr_browser.specs.Kinds.{HoldsLanguages}
+use Rattle.elasticlunr_browser.specs.Languages.{script_table}
 use Rattle.elasticlunr_browser.specs.Marks.{Marks}
 use Rattle.elasticlunr_browser.specs.Named.{AreNamed}
 use Rattle.elasticlunr_browser.specs.Pairs.{Pairs}
 use Rattle.elasticlunr_browser.specs.Stages.{texts, numbers}
-use Rattle.elasticlunr_stem_stage.specs.Stemmed.{with_table}
+use Rattle.elasticlunr_browser.specs.declared.language.ScriptLanguage.{ScriptLanguage}
 use Rattle.elasticlunr_browser.specs.declared.template.TheConstants.{HEAD, STAGES, STEMMER, TAIL}
 
 -- the object of the separators of words, lower case and stages
@@ -33,8 +33,8 @@ pub record IsFacts (stages : List Data) (d : Data) : Type 0 where
   pub value : d ≡ facts_data (numbers marks) (texts (bytes_of pairs)) (array (items_of stages))
 
 -- one of these languages has a table of a stemmer
-abbrev pub has_table : List AnyLanguage → Bool
-has_table languages = list_any (λ language. is_some (with_table language)) languages
+abbrev pub has_table : List ScriptLanguage → Bool
+has_table languages = list_any (λ language. is_some (script_table language)) languages
 
 -- what makes stages of tables stands in a script only where there are some
 abbrev pub stemmer_part : (stems : Bool) → Bytes
@@ -46,11 +46,11 @@ script_text stems facts =
     HEAD.now ++ compact_text facts ++ STAGES.now ++ stemmer_part stems ++ TAIL.now
 
 -- the text is the script of these languages
-abbrev pub IsScriptOf : List AnyLanguage → Bytes → Type 0
+abbrev pub IsScriptOf : List ScriptLanguage → Bytes → Type 0
 IsScriptOf languages text = (stages : List Data) × (facts : Data) × HoldsLanguages languages stages
     × IsFacts stages facts × (text ≡ script_text (has_table languages) facts)
 
 -- the text is the script of the languages that these lines name
 abbrev pub IsScriptFor : List Bytes → Bytes → Type 0
-IsScriptFor lines text = (languages : List AnyLanguage) × AreNamed lines languages
+IsScriptFor lines text = (languages : List ScriptLanguage) × AreNamed lines languages
     × IsScriptOf languages text

@@ -1,4 +1,4 @@
--- The kinds of stages of the built-in languages, and what a script holds of a language: what it
+-- The kinds of stages of the languages, and what a script holds of a language: what it
 -- holds of its stages, and its stemmer.
 use Rattle.std.specs.Prelude.{◌≡◌, ◌↔◌, List, [], ◌∷◌, ◌++◌, map, codes, string_bytes, Option, None}
 use Rattle.std.specs.Prelude.{Some, IsSomeAnd, MatchOption, IsTrue, option_to_list}
@@ -22,11 +22,12 @@ use Rattle.elasticlunr_text.specs.declared.pipeline.stage.Stage.TheVariants.{Eng
 use Rattle.elasticlunr_text.specs.declared.pipeline.stage.Stage.TheVariants.{ArabicStemmer, Keep}
 use Rattle.elasticlunr_text.specs.declared.pipeline.stage.Stage.TheVariants.{TableStemmer}
 use Rattle.elasticlunr_text.specs.declared.pipeline.stage.Stage.TheVariants.{Function, Own}
-use Rattle.elasticlunr_lang.specs.Known.{language_stages, language_leaves}
-use Rattle.elasticlunr_lang.specs.declared.any.AnyLanguage.{AnyLanguage}
 use Rattle.elasticlunr_lang.specs.declared.any.AnyLanguage.TheVariants.{English}
+use Rattle.elasticlunr_browser.specs.Languages.{script_stages, script_leaves}
 use Rattle.elasticlunr_browser.specs.Stages.{IsFilter, IsTrimmer, IsArabic, keep_data}
 use Rattle.elasticlunr_browser.specs.Stemmers.{stemmer_of}
+use Rattle.elasticlunr_browser.specs.declared.language.ScriptLanguage.{ScriptLanguage}
+use Rattle.elasticlunr_browser.specs.declared.language.ScriptLanguage.TheVariants.{BuiltIn}
 
 -- a stage that the library has
 pub data Kind : Type 0 where
@@ -82,20 +83,20 @@ HoldsKinds kinds ds = (each : List (Option Data)) × AllZip HoldsKind kinds each
 
 -- these are stages of the language: they have the names of its stages, and make of each token what
 -- it makes
-pub record AreStagesOf (language : AnyLanguage) (kinds : List Kind) : Type 0 where
-  pub names : map kind_name kinds ≡ language_stages language
+pub record AreStagesOf (language : ScriptLanguage) (kinds : List Kind) : Type 0 where
+  pub names : map kind_name kinds ≡ script_stages language
   pub leave : (token : Text) (left : Option Text) → IsTrue (all_scalars token)
-      → KindsLeave kinds token left ↔ language_leaves language token left
+      → KindsLeave kinds token left ↔ script_leaves language token left
 
 -- what a script holds of a language: nothing of English, whose stages elasticlunr.js has, and of
 -- another one what it holds of its stages, and then its stemmer, if it has a table
-abbrev pub HoldsLanguage : AnyLanguage → List Data → Type 0
-HoldsLanguage English ds = ds ≡ []
+abbrev pub HoldsLanguage : ScriptLanguage → List Data → Type 0
+HoldsLanguage (BuiltIn English) ds = ds ≡ []
 HoldsLanguage language ds = (kinds : List Kind) × (its : List Data) × AreStagesOf language kinds
     × HoldsKinds kinds its × (ds ≡ its ++ option_to_list (stemmer_of language))
 
 -- what it holds of several, in order
-abbrev pub HoldsLanguages : List AnyLanguage → List Data → Type 0
+abbrev pub HoldsLanguages : List ScriptLanguage → List Data → Type 0
 HoldsLanguages [] ds = ds ≡ []
 HoldsLanguages (language ∷ languages) ds =
     (its : List Data) × (others : List Data) × HoldsLanguage language its

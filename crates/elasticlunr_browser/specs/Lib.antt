@@ -4,4 +4,5 @@ pub mod Stages
 pub mod Stemmers
 pub mod Kinds
 pub mod Facts
+pub mod Languages
 pub mod Named

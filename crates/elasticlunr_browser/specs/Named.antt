@@ -2,18 +2,18 @@
 use Rattle.std.specs.Prelude.{◌≡◌, ◌≢◌, List, [], ◌∷◌}
 use Rattle.std.specs.List.{AllZip}
 use Rattle.elasticlunr_text.specs.Text.{Bytes}
-use Rattle.elasticlunr_lang.specs.Known.{all_languages, language_name}
-use Rattle.elasticlunr_lang.specs.declared.any.AnyLanguage.{AnyLanguage}
+use Rattle.elasticlunr_browser.specs.Languages.{script_languages, script_name}
+use Rattle.elasticlunr_browser.specs.declared.language.ScriptLanguage.{ScriptLanguage}
 
 -- this is the language's name
-abbrev pub IsNameOf : Bytes → AnyLanguage → Type 0
-IsNameOf name language = language_name language ≡ name
+abbrev pub IsNameOf : Bytes → ScriptLanguage → Type 0
+IsNameOf name language = script_name language ≡ name
 
 -- it is no language's name
 abbrev pub IsNoName : Bytes → Type 0
-IsNoName name = (language : AnyLanguage) → language_name language ≢ name
+IsNoName name = (language : ScriptLanguage) → script_name language ≢ name
 
 -- the languages that these lines name, in order, or all of them where there is no line
-abbrev pub AreNamed : List Bytes → List AnyLanguage → Type 0
-AreNamed [] chosen = chosen ≡ all_languages
+abbrev pub AreNamed : List Bytes → List ScriptLanguage → Type 0
+AreNamed [] chosen = chosen ≡ script_languages
 AreNamed (line ∷ lines) chosen = AllZip IsNameOf (line ∷ lines) chosen

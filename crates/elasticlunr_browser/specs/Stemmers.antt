@@ -2,8 +2,8 @@
 use Rattle.std.specs.Prelude.{◌++◌, Option, option_map, codes}
 use Rattle.serde_json.specs.Data.{Data, string, object, member, no_members}
 use Rattle.elasticlunr_text.specs.Text.{Bytes}
-use Rattle.elasticlunr_lang.specs.declared.any.AnyLanguage.{AnyLanguage}
-use Rattle.elasticlunr_stem_stage.specs.Stemmed.{with_table}
+use Rattle.elasticlunr_browser.specs.Languages.{script_table}
+use Rattle.elasticlunr_browser.specs.declared.language.ScriptLanguage.{ScriptLanguage}
 use Rattle.elasticlunr_stem_tables.specs.Languages.{language_code, table_text}
 use Rattle.elasticlunr_stem_tables.specs.declared.language.Language.{Language}
 use Rattle.elasticlunr_stem_tables.specs.declared.language.Version.TheVariants.{Current}
@@ -19,5 +19,5 @@ stemmer_data language =
     table_data (codes "stemmer-" ++ language_code language) (table_text Current language)
 
 -- what a script holds of the stemmer of a language: nothing where it has no table
-abbrev pub stemmer_of : AnyLanguage → Option Data
-stemmer_of language = option_map stemmer_data (with_table language)
+abbrev pub stemmer_of : ScriptLanguage → Option Data
+stemmer_of language = option_map stemmer_data (script_table language)

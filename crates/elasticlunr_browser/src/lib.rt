@@ -3,6 +3,7 @@
 #![tactic(auto)]
 
 mod classes;
+mod language;
 mod pairs;
 pub mod script;
 mod stages;

@@ -9,16 +9,15 @@ ghost use Rattle.elasticlunr_browser.specs.Kinds.{HoldsLanguages};
 ghost use Rattle.elasticlunr_browser.specs.Named.{IsNameOf, IsNoName, AreNamed};
 
 use crate::classes::{Separators, marks_of};
+use crate::language::ScriptLanguage;
 use crate::pairs::{LowerCase, pairs_of};
 use crate::stages::{numbers, push_stages, texts};
 use crate::template::{HEAD, STAGES, STEMMER, TAIL};
-use elasticlunr_lang::{AnyLanguage, from_name, languages};
-use elasticlunr_stem_stage::with_table;
 use serde_json::{Value, json};
 use std::alloc::{AllocError, Global};
 
 /// The languages of these names, in order; `None` where a text is no name of a language.
-fn of_names(alloc: Global, names: &[&str]) -> Result<Option<Vec<AnyLanguage>>, AllocError>
+fn of_names(alloc: Global, names: &[&str]) -> Result<Option<Vec<ScriptLanguage>>, AllocError>
     ensures some { IfOk result (λ found. IfSome found
         (λ chosen. AllZip IsNameOf (map (λ name. name.now) names.now) chosen.items)) }
     ensures none { IfOk result (λ found. IsNone found
@@ -26,7 +25,7 @@ fn of_names(alloc: Global, names: &[&str]) -> Result<Option<Vec<AnyLanguage>>, A
 {
     let mut chosen = Vec::with_capacity(alloc, names.len())?;
     for name in names {
-        let Some(language) = from_name(name) else {
+        let Some(language) = ScriptLanguage::from_name(name) else {
             return Ok(None);
         };
         chosen.push(language)?;
@@ -36,20 +35,20 @@ fn of_names(alloc: Global, names: &[&str]) -> Result<Option<Vec<AnyLanguage>>, A
 
 /// The languages that the lines name, all of them where there is no line; `None` where a line is no
 /// name of a language.
-fn named(alloc: Global, names: &str) -> Result<Option<Vec<AnyLanguage>>, AllocError>
+fn named(alloc: Global, names: &str) -> Result<Option<Vec<ScriptLanguage>>, AllocError>
     ensures some { IfOk result (λ found. IfSome found
         (λ chosen. AreNamed (lines names.now) chosen.items)) }
     ensures none { IfOk result (λ found. IsNone found → Any IsNoName (lines names.now)) }
 {
     let each: Vec<&str> = names.lines().collect(alloc)?;
     if each.is_empty() {
-        return Ok(Some(Vec::from_slice(alloc, &languages())?));
+        return Ok(Some(ScriptLanguage::all(alloc)?));
     }
     of_names(alloc, &each)
 }
 
 /// The stages of the languages.
-fn all_stages(alloc: Global, chosen: &[AnyLanguage]) -> Result<Vec<Value>, AllocError>
+fn all_stages(alloc: Global, chosen: &[ScriptLanguage]) -> Result<Vec<Value>, AllocError>
     ensures { IfOk result (λ stages. HoldsLanguages chosen.now (map view stages.items)) }
 {
     let mut stages = Vec::new(alloc);
@@ -86,12 +85,10 @@ fn facts(alloc: Global, stages: Vec<Value>) -> Result<Value, AllocError>
 }
 
 /// Whether one of the languages has a table of a stemmer.
-fn has_table(chosen: &[AnyLanguage]) -> bool
+fn has_table(chosen: &[ScriptLanguage]) -> bool
     ensures { result ≡ has_table chosen.now }
 {
-    chosen
-        .iter()
-        .any(|language| with_table(*language).is_some())
+    chosen.iter().any(|language| language.table().is_some())
 }
 
 /// What makes stages of tables, where there are some.
@@ -115,7 +112,7 @@ fn framed(alloc: Global, printed: &str, part: &str) -> Result<String, AllocError
 }
 
 /// The text of the script for the languages.
-fn text_for(alloc: Global, chosen: &[AnyLanguage]) -> Result<String, AllocError>
+fn text_for(alloc: Global, chosen: &[ScriptLanguage]) -> Result<String, AllocError>
     ensures { IfOk result (λ text. IsScriptOf chosen.now (string_bytes text)) }
 {
     let stages = all_stages(alloc, chosen)?;

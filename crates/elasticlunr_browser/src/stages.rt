@@ -11,9 +11,9 @@ ghost use Rattle.elasticlunr_browser.specs.Kinds.{HoldsStage, HoldsStages, Holds
 ghost use Rattle.serde_json.specs.Data.{Data};
 
 use crate::classes::{CharClass, TrimmerClass, marks_of};
+use crate::language::ScriptLanguage;
 use crate::pairs::{ArabicChange, alone, pairs_of, push_some};
 use crate::stemmers::stemmer_of;
-use elasticlunr_lang::{AnyLanguage, Language};
 use elasticlunr_text::lang::ar;
 use elasticlunr_text::lang::common::{RegexTrimmer, StopWordFilter};
 use elasticlunr_text::pipeline::{Pipeline, PipelineFn, Stage};
@@ -159,19 +159,16 @@ pub fn stages_of(alloc: Global, pipeline: &Pipeline) -> Result<Vec<Value>, Alloc
 /// elasticlunr.js's own.
 pub fn push_stages(
     alloc: Global,
-    language: AnyLanguage,
+    language: ScriptLanguage,
     stages: &mut Vec<Value>,
 ) -> Result<(), AllocError>
     ensures { OnOk result ((its : List Data) × HoldsLanguage language its
         × (map view stages.new.items ≡ map view stages.old.items ++ its)) }
 {
-    if let AnyLanguage::English = language {
+    if language.is_english() {
         return Ok(());
     }
-    let empty = Pipeline {
-        queue: Vec::new(alloc),
-    };
-    let pipeline = language.make_pipeline(alloc, empty)?;
+    let pipeline = language.make_pipeline(alloc)?;
     let mut its_own = stages_of(alloc, &pipeline)?;
     let stemmer = stemmer_of(alloc, language)?;
     push_some(&mut its_own, stemmer)?;

@@ -4,8 +4,7 @@ ghost use Rattle.serde_json.specs.View.{view};
 ghost use Rattle.elasticlunr_browser.specs.Stemmers as spec;
 ghost use Rattle.elasticlunr_browser.specs.Stemmers.{table_data, stemmer_data};
 
-use elasticlunr_lang::AnyLanguage;
-use elasticlunr_stem_stage::with_table;
+use crate::language::ScriptLanguage;
 use elasticlunr_stem_tables::{Language, Version};
 use serde_json::{Value, json};
 use std::alloc::{AllocError, Global};
@@ -29,10 +28,10 @@ fn stemmer(alloc: Global, language: Language) -> Result<Value, AllocError>
 }
 
 /// The stemmer of a language, if it has a table.
-pub fn stemmer_of(alloc: Global, language: AnyLanguage) -> Result<Option<Value>, AllocError>
+pub fn stemmer_of(alloc: Global, language: ScriptLanguage) -> Result<Option<Value>, AllocError>
     ensures { IfOk result (λ found. option_map view found ≡ spec.stemmer_of language) }
 {
-    match with_table(language) {
+    match language.table() {
         Some(known) => Ok(Some(stemmer(alloc, known)?)),
         None => Ok(None),
     }

@@ -1,9 +1,10 @@
 -- Hungarian: its name, its code, its stages, and what these make of a token.
 use Rattle.std.specs.Prelude.{◌∷◌, [], List, Option, codes}
+use Rattle.ucd_script.specs.declared.Script.{Script}
 use Rattle.ucd_script.specs.declared.Script.TheVariants.{Latin}
 use Rattle.elasticlunr_text.specs.Text.{Text, Bytes}
 use Rattle.elasticlunr_text.specs.Classes.{in_scripts}
-use Rattle.elasticlunr_lang.specs.Classes.{class_stages, class_leaves}
+use Rattle.elasticlunr_lang.specs.Classes.{class_leaves}
 use Rattle.elasticlunr_lang.specs.StopWords.{listed_words}
 use Rattle.elasticlunr_stem_languages.specs.declared.hungarian_stop_words.TheConstants as hu
 
@@ -17,7 +18,10 @@ hungarian_code = codes "hu"
 unfoldable pub hungarian_stop_words : List Text
 hungarian_stop_words = listed_words hu.STOP_WORDS.now
 
--- a token is cut to the characters of the Latin script; it is dropped if nothing is left, or a
--- stop word
+-- the scripts of the characters that the trimmer keeps
+abbrev pub hungarian_scripts : List Script
+hungarian_scripts = Latin ∷ []
+
+-- a token is cut to these characters; it is dropped if nothing is left, or a stop word
 abbrev pub hungarian_leaves : Text → Option Text → Type 0
-hungarian_leaves = class_leaves (in_scripts (Latin ∷ [])) hungarian_stop_words
+hungarian_leaves = class_leaves (in_scripts hungarian_scripts) hungarian_stop_words

@@ -4,6 +4,7 @@ ghost use Rattle.elasticlunr_lang.specs.Classes.{class_stages};
 ghost use Rattle.elasticlunr_lang.specs.StopWords.{listed_words};
 ghost use Rattle.elasticlunr_lang.specs.Words.{words};
 ghost use Rattle.elasticlunr_stem_languages.specs.Hungarian.{hungarian_name, hungarian_code};
+ghost use Rattle.elasticlunr_stem_languages.specs.Hungarian.{hungarian_scripts};
 ghost use Rattle.elasticlunr_stem_languages.specs.Hungarian.{hungarian_stop_words};
 ghost use Rattle.elasticlunr_stem_languages.specs.Hungarian.{hungarian_leaves};
 
@@ -54,11 +55,18 @@ impl Language for Hungarian {
 
     fn make_pipeline(&self, alloc: Global, empty: Pipeline) -> Result<Pipeline, AllocError> {
         let mut pipeline = empty;
-        let trimmer = trimmer_of_language(alloc, "hu", &[Script::Latin])?;
+        let trimmer = trimmer_of_language(alloc, "hu", scripts())?;
         let filter = filter_of_language(alloc, "hu", stop_words())?;
         pipeline.queue = vec![in alloc; Stage::Class(trimmer), Stage::StopWords(filter)]?;
         Ok(pipeline)
     }
+}
+
+/// The scripts of the characters that the trimmer keeps.
+fn scripts() -> &'static [Script]
+    ensures { result.now ≡ hungarian_scripts }
+{
+    &[Script::Latin]
 }
 
 /// The list of the stop words.

@@ -97,6 +97,7 @@ def in_node_cases():
 HUNGARIAN = [
     ["piac", "A vasárnapi piac", "Az almákat és a körtéket reggel hozzák a falvakból. A gyerekek cseresznyét esznek a padokon, és a vásárlókat nézik."],
     ["folyó", "Hajók a folyón", "Esténként lassú hajók úsznak a hidak alatt. A házak ablakaiban lámpák égnek, a kertekben kutyák ugatnak."],
+    ["erdő", "Ősz az erdőben", "A lombok sárgák és vörösek; a szarvasok a patakokhoz mennek inni, a madarak délre indulnak, a gombákat kosarakba szedik."],
     ["könyv", "Régi könyvek", "A könyvtárban régi könyveket, térképeket és leveleket őriznek. ŐRÜLT-ÍRÓK jegyzetei is vannak köztük: 1848-ból!"],
 ]
 

@@ -10,9 +10,13 @@ ghost use Rattle.elasticlunr_stem_tables.specs.declared.language.Version.{Versio
 use elasticlunr_stem_tables::{Language, Version};
 use std::alloc::{AllocError, Global};
 use std::hash::{FoldHasher, Hash, Hasher};
+use std::mem;
 
-/// How many slots there are.
-const SLOTS: usize = 8192;
+/// How many slots there are at first: a power of two.
+const FEWEST: usize = 1024;
+
+/// How many there are at most: a power of two.
+const MOST: usize = 65536;
 
 /// How many bytes a word has at most that is remembered.
 const LONGEST: usize = 64;
@@ -25,12 +29,14 @@ pub struct Entry {
 }
 
 /// Words with their stems by one table. Each word has one slot, which its hash names, and takes the
-/// place of the word that stood there. So a look-up visits one slot, whatever the words are.
+/// place of the word that stood there. So a look-up visits one slot, whatever the words are. Where
+/// half of the slots have a word, twice as many are made.
 #[derive(Drop)]
 pub struct Cache {
     language: Language,
     version: Version,
     slots: Vec<Option<Entry>>,
+    filled: usize,
     ghost right: { All (IsRight language version) slots.items },
 }
 
@@ -41,6 +47,7 @@ impl Cache {
             language,
             version,
             slots: Vec::new(alloc),
+            filled: 0,
         }
     }
 
@@ -58,7 +65,7 @@ impl Cache {
         if !self.is_of(language, version) {
             return None;
         }
-        let entry = self.slots.get(slot_of(word))?.as_ref()?;
+        let entry = self.slots.get(slot_of(word, self.slots.len()))?.as_ref()?;
         if entry.word.as_str() != word {
             return None;
         }
@@ -78,52 +85,76 @@ impl Cache {
         if !self.is_of(language, version) || entry.word.len() > LONGEST {
             return Ok(());
         }
-        self.make_slots(alloc)?;
-        put_entry(&mut self.slots, entry);
+        self.make_room(alloc)?;
+        let is_more = put_entry(&mut self.slots, entry);
+        self.filled = self.filled.saturating_add(usize::from(is_more));
         Ok(())
     }
 
-    /// Makes the slots, unless they are there.
-    fn make_slots(&mut self, alloc: Global) -> Result<(), AllocError>
+    /// Makes twice as many slots where half of them have a word, up to a limit.
+    fn make_room(&mut self, alloc: Global) -> Result<(), AllocError>
         ensures language { self.new.language ≡ self.old.language }
         ensures version { self.new.version ≡ self.old.version }
     {
-        if self.slots.is_empty() {
-            self.slots = free_slots(alloc)?;
+        let count = self.slots.len();
+        if self.filled < count / 2 || count >= MOST {
+            return Ok(());
         }
+        let more = free_slots(alloc, count.saturating_mul(2).max(FEWEST))?;
+        let slots = mem::replace(&mut self.slots, Vec::new(alloc));
+        self.slots = moved(slots, more);
         Ok(())
     }
 }
 
-/// Slots in which nothing stands.
+/// So many slots in which nothing stands.
 #[tactic(auto, using(crate::proofs::Stems::none_right))]
-fn free_slots(alloc: Global) -> Result<Vec<Option<Entry>>, AllocError>
+fn free_slots(alloc: Global, count: usize) -> Result<Vec<Option<Entry>>, AllocError>
     ensures { IfOk result (λ slots. (language : Language) (version : Version)
         → All (IsRight language version) slots.items) }
 {
-    let mut slots = Vec::with_capacity(alloc, SLOTS)?;
-    for _ in 0..SLOTS {
+    let mut slots = Vec::with_capacity(alloc, count)?;
+    for _ in 0..count {
         slots.push(None)?;
     }
     Ok(slots)
 }
 
-/// Puts a word with its stem in its slot.
-fn put_entry(slots: &mut Vec<Option<Entry>>, entry: Entry)
+/// The other slots, with the words that stand in these.
+fn moved(slots: Vec<Option<Entry>>, others: Vec<Option<Entry>>) -> Vec<Option<Entry>>
+    ensures { (language : Language) (version : Version)
+        → All (IsRight language version) slots.items
+        → All (IsRight language version) others.items
+        → All (IsRight language version) result.items }
+{
+    let mut others = others;
+    for slot in slots {
+        if let Some(entry) = slot {
+            put_entry(&mut others, entry);
+        }
+    }
+    others
+}
+
+/// Puts a word with its stem in its slot. Whether nothing stood there.
+fn put_entry(slots: &mut Vec<Option<Entry>>, entry: Entry) -> bool
     ensures { (language : Language) (version : Version)
         → All (IsRight language version) slots.old.items
         → IsStem language version (text_of entry.word) (text_of entry.stem)
         → All (IsRight language version) slots.new.items }
 {
-    let place = slot_of(entry.word.as_str());
-    if place < slots.len() {
-        slots[place] = Some(entry);
-    }
+    let place = slot_of(entry.word.as_str(), slots.len());
+    let Some(slot) = slots.get_mut(place) else {
+        return false;
+    };
+    let was_free = slot.is_none();
+    *slot = Some(entry);
+    was_free
 }
 
-/// The number of the slot of a word.
-fn slot_of(word: &str) -> usize {
+/// The number of the slot of a word among so many, a power of two.
+fn slot_of(word: &str, count: usize) -> usize {
     let mut state = FoldHasher::default();
     word.hash(&mut state);
-    state.finish() as usize % SLOTS
+    state.finish() as usize & count.saturating_sub(1)
 }

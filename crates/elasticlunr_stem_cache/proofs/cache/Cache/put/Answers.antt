@@ -5,6 +5,6 @@ pub invariant_of-self : goal.invariant_of-self
 invariant_of-self c =
     let own = c.is_of.ensures c.if-not-is_of.false in
     record {
-      right = c.put_entry.ensures _ _ c.make_slots.new.self.right (by_same _ _
-          c.make_slots.ensures.language own.0 c.make_slots.ensures.version own.1 c.requires);
+      right = c.put_entry-is_more.ensures _ _ c.make_room.new.self.right (by_same _ _
+          c.make_room.ensures.language own.0 c.make_room.ensures.version own.1 c.requires);
     }

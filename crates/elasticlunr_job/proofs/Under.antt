@@ -1,6 +1,9 @@
 -- The document that an index makes of values with the words that rules keep is the one that is added under these rules.
 use Rattle.std.proofs.Common.{◌≡◌, ℕ, zero, suc, List, [], ◌∷◌, map, Option, None, Some, slice_get, IfSome, IsSomeAnd}
-use Rattle.std.proofs.Common.{option_map, sym, ap, subst, ◌∙◌}
+use Rattle.std.proofs.Common.{option_map, sym, ap, subst, ◌∙◌, refl, filter, Bool, true, false, ◌&&◌, ◌==◌, is_none, length}
+use Rattle.std.proofs.Common.{if◌then◌else◌, arith}
+use Rattle.std.proofs.lemmas.Bool.{eqb-true}
+use Rattle.std.specs.Option.{option_map_or}
 use Rattle.std.proofs.lemmas.Option.{slice_get-map}
 use Rattle.std.specs.List.{zip}
 use Rattle.std.specs.Str.{chars}
@@ -14,8 +17,9 @@ use Rattle.elasticlunr.specs.Words.{words}
 use Rattle.elasticlunr.specs.declared.values.FieldValue.{FieldValue}
 use Rattle.elasticlunr.specs.declared.values.TokenSource.{TokenSource}
 use Rattle.elasticlunr.specs.declared.values.TokenSource.TheVariants.{AsGiven, FromText, IntoPipeline}
-use Rattle.elasticlunr_job.specs.Commands.{IsAddedBy, kept_at, kept_words, ReadsBy}
-use Rattle.elasticlunr_job.specs.Given.{AreGiven, IsSourceOf, kept_lists}
+use Rattle.elasticlunr.specs.Fields.{has_name}
+use Rattle.elasticlunr_job.specs.Commands.{IsAddedBy, is_short, kept_at, kept_words, ReadsBy}
+use Rattle.elasticlunr_job.specs.Given.{AreGiven, IsSourceOf, chosen_lists, keeps_all, kept_lists}
 use Rattle.elasticlunr_job_format.specs.Job as asked
 use Rattle.elasticlunr_job_format.specs.Job.{Job}
 use Rattle.elasticlunr_job_format.specs.Rules.{WordRules, stems_by}
@@ -95,6 +99,36 @@ module _ (R : Text → Option Text → Type 0) where
   of_kept rules (field ∷ fields) (first ∷ texts) (suc place) i text tokens there h =
       of_kept rules fields texts place i text tokens there h
 
+  short_all : (ws : List Text) → filter (is_short None) ws ≡ ws
+  short_all [] = refl
+  short_all (w ∷ ws) = ap (λ left. w ∷ left) (short_all ws)
+
+  -- rules that keep all keep the words of a text
+  all_words : (stored : List Bytes) (longest : Option ℕ) (field : Bytes) (ws : List Text)
+      → is_none longest && (length stored == 0) ≡ true
+      → (if has_name field stored then [] else filter (is_short longest) ws) ≡ ws
+  all_words [] None field ws all = short_all ws
+  all_words [] (Some most) field ws all = cc
+  all_words (name ∷ stored) None field ws all =
+      let none : suc (length stored) ≡ 0 = eqb-true (suc (length stored)) 0 all in
+      absurd (omega (arith, none))
+  all_words (name ∷ stored) (Some most) field ws all = cc
+
+  all_at : (rules : WordRules) (there : Option Bytes) (text : Bytes) → keeps_all rules ≡ true
+      → option_map_or (λ field. kept_words rules field text) there (words (chars text)) ≡ words (chars text)
+  all_at rules None text all = refl
+  all_at rules (Some field) text all = all_words rules.stored rules.longest field (words (chars text)) all
+
+  -- the words of a text under rules, whether they keep all or choose
+  of_rules : (rules : WordRules) (fields texts : List Bytes) (i : ℕ) (text : Bytes) (tokens : List Text) (all : Bool)
+      → keeps_all rules ≡ all → slice_get texts i ≡ Some text
+      → Reads (slice_get (if all then [] else chosen_lists rules fields texts) i) i text tokens
+      → LanguageLeaves R (kept_at rules fields i text) tokens
+  of_rules rules fields texts i text tokens true all there h =
+      subst (λ made. LanguageLeaves R made tokens) (sym (all_at rules (slice_get fields i) text all))
+      (left_of_words i text tokens h)
+  of_rules rules fields texts i text tokens false all there h = of_kept rules fields texts i i text tokens there h
+
 -- what the stages of a language make of a token under rules
 abbrev pub leaves_under : Option WordRules → AnyLanguage → Text → Option Text → Type 0
 leaves_under rules language = leaves_with (stems_by rules) language
@@ -106,7 +140,7 @@ module _ (language : AnyLanguage) where
       → ReadsBy rules fields language i text tokens
   read_under None fields texts i text tokens there h = h
   read_under (Some rules) fields texts i text tokens there h =
-      of_kept (leaves_with rules.stems language) rules fields texts i i text tokens there h
+      of_rules (leaves_with rules.stems language) rules fields texts i text tokens (keeps_all rules) refl there h
 
   pub added_under : (rules : Option WordRules) (job : Job) (doc : asked.Document) (handed : List FieldValue)
       (document : Document) → AreGiven doc.values (kept_lists rules job.fields doc.values) handed

@@ -121,7 +121,7 @@ fn fill_and_make<M: Make>(
 }
 
 /// What is made of a job's index, of which rules choose the words. Its texts are not copied, but
-/// into the index; with rules, each word is.
+/// into the index; where rules leave words out, each word is.
 pub fn job_made_by<M: Make>(
     alloc: Global,
     job: &Job<'_>,

@@ -6,7 +6,7 @@ ghost use Rattle.std.specs.Str.{chars};
 ghost use Rattle.elasticlunr.specs.Fields.{borrowed, has_name};
 ghost use Rattle.elasticlunr_text.specs.Text.{texts_of, word_texts};
 ghost use Rattle.elasticlunr_job.specs.Commands.{is_short, kept_words};
-ghost use Rattle.elasticlunr_job.specs.Given.{kept_lists, AreGiven, IsSourceOf};
+ghost use Rattle.elasticlunr_job.specs.Given.{AreGiven, IsSourceOf, chosen_lists, keeps_all, kept_lists};
 ghost use Rattle.elasticlunr_job_format.specs.Rules.{given_rules, rules_told, stems_by};
 
 use elasticlunr::lang::tokenize_whitespace;
@@ -59,7 +59,32 @@ pub fn stems_by(rules: &Option<WordRules<'_>>) -> bool
     }
 }
 
-/// The words that rules keep of each value; no list of words at all without rules.
+/// Whether rules keep all words of each value.
+fn keeps_all(rules: &WordRules<'_>) -> bool
+    ensures { result ≡ keeps_all (rules_told rules.now) }
+{
+    rules.longest.is_none() && rules.stored.is_empty()
+}
+
+/// The words that rules keep of each value.
+fn chosen_lists(
+    alloc: Global,
+    rules: &WordRules<'_>,
+    fields: &[&str],
+    values: &[&str],
+) -> Result<Vec<Vec<String>>, AllocError>
+    ensures { IfOk result (λ kept. map (λ words. texts_of words.items) kept.items
+        ≡ chosen_lists (rules_told rules.now) (borrowed fields.now) (borrowed values.now)) }
+{
+    let mut kept = Vec::with_capacity(alloc, values.len())?;
+    for (field, value) in fields.iter().zip(values) {
+        kept.push(kept_words(alloc, rules, *field, *value)?)?;
+    }
+    Ok(kept)
+}
+
+/// The words that rules keep of each value; no list of words at all without rules, nor where they
+/// keep all: then the index splits the texts itself.
 pub fn kept_lists(
     alloc: Global,
     rules: &Option<WordRules<'_>>,
@@ -72,11 +97,10 @@ pub fn kept_lists(
     let Some(rules) = rules else {
         return Ok(Vec::new(alloc));
     };
-    let mut kept = Vec::with_capacity(alloc, values.len())?;
-    for (field, value) in fields.iter().zip(values) {
-        kept.push(kept_words(alloc, rules, *field, *value)?)?;
+    if keeps_all(rules) {
+        return Ok(Vec::new(alloc));
     }
-    Ok(kept)
+    chosen_lists(alloc, rules, fields, values)
 }
 
 /// The words of all values, one after the other.

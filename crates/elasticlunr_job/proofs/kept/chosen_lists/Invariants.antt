@@ -4,7 +4,7 @@ use Rattle.elasticlunr.specs.Fields.{borrowed}
 use Rattle.elasticlunr_text.specs.Text.{texts_of}
 use Rattle.elasticlunr_job.specs.Commands.{kept_words}
 use Rattle.elasticlunr_job_format.specs.Rules.{rules_told}
-use Rattle.elasticlunr_job.proofs.kept.kept_lists.Given as goal
+use Rattle.elasticlunr_job.proofs.kept.chosen_lists.Given as goal
 
 -- the words of the values so far, and those of the pairs that are left
 abbrev pub invariant-loop-field : goal.invariant-loop-field

@@ -16,7 +16,7 @@ use std::mem;
 const FEWEST: usize = 1024;
 
 /// How many there are at most: a power of two.
-const MOST: usize = 65536;
+const MOST: usize = 131072;
 
 /// How many bytes a word has at most that is remembered.
 const LONGEST: usize = 64;
@@ -28,9 +28,9 @@ pub struct Entry {
     pub stem: String,
 }
 
-/// Words with their stems by one table. Each word has one slot, which its hash names, and takes the
-/// place of the word that stood there. So a look-up visits one slot, whatever the words are. Where
-/// half of the slots have a word, twice as many are made.
+/// Words with their stems by one table. Each word has two slots, the one that its hash names and the
+/// one beside it. So a look-up visits two slots, whatever the words are. Where a quarter of the
+/// slots have a word, twice as many are made.
 #[derive(Drop)]
 pub struct Cache {
     language: Language,
@@ -65,14 +65,26 @@ impl Cache {
         if !self.is_of(language, version) {
             return None;
         }
-        let entry = self.slots.get(slot_of(word, self.slots.len()))?.as_ref()?;
+        let place = slot_of(word, self.slots.len());
+        match self.stem_at(place, word) {
+            Some(stem) => Some(stem),
+            None => self.stem_at(place ^ 1, word),
+        }
+    }
+
+    /// The stem of a word, if it stands in the slot of this number.
+    fn stem_at(&self, place: usize, word: &str) -> Option<&str>
+        ensures { IfSome result (λ stem. IsStem self.now.language self.now.version (chars word.now)
+            (chars stem.now)) }
+    {
+        let entry = self.slots.get(place)?.as_ref()?;
         if entry.word.as_str() != word {
             return None;
         }
         Some(entry.stem.as_str())
     }
 
-    /// Remembers a stem by the table of a language, in place of what stands in the slot of its word.
+    /// Remembers a stem by the table of a language. Another word may be forgotten for it.
     pub fn put(
         &mut self,
         alloc: Global,
@@ -91,13 +103,13 @@ impl Cache {
         Ok(())
     }
 
-    /// Makes twice as many slots where half of them have a word, up to a limit.
+    /// Makes twice as many slots where a quarter of them have a word, up to a limit.
     fn make_room(&mut self, alloc: Global) -> Result<(), AllocError>
         ensures language { self.new.language ≡ self.old.language }
         ensures version { self.new.version ≡ self.old.version }
     {
         let count = self.slots.len();
-        if self.filled < count / 2 || count >= MOST {
+        if self.filled < count / 4 || count >= MOST {
             return Ok(());
         }
         let more = free_slots(alloc, count.saturating_mul(2).max(FEWEST))?;
@@ -136,7 +148,8 @@ fn moved(slots: Vec<Option<Entry>>, others: Vec<Option<Entry>>) -> Vec<Option<En
     others
 }
 
-/// Puts a word with its stem in its slot. Whether nothing stood there.
+/// Puts a word with its stem in its slot. What stood there stands in the slot beside it then, and
+/// what stood in that one is forgotten. Whether one more slot has a word.
 fn put_entry(slots: &mut Vec<Option<Entry>>, entry: Entry) -> bool
     ensures { (language : Language) (version : Version)
         → All (IsRight language version) slots.old.items
@@ -144,12 +157,26 @@ fn put_entry(slots: &mut Vec<Option<Entry>>, entry: Entry) -> bool
         → All (IsRight language version) slots.new.items }
 {
     let place = slot_of(entry.word.as_str(), slots.len());
-    let Some(slot) = slots.get_mut(place) else {
-        return false;
-    };
-    let was_free = slot.is_none();
-    *slot = Some(entry);
-    was_free
+    let older = put_at(slots, place, Some(entry));
+    if older.is_none() {
+        return true;
+    }
+    put_at(slots, place ^ 1, older).is_none()
+}
+
+/// Puts something in the slot of this number, if there is one: what stood in it.
+fn put_at(slots: &mut Vec<Option<Entry>>, place: usize, entry: Option<Entry>) -> Option<Entry>
+    ensures new { (language : Language) (version : Version)
+        → All (IsRight language version) slots.old.items → IsRight language version entry
+        → All (IsRight language version) slots.new.items }
+    ensures result { (language : Language) (version : Version)
+        → All (IsRight language version) slots.old.items → IsRight language version entry
+        → IsRight language version result }
+{
+    match slots.get_mut(place) {
+        Some(slot) => mem::replace(slot, entry),
+        None => entry,
+    }
 }
 
 /// The number of the slot of a word among so many, a power of two.

@@ -42,11 +42,10 @@ counts_noted plan commands counts documents tokens is are (tables, kept, holds, 
 -- the warnings of the documents without a token, which were added to those before them
 pub wordless_noted : (plan : Plan) (commands : Commands) (counts : Counts) (earlier warnings : List Bytes)
     → WarnOfWordless (bytes_of counts.without_token.items) earlier warnings → AreCounts plan commands counts
-    → EndWithWordless plan commands warnings
+    → EndWithWordless plan commands earlier warnings
 wordless_noted plan commands counts earlier warnings warn (tables, kept, holds, count, are) = (
   tables,
   kept,
   holds,
-  earlier,
   subst (λ references. WarnOfWordless references earlier warnings) are warn,
 )

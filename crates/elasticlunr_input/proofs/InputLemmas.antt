@@ -30,6 +30,30 @@ pub err_unless : {T : Type 0} (r : Result T InputError) (C : Type 0) (P : InputE
 err_unless (Ok x) C P never = tt
 err_unless (Err e) C P never = λ is. absurd (never is)
 
+-- what is so of the text of an input in its form
+module _ (asked : Option Form) (P : Form → Bytes → Type 0) where
+  pub lines_as : (left now : Option Bytes) (head : Bytes) (last : LastLine) → HasHead left now head last
+      → asked_or_told asked head ≡ Lines
+      → IfSome now (λ rest. IsHeadOf head rest last.text.items last.before → P Lines (head ++ rest))
+      → IfSome left (λ text. P (asked_or_told asked text) text)
+  lines_as None now head last has told is = tt
+  lines_as (Some text) None head last has told is = absurd has
+  lines_as (Some text) (Some rest) head last has told is =
+      subst (λ t. P (asked_or_told asked t) t) (sym has.0)
+      (subst (λ f. P f (head ++ rest))
+      (sym (told_head head rest last.text.items last.before has.1 asked ∙ told)) (is has.1))
+
+  -- the other forms, whose text is all read
+  pub whole_as : (form : Form) (left now : Option Bytes) (head all : Bytes) (last : LastLine)
+      → HasHead left now head last → asked_or_told asked head ≡ form → IfSome now (λ rest. all ≡ head ++ rest)
+      → P form all → IfSome left (λ text. P (asked_or_told asked text) text)
+  whole_as form None now head all last has told whole is = tt
+  whole_as form (Some text) None head all last has told whole is = absurd has
+  whole_as form (Some text) (Some rest) head all last has told whole is =
+      subst (λ t. P (asked_or_told asked t) t) (sym has.0)
+      (subst (λ f. P f (head ++ rest))
+      (sym (told_head head rest last.text.items last.before has.1 asked ∙ told)) (subst (P form) whole is))
+
 module _ (asked : Option Form) (settings : Settings) where
   -- nothing was read that could be refused
   pub not_read : (left : Option Bytes) (e : InputError) → IsMemoryOrDevice e
@@ -45,12 +69,8 @@ module _ (asked : Option Form) (settings : Settings) where
       → asked_or_told asked head ≡ Lines
       → IfSome now (λ rest. IsHeadOf head rest last.text.items last.before
       → IsLinesMadeWith settings (head ++ rest) Is) → IfSome left (λ text. IsMadeFrom asked settings text Is)
-  lines_ok None now head Is last has told is = tt
-  lines_ok (Some text) None head Is last has told is = absurd has
-  lines_ok (Some text) (Some rest) head Is last has told is =
-      subst (λ t. IsMadeFrom asked settings t Is) (sym has.0)
-      (subst (λ f. IsMadeAs f settings (head ++ rest) Is)
-      (sym (told_head head rest last.text.items last.before has.1 asked ∙ told)) (is has.1))
+  lines_ok left now head Is last has told is =
+      lines_as asked (λ form text. IsMadeAs form settings text Is) left now head last has told is
 
   as_input : (text : Bytes) (e : InputError) → AreRefusedFrom settings text e → IsRefusedFrom Lines settings text e
   as_input text Memory is = tt
@@ -81,13 +101,8 @@ module _ (asked : Option Form) (settings : Settings) where
   pub whole_ok : (form : Form) (left now : Option Bytes) (head all : Bytes) (Is : OfIndex) (last : LastLine)
       → HasHead left now head last → asked_or_told asked head ≡ form → IfSome now (λ rest. all ≡ head ++ rest)
       → IsMadeAs form settings all Is → IfSome left (λ text. IsMadeFrom asked settings text Is)
-  whole_ok form None now head all Is last has told whole is = tt
-  whole_ok form (Some text) None head all Is last has told whole is = absurd has
-  whole_ok form (Some text) (Some rest) head all Is last has told whole is =
-      subst (λ t. IsMadeFrom asked settings t Is) (sym has.0)
-      (subst (λ f. IsMadeAs f settings (head ++ rest) Is)
-      (sym (told_head head rest last.text.items last.before has.1 asked ∙ told))
-      (subst (λ t. IsMadeAs form settings t Is) whole is))
+  whole_ok form left now head all Is last has told whole is =
+      whole_as asked (λ kind text. IsMadeAs kind settings text Is) form left now head all last has told whole is
 
   refused_whole : (form : Form) (text : Bytes) (e : InputError) → IsReadOf form text text
       → IsRefusedInput form settings text e → IfPlaced (IsInputPlace form settings text) e

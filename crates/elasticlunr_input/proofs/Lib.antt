@@ -16,3 +16,4 @@ pub mod Noting
 pub mod NotingAll
 pub mod Tellings
 pub mod SeenNotes
+pub mod NotedLines

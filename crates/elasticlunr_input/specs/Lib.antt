@@ -15,3 +15,4 @@ pub mod Mark
 pub mod Warnings
 pub mod Noted
 pub mod NotedAll
+pub mod NotedFrom

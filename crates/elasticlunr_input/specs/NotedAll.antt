@@ -9,7 +9,7 @@ use Rattle.elasticlunr_job_format.specs.Lines.{AreLineValues}
 use Rattle.elasticlunr_job_format.specs.Objects.{Options, IsDocumentOf}
 use Rattle.elasticlunr_job_format.specs.Rules.{WordRules}
 use Rattle.elasticlunr_input.specs.Noted.{document_warnings, has_value, HasSameLimits, HasSameSeen}
-use Rattle.elasticlunr_input.specs.Noted.{HasSameWords, longest_under, stored_under}
+use Rattle.elasticlunr_input.specs.Noted.{HasSameWords, is_expected, longest_under, stored_under}
 use Rattle.elasticlunr_input.specs.Noted.{texts_keys, too_long_of}
 use Rattle.elasticlunr_input.specs.Settled.{Settings, settled}
 use Rattle.elasticlunr_input.specs.Warnings.{fields_warnings, has_text}
@@ -40,6 +40,11 @@ pub record HasRules (rules : Option WordRules) (fields : List Bytes) (old new : 
   pub longest : new.longest ≡ longest_under rules old.longest
   pub stored : new.is_stored.items ≡ old.is_stored.items ++ stored_under rules fields
   pub seen : HasSameSeen old new
+
+-- the notes when it is known how objects are read: also for which keys no warning is due
+pub record HasBegun (settings : Settings) (options : Options) (old new : Notes) : Type 0 where
+  pub rules : HasRules settings.rules options.fields old new
+  pub known : (key : Bytes) → is_known new key ≡ is_expected settings options key
 
 -- the notes after one document more
 pub record IsNoted (old new : Notes) (told : Told) : Type 0 where
@@ -102,6 +107,12 @@ AreNotedWith fields told old new = (last : Notes) × AreNoted old last told
 abbrev pub AreNotedLines : Options → Bytes → (old new : Notes) → Type 0
 AreNotedLines options text old new = (items : List Data) × AreLineValues text items
     × (told : List Told) × AreToldOf options items told × AreNotedWith options.fields told old new
+
+-- the notes after the documents that objects are, in order, and then after the fields
+abbrev pub AreNotedObjects : Settings → Options → List Data → (old new : Notes) → Type 0
+AreNotedObjects settings options items old new = (begun : Notes)
+    × HasBegun settings options old begun × (told : List Told) × AreToldOf options items told
+    × AreNotedWith options.fields told begun new
 
 -- the notes after the documents of a job, in order, and then after its fields, under these rules
 abbrev pub AreNotedUnder : Option WordRules → Job → (old new : Notes) → Type 0

@@ -134,9 +134,9 @@ WarnOfWordless references earlier warnings = (told : List (ℕ × Bytes))
     × (warnings ≡ earlier ++ map wordless_text told)
     × IsPermutation references (map (λ each. each.1) told)
 
--- the last warnings are those of the documents without a token of an index of this plan that
+-- after earlier warnings come those of the documents without a token of an index of this plan that
 -- represents these commands
-abbrev pub EndWithWordless : Plan → Commands → List Bytes → Type 0
-EndWithWordless plan commands warnings = (tables : List Table) × (kept : Contents)
+abbrev pub EndWithWordless : Plan → Commands → (earlier warnings : List Bytes) → Type 0
+EndWithWordless plan commands earlier warnings = (tables : List Table) × (kept : Contents)
     × Holds plan commands tables kept
-    × (earlier : List Bytes) × WarnOfWordless (without_token plan.fields kept) earlier warnings
+    × WarnOfWordless (without_token plan.fields kept) earlier warnings

@@ -1,6 +1,6 @@
 //! The index of an input, of each form.
-ghost use Rattle.std.specs.Prelude.{◌≡◌, ◌++◌, true, map, string_bytes, unwrap_or, IfOk, IfErr};
-ghost use Rattle.std.specs.Prelude.{IfSome, OnOk};
+ghost use Rattle.std.specs.Prelude.{◌≡◌, ◌++◌, List, true, map, string_bytes, unwrap_or, IfOk};
+ghost use Rattle.std.specs.Prelude.{IfErr, IfSome, OnOk};
 ghost use Rattle.elasticlunr_job_format.specs.ObjectsTold.{options_told, texts_told};
 ghost use Rattle.elasticlunr_input.specs.Asked.{AreMadeWith, options_of};
 ghost use Rattle.elasticlunr_input.specs.Counts.{HasCounts, token_count};
@@ -12,6 +12,8 @@ ghost use Rattle.elasticlunr_input.specs.Indexes.{IsRefusedInput};
 ghost use Rattle.elasticlunr_input.specs.Inputs.{IsHeadOf};
 ghost use Rattle.elasticlunr_input.specs.Lines.{IsLinesMadeWith};
 ghost use Rattle.elasticlunr_input.specs.Mark.{without_mark};
+ghost use Rattle.elasticlunr_input.specs.NotedAll.{AreNotedObjects};
+ghost use Rattle.elasticlunr_input.specs.NotedFrom.{IsNotedAs, WarnOfInput};
 ghost use Rattle.elasticlunr_input.specs.Refused.{IsRefusedObjects};
 ghost use Rattle.elasticlunr_diagnostics.specs.Messages.{IfPlaced};
 ghost use Rattle.elasticlunr_input.specs.RefusedPlaces.{IsInputPlace};
@@ -59,9 +61,11 @@ pub fn made_from<R: MarkedRead, M: Make>(
     ensures counts { OnOk result (IfSome (R.remaining reader.old) (λ text.
         IsMadeFrom asked (settings_told settings.now) (without_mark text)
         (λ _ plan commands. HasCounts plan commands notes.new.documents (token_count notes.new)))) }
-    ensures warnings { OnOk result (IfSome (R.remaining reader.old) (λ text.
-        IsMadeFrom asked (settings_told settings.now) (without_mark text)
-        (λ _ plan commands. EndWithWordless plan commands (warnings_of notes.new)))) }
+    ensures warnings { OnOk result (IfSome (R.remaining reader.old) (λ text. (earlier : List Bytes)
+        × WarnOfInput (asked_or_told asked (without_mark text)) (settings_told settings.now)
+        (without_mark text) notes.old earlier
+        × IsMadeFrom asked (settings_told settings.now) (without_mark text)
+        (λ _ plan commands. EndWithWordless plan commands earlier (warnings_of notes.new)))) }
     ensures err { IfErr result (λ e. IfSome (R.remaining reader.old) (λ text.
         IsRefusedFrom (asked_or_told asked (without_mark text)) (settings_told settings.now) (without_mark text) e)) }
     ensures device { IfErr result (IfDevice (R.has_failed reader.new ≡ true)) }
@@ -90,9 +94,11 @@ pub fn index_from<R: MarkedRead>(
     ensures counts { OnOk result (IfSome (R.remaining reader.old) (λ text.
         IsMadeFrom asked (settings_told settings.now) (without_mark text)
         (λ _ plan commands. HasCounts plan commands notes.new.documents (token_count notes.new)))) }
-    ensures warnings { OnOk result (IfSome (R.remaining reader.old) (λ text.
-        IsMadeFrom asked (settings_told settings.now) (without_mark text)
-        (λ _ plan commands. EndWithWordless plan commands (warnings_of notes.new)))) }
+    ensures warnings { OnOk result (IfSome (R.remaining reader.old) (λ text. (earlier : List Bytes)
+        × WarnOfInput (asked_or_told asked (without_mark text)) (settings_told settings.now)
+        (without_mark text) notes.old earlier
+        × IsMadeFrom asked (settings_told settings.now) (without_mark text)
+        (λ _ plan commands. EndWithWordless plan commands earlier (warnings_of notes.new)))) }
     ensures err { IfErr result (λ e. IfSome (R.remaining reader.old) (λ text.
         IsRefusedFrom (asked_or_told asked (without_mark text)) (settings_told settings.now) (without_mark text) e)) }
     ensures device { IfErr result (IfDevice (R.has_failed reader.new ≡ true)) }
@@ -132,6 +138,9 @@ fn made_of_input<R: MarkedRead, M: Make>(
 ) -> Result<M::Made, InputError>
     ensures ok { IfOk result (λ made. IfSome (R.remaining reader.old) (λ text.
         IsMadeFrom asked (settings_told settings.now) (without_mark text) (M.makes maker.now made))) }
+    ensures noted { OnOk result (IfSome (R.remaining reader.old) (λ text.
+        IsNotedAs (asked_or_told asked (without_mark text)) (settings_told settings.now)
+        (without_mark text) notes.old notes.new)) }
     ensures err { IfErr result (λ e. IfSome (R.remaining reader.old) (λ text.
         IsRefusedFrom (asked_or_told asked (without_mark text)) (settings_told settings.now) (without_mark text) e)) }
 {
@@ -151,6 +160,8 @@ fn made_unmarked<R: MarkedRead, M: Make>(
 ) -> Result<M::Made, InputError>
     ensures ok { IfOk result (λ made. IfSome (R.remaining reader.old) (λ text.
         IsMadeFrom asked (settings_told settings.now) text (M.makes maker.now made))) }
+    ensures noted { OnOk result (IfSome (R.remaining reader.old) (λ text.
+        IsNotedAs (asked_or_told asked text) (settings_told settings.now) text notes.old notes.new)) }
     ensures err { IfErr result (λ e. IfSome (R.remaining reader.old) (λ text.
         IsRefusedFrom (asked_or_told asked text) (settings_told settings.now) text e)) }
 {
@@ -181,6 +192,8 @@ fn made_of_job<M: Make>(
 ) -> Result<M::Made, InputError>
     ensures ok { IfOk result (λ made.
         IsMadeAs form.Job (settings_told settings.now) text.now (M.makes maker.now made)) }
+    ensures noted { OnOk result (IsNotedAs form.Job (settings_told settings.now) text.now
+        notes.old notes.new) }
     ensures err { IfErr result (IsRefusedInput form.Job (settings_told settings.now) text.now) }
     ensures place { IfErr result (IfPlaced (IsInputPlace form.Job (settings_told settings.now)
         text.now)) }
@@ -209,6 +222,8 @@ fn made_of_array<M: Make>(
 ) -> Result<M::Made, InputError>
     ensures ok { IfOk result (λ made.
         IsMadeAs form.Objects (settings_told settings.now) text.now (M.makes maker.now made)) }
+    ensures noted { OnOk result (IsNotedAs form.Objects (settings_told settings.now) text.now
+        notes.old notes.new) }
     ensures err { IfErr result (IsRefusedInput form.Objects (settings_told settings.now) text.now) }
     ensures place { IfErr result (IfPlaced (IsInputPlace form.Objects (settings_told settings.now)
         text.now)) }
@@ -236,6 +251,9 @@ fn made_of_lines<R: MarkedRead, M: Make>(
     ensures ok { IfOk result (λ made. IfSome (R.remaining reader.old) (λ rest.
         IsHeadOf head.now rest last.old.text.items last.old.before
         → IsLinesMadeWith (settings_told settings.now) (head.now ++ rest) (M.makes maker.now made))) }
+    ensures noted { OnOk result (IfSome (R.remaining reader.old) (λ rest.
+        IsHeadOf head.now rest last.old.text.items last.old.before
+        → IsNotedAs form.Lines (settings_told settings.now) (head.now ++ rest) notes.old notes.new)) }
     ensures err { IfErr result (λ e. IfSome (R.remaining reader.old) (λ rest.
         IsHeadOf head.now rest last.old.text.items last.old.before
         → AreRefusedFrom (settings_told settings.now) (head.now ++ rest) e)) }
@@ -260,6 +278,9 @@ fn made_of_objects<M: Make>(
 ) -> Result<M::Made, InputError>
     ensures ok { IfOk result (λ made.
         AreMadeWith (settings_told settings.now) (map view items.now) (M.makes maker.now made)) }
+    ensures noted { OnOk result (AreNotedObjects (settings_told settings.now)
+        (options_of (settings_told settings.now) (map view items.now)) (map view items.now)
+        notes.old notes.new) }
     ensures err { IfErr result (IsRefusedObjects
         (options_of (settings_told settings.now) (map view items.now)) (map view items.now)) }
     ensures place { IfErr result (IfPlaced (IsPlaceInObjects text.now

@@ -2,6 +2,7 @@ use Rattle.std.proofs.Common.{Option, None, Some, IfSome}
 use Rattle.elasticlunr_diagnostics.specs.Forms.{asked_or_told}
 use Rattle.elasticlunr_input.specs.Mark.{without_mark}
 use Rattle.elasticlunr_input.specs.Settled.{settings_told}
+use Rattle.elasticlunr_input.specs.Warnings.{warnings_of}
 use Rattle.elasticlunr_input.proofs.Counting.{counts_noted, wordless_noted}
 use Rattle.elasticlunr_input.proofs.MadeMore.{if_made}
 use Rattle.elasticlunr_input.proofs.index.made_from.Goals as goal
@@ -9,6 +10,11 @@ use Rattle.elasticlunr_input.proofs.index.made_from.Goals as goal
 some_more : {X : Type 0} (o : Option X) (P Q : X → Type 0) → ((x : X) → P x → Q x) → IfSome o P → IfSome o Q
 some_more None P Q more is = tt
 some_more (Some x) P Q more is = more x is
+
+some_both : {X : Type 0} (o : Option X) (P Q R : X → Type 0) → ((x : X) → P x → Q x → R x) → IfSome o P → IfSome o Q
+    → IfSome o R
+some_both None P Q R more is also = tt
+some_both (Some x) P Q R more is also = more x is also
 
 pub returns-in-Err-clause-err : goal.returns-in-Err-clause-err
 returns-in-Err-clause-err g c = some_more (g.R.Read.remaining c.args.reader.now) _ _
@@ -29,7 +35,11 @@ returns-in_ok-count-in-Ok-clause-counts g c =
 
 pub returns-in_ok-count-in-Ok-clause-warnings : goal.returns-in_ok-count-in-Ok-clause-warnings
 returns-in_ok-count-in-Ok-clause-warnings g c =
-    if_made _ _ (λ pretty plan commands both. wordless_noted plan commands c.in-Ok.counts _ _
+    let left = g.R.Read.remaining c.args.reader.now in
+    let earlier = warnings_of c.long_words.new.self in
+    let made = if_made _ _ (λ pretty plan commands both. wordless_noted plan commands c.in-Ok.counts earlier _
     c.in_ok-count-in-Ok.ensures.warnings both.1)
-    (g.R.Read.remaining c.args.reader.now) (asked_or_told c.args.asked) (settings_told c.args.settings.now) without_mark
-    c.in-Ok.ensures.ok
+    left (asked_or_told c.args.asked) (settings_told c.args.settings.now) without_mark c.in-Ok.ensures.ok in
+    some_both left _ _ _
+    (λ text noted is. (earlier, (c.made_of_input.new.notes, noted, c.in_ok-long_words-in-Ok.ensures), is))
+    c.in-Ok.ensures.noted made

@@ -12,6 +12,7 @@ use Rattle.elasticlunr_diagnostics.specs.declared.form.Form.TheVariants as form
 use Rattle.elasticlunr_input.proofs.LinePlaces.{placed_as, some_for}
 use Rattle.elasticlunr_input.proofs.Refusals.{refused_for}
 use Rattle.elasticlunr_input.proofs.InputLemmas.{err_unless}
+use Rattle.elasticlunr_input.proofs.NotingAll.{on_more}
 use Rattle.std.proofs.Common.{rules}
 use Rattle.elasticlunr_input.proofs.index.made_of_array.Goals as goal
 
@@ -59,3 +60,10 @@ returns-in_default-clause-placed g c = λ none. (cc (c.in_ok-value.ensures.ok))
 
 pub returns-clause-ok : goal.returns-clause-ok
 returns-clause-ok g c = search rules
+
+pub returns-clause-noted : goal.returns-clause-noted
+returns-clause-noted g c =
+    let items = map view c.deref.result.now in
+    let are = sym c.in-Some.ensures ∙ ap (λ vs. Some (items_of (map view vs))) (sym c.deref.ensures.value) in
+    on_more c.made_of_objects.result c.made_of_objects.ensures.noted
+    (λ noted. (view c.in_ok-value.value, c.in_ok-value.ensures.ok, items, are, noted))

@@ -6,8 +6,10 @@ use Rattle.elasticlunr_input.specs.Indexes.{IsMadeFrom}
 use Rattle.elasticlunr_input.specs.Mark.{without_mark}
 use Rattle.elasticlunr_input.specs.RefusedRead.{IsRefusedFrom}
 use Rattle.elasticlunr_input.specs.Settled.{settings_told}
+use Rattle.elasticlunr_input.specs.NotedFrom.{IsNotedAs}
 use Rattle.elasticlunr_input.proofs.HeadLemmas.{exit_at}
 use Rattle.elasticlunr_input.proofs.MarkLemmas.{of_whole, start_not_read}
+use Rattle.elasticlunr_input.proofs.NotingAll.{on_more}
 use Rattle.elasticlunr_input.proofs.index.made_of_input.Goals as goal
 
 pub returns-in_err-start-clause-err : goal.returns-in_err-start-clause-err
@@ -41,3 +43,16 @@ returns-clause-err g c =
     c.in_ok-start.ensures.whole
     (subst (λ bytes. IfSome bytes (λ text. IsRefusedFrom (asked_or_told c.args.asked text) settings text e)) known is))
     c.made_unmarked.ensures.err
+
+pub returns-clause-noted : goal.returns-clause-noted
+returns-clause-noted g c =
+    let left = g.R.Read.remaining in
+    let settings = settings_told c.args.settings.now in
+    let known = c.chain-all.ensures.bytes ∙ ap (λ bs. option_append (Some bs) (left c.read_start.new.reader))
+    (c.without_mark.ensures ∙ ap without_mark c.deref.ensures.value) in
+    on_more c.made_unmarked.result c.made_unmarked.ensures.noted
+    (λ is. of_whole (λ text. IsNotedAs (asked_or_told c.args.asked text) settings text c.args.notes.now c.made_unmarked.new.notes)
+    (left c.args.reader.now) (left c.read_start.new.reader) c.in_ok-start.start.items c.in_ok-start.ensures.taken
+    c.in_ok-start.ensures.whole
+    (subst (λ bytes. IfSome bytes (λ text. IsNotedAs (asked_or_told c.args.asked text) settings text c.args.notes.now
+    c.made_unmarked.new.notes)) known is))

@@ -5,6 +5,7 @@ use Rattle.elasticlunr_job_format.specs.Objects as spec
 use Rattle.elasticlunr_job_format.specs.ObjectsTold.{options_told}
 use Rattle.elasticlunr_input.specs.Asked.{options_of}
 use Rattle.elasticlunr_input.specs.FaultPlaces.{IsPlaceInObjects}
+use Rattle.elasticlunr_input.specs.NotedAll.{AreNotedObjects, HasBegun}
 use Rattle.elasticlunr_input.specs.Refused.{FailObjects}
 use Rattle.elasticlunr_input.specs.Settled.{settings_told}
 use Rattle.elasticlunr_input.proofs.LinePlaces.{placed_again}
@@ -33,3 +34,22 @@ returns-in_err-made-clause-place g c =
     c.from_residual-in_err-made.result
     (λ place is. subst (λ (o : spec.Options). place_in o place) (c.in_ok-options.ensures (c.as_str.ensures.value ∙ c.in_ok-reference.ensures)) is)
     c.from_residual-in_err-made.ensures.1 c.in_err-made.ensures.place
+
+pub returns-clause-noted : goal.returns-clause-noted
+returns-clause-noted g c =
+    let options = options_told c.in_ok-options.options in
+    let settings = settings_told c.args.settings.now in
+    let items = map view c.args.items.now in
+    let old = c.args.notes.now in
+    let begun : HasBegun settings options old c.begin.new.self = record {
+      rules = record {
+        longest = c.in_ok-begin.ensures.longest;
+        stored = c.in_ok-begin.ensures.stored;
+        seen = c.begin.ensures.seen;
+      };
+      known = c.in_ok-begin.ensures.known;
+    } in
+    let docs = c.in_ok-made.ensures.ok in
+    subst (λ (o : spec.Options). AreNotedObjects settings o items old c.note_objects.new.notes)
+    (c.in_ok-options.ensures (c.as_str.ensures.value ∙ c.in_ok-reference.ensures))
+    (c.begin.new.self, begun, c.in_ok-note_objects.ensures docs.0 docs.1)

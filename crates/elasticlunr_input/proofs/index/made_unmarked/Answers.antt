@@ -8,7 +8,9 @@ use Rattle.elasticlunr_input.specs.RefusedPlaces.{IsInputPlace}
 use Rattle.elasticlunr_input.specs.Settled.{settings_told}
 use Rattle.elasticlunr_diagnostics.specs.declared.form.Form.TheVariants.{Job, Objects}
 use Rattle.elasticlunr_input.proofs.HeadLemmas.{exit_at}
-use Rattle.elasticlunr_input.proofs.InputLemmas.{err_three, lines_err, lines_ok, not_read, whole_err, whole_ok}
+use Rattle.elasticlunr_input.specs.NotedFrom.{IsNotedAs}
+use Rattle.elasticlunr_input.proofs.InputLemmas.{err_three, lines_as, lines_err, lines_ok, not_read, whole_as, whole_err, whole_ok}
+use Rattle.elasticlunr_input.proofs.NotingAll.{on_more}
 use Rattle.elasticlunr_input.proofs.index.made_unmarked.Goals as goal
 
 pub returns-in_err-text-clause-err : goal.returns-in_err-text-clause-err
@@ -104,3 +106,46 @@ returns-in_ok-read_to_end-in-Objects-clause-err g c =
     (λ e is there placed. whole_err c.args.asked settings Objects (left c.args.reader.now) (left c.read_head.new.reader)
     head all c.read_head.new.last e c.in_ok-text.ensures.ok told whole refl is there placed)
     c.made_of_array.ensures.err c.made_of_array.ensures.place c.made_of_array.ensures.placed
+
+pub returns-in-Lines-clause-noted : goal.returns-in-Lines-clause-noted
+returns-in-Lines-clause-noted g c =
+    let left = g.R.Read.remaining in
+    let head = c.deref-in-Lines.result.now in
+    let settings = settings_told c.args.settings.now in
+    let has = subst (λ h. HasHead (left c.args.reader.now) (left c.read_head.new.reader) h c.read_head.new.last)
+    (sym c.deref-in-Lines.ensures.value) c.in_ok-text.ensures.ok in
+    let told = ap (asked_or_told c.args.asked) (c.deref-in-Lines.ensures.value ∙ sym c.deref.ensures.value)
+    ∙ (sym c.in_ok-asked_or_told.ensures ∙ c.in-Lines.is) in
+    on_more c.made_of_lines.result c.made_of_lines.ensures.noted
+    (lines_as c.args.asked (λ form text. IsNotedAs form settings text c.args.notes.now c.made_of_lines.new.notes)
+    (left c.args.reader.now) (left c.read_head.new.reader) head c.read_head.new.last has told)
+
+pub returns-in_ok-read_to_end-in-Job-clause-noted : goal.returns-in_ok-read_to_end-in-Job-clause-noted
+returns-in_ok-read_to_end-in-Job-clause-noted g c =
+    let left = g.R.Read.remaining in
+    let head = c.in_ok-text.text.items in
+    let all = c.deref-in-Job.result.now in
+    let settings = settings_told c.args.settings.now in
+    let told = ap (asked_or_told c.args.asked) (sym c.deref.ensures.value)
+    ∙ (sym c.in_ok-asked_or_told.ensures ∙ c.in-Job.is) in
+    let whole = subst (λ bytes. IfSome (left c.read_head.new.reader) (λ rest. bytes ≡ head ++ rest))
+    (sym c.deref-in-Job.ensures.value) c.in_ok-read_to_end-in-Job.ensures.bytes in
+    on_more c.made_of_job.result c.made_of_job.ensures.noted
+    (whole_as c.args.asked (λ form text. IsNotedAs form settings text c.args.notes.now c.made_of_job.new.notes) Job
+    (left c.args.reader.now) (left c.read_head.new.reader) head all c.read_head.new.last c.in_ok-text.ensures.ok told
+    whole)
+
+pub returns-in_ok-read_to_end-in-Objects-clause-noted : goal.returns-in_ok-read_to_end-in-Objects-clause-noted
+returns-in_ok-read_to_end-in-Objects-clause-noted g c =
+    let left = g.R.Read.remaining in
+    let head = c.in_ok-text.text.items in
+    let all = c.deref-in-Objects.result.now in
+    let settings = settings_told c.args.settings.now in
+    let told = ap (asked_or_told c.args.asked) (sym c.deref.ensures.value)
+    ∙ (sym c.in_ok-asked_or_told.ensures ∙ c.in-Objects.is) in
+    let whole = subst (λ bytes. IfSome (left c.read_head.new.reader) (λ rest. bytes ≡ head ++ rest))
+    (sym c.deref-in-Objects.ensures.value) c.in_ok-read_to_end-in-Objects.ensures.bytes in
+    on_more c.made_of_array.result c.made_of_array.ensures.noted
+    (whole_as c.args.asked (λ form text. IsNotedAs form settings text c.args.notes.now c.made_of_array.new.notes) Objects
+    (left c.args.reader.now) (left c.read_head.new.reader) head all c.read_head.new.last c.in_ok-text.ensures.ok told
+    whole)

@@ -135,6 +135,7 @@ CHANGES = {  # whose program is run, what is changed of its run, and how
     "finds one reference less": (FIND, CHANGES_ANSWER, 'out = out[: out[:-1].rfind(b"\\n") + 1]'),
     "takes too many steps for the text": (FIND, CHANGES_ANSWER, STEPS % 65_000),
     "takes too many steps for the words": (COMMAND, CHANGES_ANSWER, STEPS % 15_000),
+    "takes long for stems": (COMMAND, CHANGES_ANSWER, 'for step in range(20_000_000 * ("--stems" in sys.argv)): pass'),
     "may take more steps": (FIND, CHANGES_INPUT, 'given = given.replace(b\'"fields"\', b" " * 200_000 + b\'"fields"\', 1)'),
     "reads no index at any depth": (FIND, CHANGES_INPUT, 'given = given.replace(b"{", b\'{"x":0,\', 1)'),
     "ranks in the order of references": (COMMAND, CHANGES_ANSWER, 'out = b"".join(sorted(out.splitlines(True)))'),
@@ -270,6 +271,11 @@ def forged_orders():
         ("takes too many steps for the words", "one document", r"million instructions, .*: 2\.6 times are the most"),
     ]:
         yield Forgery(name, "one_hash", f"^one hash, {case}: .*{said}", name, (case,), COMMAND)
+    for name, said in [
+        ("takes long for stems", r"million instructions, .*: 1\.5 times are the most"),
+        ("a command that stems no word", r"1000 pages of 1000, stages \[\]"),
+    ]:
+        yield Forgery(name, "remembered", f"^remembered, 1000 words: .*{said}", name, (), COMMAND)
 
 
 def forged_stems(folder):

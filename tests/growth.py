@@ -49,7 +49,7 @@ class Runs:
             return sum(int(count.split()[0]) for _, count in texts) if is_counted else 0
 
 
-def growth(short, long, count):
+def growth(short, long, count, most=TIMES):
     """Runs both so often. Gives what is wrong with an answer, how many times as long the longer one took, and what that was
     read off."""
     for _ in range(count):
@@ -58,7 +58,7 @@ def growth(short, long, count):
             break
     times = long.seconds / max(short.seconds, 0.001)
     of_what = f"{short.seconds:.2f} and {long.seconds:.2f} s"
-    if not wrong and times > TIMES and long.seconds < LONGEST and shutil.which(COUNTING[0]):
+    if not wrong and times > most and long.seconds < LONGEST and shutil.which(COUNTING[0]):
         fewer, more = short.instructions(), long.instructions()
         if fewer and more:
             times, of_what = more / fewer, f"{of_what}, {fewer / 1e6:.0f} and {more / 1e6:.0f} million instructions"
@@ -67,11 +67,11 @@ def growth(short, long, count):
     return wrong, times, of_what
 
 
-def check_growth(said, grown, more, results):
+def check_growth(said, grown, more, results, most=TIMES):
     """Notes whether the answers are right, and the longer run didn't take too long. What passes is printed."""
     wrong, times, of_what = grown
     line = f"{said}: {of_what}, {times:.1f} times{more}"
-    is_good = not wrong and times <= TIMES
-    results.note(is_good, f"{line}: {wrong or f'{TIMES} times are the most'}")
+    is_good = not wrong and times <= most
+    results.note(is_good, f"{line}: {wrong or f'{most} times are the most'}")
     if is_good:
         print(line, flush=True)

@@ -4,9 +4,9 @@ many words may take TIMES as long.
 
 usage: one_hash.py [WORD ..]
 
-Each word is the reference and the text of a document; in the last case all words are the text of one document. Each build
-has RUNS runs, and one more where they take too long (tests/growth.py). With words, only the cases are tried that have one of
-them in their names.
+Each word is the reference and the text of a document; in one case all words are the text of one document, and in another
+one they are stemmed by a table, and the stemmer remembers words. Each build has RUNS runs, and one more where they take too
+long (tests/growth.py). With words, only the cases are tried that have one of them in their names.
 """
 import json
 import os
@@ -24,6 +24,7 @@ from tools.repository import TOP, program, read, run, write
 COMMAND = program("elasticlunr_cli")
 SIZES = 1 << 14, 1 << 15
 RUNS = 2
+OPTIONS = {"with stems": ("--lang", "Danish", "--stems")}
 PATIENCE = 300  # seconds for the words
 
 
@@ -45,7 +46,8 @@ class Build(Runs):
         in_pieces = ["--pieces", self.pieces] if name == "in pieces" else []
         text = "".join(json.dumps({"id": reference, "body": body}) + "\n" for reference, body in documents)
         given = write(os.path.join(folder, "documents"), text)
-        super().__init__([COMMAND, "build", "--lang", "Arabic", *in_pieces], given, os.path.join(folder, "index"))
+        options = OPTIONS.get(name, ("--lang", "Arabic"))
+        super().__init__([COMMAND, "build", *options, *in_pieces], given, os.path.join(folder, "index"))
         self.documents_printed = self.documents_in_pieces if in_pieces else self.documents_of_index
         self.count = len(documents)
 
@@ -69,7 +71,7 @@ class Build(Runs):
 def cases(words):
     """The names of the cases, and for each the documents of both sizes."""
     each = [[(word, word) for word in words[:size]] for size in SIZES]
-    return {"an index": each, "in pieces": each, "one document": [[("1", " ".join(words[:size]))] for size in SIZES]}
+    return {"an index": each, "in pieces": each, "with stems": each, "one document": [[("1", " ".join(words[:size]))] for size in SIZES]}
 
 
 def check_case(name, documents, folder, results):

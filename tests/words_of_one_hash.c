@@ -1,8 +1,9 @@
 /* Prints so many words of 32 characters, a line each, that all have one hash in the hash maps of std.
 
    The hasher takes sixteen bytes at a time. Each word has eight letters of its own, and after them eight characters that
-   take back what these did to the hash; the others are the same in all. About one of 60,000 choices of the letters needs
-   only characters that may stand in a word here: ASCII, and no capital letter, quote, backslash or hyphen. */
+   take back what these did to the hash; the others are the same in all. Both ends are letters, so a trimmer leaves all of
+   it. About one of 60,000 choices of the letters needs only characters that may stand in a word here: ASCII, and no
+   capital letter, quote, backslash or hyphen. */
 #include <stdint.h>
 #include <stdio.h>
 #include <stdlib.h>
@@ -39,7 +40,7 @@ static int all_stand(uint64_t bytes)
 int main(int count, char **words)
 {
     long left = count > 1 ? atol(words[1]) : 0;
-    char word[34] = "........aaaaaaaa................\n";
+    char word[34] = "........aaaaaaaa........aaaaaaaa\n";
     for (int c = 0x21; c < 0x7f; c++)
         stands_in_words[c] = !(c >= 'A' && c <= 'Z') && !strchr("\"\\-", c);
     for (uint32_t number = 0; left > 0; number++) {

@@ -509,7 +509,7 @@ chained_lines head (Some rest) settings last options first are told each (Refuse
 chained_lines head (Some rest) settings last options first are told each TooManyLines is = λ is_head. is
 
 -- the exit of a call
-pub exit_at : {T : Type 0} (r : Result T InputError) (P : InputError → Type 0) (e : InputError)
+pub exit_at : {T E : Type 0} (r : Result T E) (P : E → Type 0) (e : E)
     → IsErrAnd r (λ y. y ≡ e) → P e → IfErr r P
 exit_at (Ok x) P e is p = tt
 exit_at (Err x) P e is p = subst P (sym is) p

@@ -27,7 +27,7 @@ ghost use Rattle.serde_json.specs.View.{view};
 
 use crate::counts::Counted;
 use crate::documents::{first_fields, note_objects, objects_made_of};
-use crate::jobs::{job_made_of, job_refused, note_job};
+use crate::jobs::{job_made_of, job_refused};
 use crate::lines::{check_first, first_value, lines_made_of, read_head};
 use crate::mark::{read_start, without_mark};
 use crate::notes::Notes;
@@ -200,11 +200,8 @@ fn made_of_job<M: Make>(
     ensures placed { IfErr result (IsPlacedIfNotJson form.Job text.now) }
 {
     let value = read_value(alloc, text)?;
-    match job_made_of(alloc, &value, settings, maker) {
-        Ok(made) => {
-            note_job(alloc, &value, settings, notes)?;
-            Ok(made)
-        }
+    match job_made_of(alloc, &value, settings, notes, maker) {
+        Ok(made) => Ok(made),
         Err(JobError::Memory) => Err(InputError::Memory),
         Err(JobError::Refused(refusal)) => {
             Err(InputError::Refused(job_refused(alloc, text, &value, settings, refusal)?))

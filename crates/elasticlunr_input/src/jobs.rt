@@ -1,8 +1,6 @@
 //! The index of a job.
 ghost use Rattle.std.specs.Prelude.{◌≡◌, true, IfOk, IfErr, IfSome, IfNone, OnOk};
 ghost use Rattle.elasticlunr.specs.Fields.{all_differ, borrowed};
-ghost use Rattle.elasticlunr_job_format.specs.Job as specs;
-ghost use Rattle.elasticlunr_job_format.specs.Job.{IsJob};
 ghost use Rattle.elasticlunr_job_format.specs.JobTold.{job_told};
 ghost use Rattle.elasticlunr_job_format.specs.JobError.{StopsWithReason};
 ghost use Rattle.elasticlunr_job_format.specs.declared.outcome.Refusal.{Refusal};
@@ -10,7 +8,7 @@ ghost use Rattle.elasticlunr_input.specs.FaultPlaces.{IsPlaceInJob, IsPlaceOfFie
 ghost use Rattle.elasticlunr_input.specs.FaultPlaces.{IsPlaceOfLanguage, IsPlaceOfRefusal};
 ghost use Rattle.elasticlunr_input.specs.FaultPlaces.{IsPlaceOfTooLong};
 ghost use Rattle.elasticlunr_input.specs.FirstFaults.{AllFit, IsFirstTooLong, IsFirstTwice};
-ghost use Rattle.elasticlunr_input.specs.NotedAll.{IsNotedJob};
+ghost use Rattle.elasticlunr_input.specs.NotedAll.{AreNotedUnder, IsNotedJob};
 ghost use Rattle.elasticlunr_input.specs.Settled.{IsMadeWith, IsRefusedWith, settings_told};
 ghost use Rattle.serde_json.specs.View.{view};
 
@@ -28,15 +26,19 @@ use elasticlunr_json_place::member::Step;
 use serde_json::Value;
 use std::alloc::{AllocError, Global};
 
-/// What is made of the index that a job asks for, with the settings instead of its members.
+/// What is made of the index that a job asks for, with the settings instead of its members; what is
+/// suspicious in its documents goes to the notes.
 pub(crate) fn job_made_of<'a, M: Make>(
     alloc: Global,
     value: &'a Value,
     settings: &'a Settings,
+    notes: &mut Notes,
     maker: &M,
 ) -> Result<M::Made, JobError>
     ensures ok { IfOk result (λ made.
         IsMadeWith (settings_told settings.now) (view value.now) (M.makes maker.now made)) }
+    ensures noted { OnOk result
+        (IsNotedJob (settings_told settings.now) (view value.now) notes.old notes.new) }
     ensures err { IfErr result (StopsWithReason
         (IsRefusedWith (settings_told settings.now) (view value.now))) }
 {
@@ -44,7 +46,21 @@ pub(crate) fn job_made_of<'a, M: Make>(
     let reference = job_reference(alloc, &own, settings)?;
     let job = settle(alloc, own, settings, reference.as_str())?;
     let rules = rules_of(alloc, &settings.rules)?;
-    job_made_by(alloc, &job, &rules, maker)
+    let made = job_made_by(alloc, &job, &rules, maker)?;
+    note_documents(&job, settings, notes)?;
+    Ok(made)
+}
+
+/// Notes what is suspicious in the documents of a job.
+fn note_documents(job: &Job<'_>, settings: &Settings, notes: &mut Notes) -> Result<(), AllocError>
+    ensures { OnOk result (AreNotedUnder (settings_told settings.now).rules (job_told job.now)
+        notes.old notes.new) }
+{
+    notes.rules(&job.fields, settings)?;
+    for doc in &job.docs {
+        notes.document(doc.reference, &doc.values)?;
+    }
+    notes.end(&job.fields)
 }
 
 /// The message of a refusal of a job, with the settings instead of its members.
@@ -183,28 +199,4 @@ fn too_many_values(alloc: Global, text: &[u8], job: &Job<'_>) -> Result<Message,
     let fields = counted(alloc, most, "field")?;
     let said = format!(in alloc; "document {count} (\"{reference}\"): {values} for {fields}")?;
     message_at(alloc, text, &[Step::Key("docs"), Step::Item(number)], said)
-}
-
-/// Notes what is suspicious in the documents of a job.
-pub(crate) fn note_job<'a>(
-    alloc: Global,
-    value: &'a Value,
-    settings: &'a Settings,
-    notes: &mut Notes,
-) -> Result<(), AllocError>
-    ensures { OnOk result ((job : specs.Job) → IsJob (view value.now) job
-        → IsNotedJob (settings_told settings.now) (view value.now) notes.old notes.new) }
-{
-    let own = match parse(alloc, value) {
-        Ok(job) => job,
-        Err(JobError::Memory) => return Err(AllocError),
-        Err(JobError::Refused(_)) => return Ok(()),
-    };
-    let reference = job_reference(alloc, &own, settings)?;
-    let job = settle(alloc, own, settings, reference.as_str())?;
-    notes.rules(&job.fields, settings)?;
-    for doc in &job.docs {
-        notes.document(doc.reference, &doc.values)?;
-    }
-    notes.end(&job.fields)
 }

@@ -31,7 +31,5 @@ returns-clause-place g c =
 pub returns-clause-placed : goal.returns-clause-placed
 returns-clause-placed g c = λ none. (cc (c.in_ok-value.ensures.ok))
 
-pub returns-in_ok-note_job-in-Ok-clause-noted : goal.returns-in_ok-note_job-in-Ok-clause-noted
-returns-in_ok-note_job-in-Ok-clause-noted g c =
-    let made = c.in-Ok.ensures.ok in
-    (view c.in_ok-value.value, c.in_ok-value.ensures.ok, c.in_ok-note_job-in-Ok.ensures made.0 made.1)
+pub returns-in-Ok-clause-noted : goal.returns-in-Ok-clause-noted
+returns-in-Ok-clause-noted g c = (view c.in_ok-value.value, c.in_ok-value.ensures.ok, c.in-Ok.ensures.noted)

@@ -8,8 +8,9 @@ use Rattle.elasticlunr_job_format.specs.JobError.{StopsWithReason}
 use Rattle.elasticlunr_job_format.specs.declared.outcome.Refusal.TheVariants as refusal
 use Rattle.elasticlunr_job_format.specs.declared.outcome.JobError.{JobError}
 use Rattle.elasticlunr_job_format.specs.declared.outcome.JobError.TheVariants.{Memory, Refused}
-use Rattle.elasticlunr_job.proofs.Stops.{err_more, ok_more}
+use Rattle.elasticlunr_input.specs.NotedAll.{AreNotedUnder}
 use Rattle.elasticlunr_input.specs.Settled.{Settings, IsRefusedWith, own_rules, settings_told, settled}
+use Rattle.elasticlunr_input.proofs.HeadLemmas.{exit_at}
 use Rattle.elasticlunr_input.proofs.jobs.job_made_of.Goals as goal
 
 -- what stops the job with the settings stops the value with them
@@ -22,19 +23,28 @@ stops_with settings d job is (Refused refusal.UnknownLanguage) fails = (job, is,
 stops_with settings d job is (Refused refusal.DuplicateField) fails = (job, is, fails)
 stops_with settings d job is (Refused refusal.TooManyValues) fails = (job, is, fails)
 
-pub returns-clause-ok : goal.returns-clause-ok
-returns-clause-ok g c = ok_more c.job_made_by.result _ _
-    (λ made is. (
-      job_told c.in_ok-own.own,
-      c.in_ok-own.ensures.ok,
-      subst (λ job. IsMadeBy (own_rules c.args.settings.now.rules) job (g.M.Make.makes c.args.maker.now made))
-          (c.in_ok-job.ensures (c.as_str.ensures.value ∙ c.in_ok-reference.ensures))
-          (subst (λ rules. IsMadeBy rules (job_told c.in_ok-job.job) (g.M.Make.makes c.args.maker.now made))
-          c.in_ok-rules.ensures is),
-    )) c.job_made_by.ensures.ok
+pub returns-in_ok-note_documents-clause-ok : goal.returns-in_ok-note_documents-clause-ok
+returns-in_ok-note_documents-clause-ok g c = (
+  job_told c.in_ok-own.own,
+  c.in_ok-own.ensures.ok,
+  subst (λ job. IsMadeBy (own_rules c.args.settings.now.rules) job (g.M.Make.makes c.args.maker.now c.in_ok-made.made))
+      (c.in_ok-job.ensures (c.as_str.ensures.value ∙ c.in_ok-reference.ensures))
+      (subst (λ rules. IsMadeBy rules (job_told c.in_ok-job.job) (g.M.Make.makes c.args.maker.now c.in_ok-made.made))
+      c.in_ok-rules.ensures c.in_ok-made.ensures.ok),
+)
 
-pub returns-clause-err : goal.returns-clause-err
-returns-clause-err g c = err_more c.job_made_by.result _ _
-    (λ stop fails. stops_with (settings_told c.args.settings.now) (view c.args.value.now)
-    (job_told c.in_ok-own.own) c.in_ok-own.ensures.ok stop
-    (subst (λ job. StopsWithReason (FailsAt job) stop) (c.in_ok-job.ensures (c.as_str.ensures.value ∙ c.in_ok-reference.ensures)) fails)) c.job_made_by.ensures.err
+pub returns-in_ok-note_documents-clause-noted : goal.returns-in_ok-note_documents-clause-noted
+returns-in_ok-note_documents-clause-noted g c = (
+  job_told c.in_ok-own.own,
+  c.in_ok-own.ensures.ok,
+  subst (λ job. AreNotedUnder (own_rules c.args.settings.now.rules) job c.args.notes.now c.note_documents.new.notes)
+      (c.in_ok-job.ensures (c.as_str.ensures.value ∙ c.in_ok-reference.ensures)) c.in_ok-note_documents.ensures,
+)
+
+pub returns-in_err-made-clause-err : goal.returns-in_err-made-clause-err
+returns-in_err-made-clause-err g c =
+    exit_at c.from_residual-in_err-made.result _ c.in_err-made.field-0.0 c.from_residual-in_err-made.ensures.1
+    (stops_with (settings_told c.args.settings.now) (view c.args.value.now) (job_told c.in_ok-own.own) c.in_ok-own.ensures.ok
+    c.in_err-made.field-0.0
+    (subst (λ job. StopsWithReason (FailsAt job) c.in_err-made.field-0.0)
+    (c.in_ok-job.ensures (c.as_str.ensures.value ∙ c.in_ok-reference.ensures)) c.in_err-made.ensures.err))

@@ -1,7 +1,7 @@
 use Rattle.std.proofs.Common.{map, take}
 use Rattle.elasticlunr_job_format.specs.JobTold.{document_told}
 use Rattle.elasticlunr_input.specs.NotedAll.{AreNoted, told_of_job}
-use Rattle.elasticlunr_input.proofs.jobs.note_job.Given as goal
+use Rattle.elasticlunr_input.proofs.jobs.note_documents.Given as goal
 
 -- the documents so far were noted
 abbrev pub invariant-loop-doc : goal.invariant-loop-doc

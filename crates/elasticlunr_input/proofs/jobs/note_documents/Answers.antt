@@ -1,15 +1,14 @@
 use Rattle.std.proofs.Common.{◌≤◌, ◌+◌, ◌++◌, ◌||◌, [], length, map, min, take, subst, ap, ◌∙◌, arith}
 use Rattle.std.proofs.lemmas.List.{take_all}
-use Rattle.elasticlunr_job_format.specs.Job.{Job}
 use Rattle.elasticlunr_job_format.specs.JobTold.{document_told, job_told}
 use Rattle.elasticlunr_job_format.specs.ObjectsTold.{texts_told}
 use Rattle.elasticlunr_input.specs.Noted.{has_value, stored_under, too_long_of}
-use Rattle.elasticlunr_input.specs.NotedAll.{AreNoted, AreNotedUnder, HasRules, told_of_job}
+use Rattle.elasticlunr_input.specs.NotedAll.{AreNoted, HasRules, told_of_job}
 use Rattle.elasticlunr_input.specs.Settled.{settings_told}
 use Rattle.elasticlunr_input.specs.Warnings.{end_warnings, has_text, warnings_of}
 use Rattle.elasticlunr_input.proofs.NotingAll.{all_noted, noted_document, noted_more, on_more, one_told, told_long}
 use Rattle.std.proofs.lemmas.Grind.{common_steps}
-use Rattle.elasticlunr_input.proofs.jobs.note_job.Goals as goal
+use Rattle.elasticlunr_input.proofs.jobs.note_documents.Goals as goal
 
 pub loop-doc-preserved : goal.loop-doc-preserved
 loop-doc-preserved c =
@@ -37,7 +36,7 @@ returns c =
     let begun = c.rules.new.self in
     let last = c.loop-doc.notes in
     let new = c.end.new.self in
-    let job = job_told c.in_ok-job.job in
+    let job = job_told c.args.job.now in
     let docs = c.deref-doc-items.result.now in
     let i = c.loop-doc.doc-index in
     let long = told_long docs in
@@ -52,24 +51,17 @@ returns c =
           ∙ ap (λ fs. old.is_stored.items ++ stored_under settings.rules (texts_told fs)) c.deref.ensures.value;
       seen = c.rules.ensures.seen;
     } in
-    on_more c.end.result c.end.ensures.warnings (λ ends asked is. (
-      job_told c.in-Ok.job,
-      c.in-Ok.ensures.ok,
-      subst (λ (j : Job). AreNotedUnder settings.rules j old new) (c.in_ok-job.ensures (c.as_str.ensures.value ∙ c.in_ok-reference.ensures)) (
-        begun,
-        rules,
-        (
-          last,
-          noted,
-          all_noted begun last new told job.fields noted
-              (ends ∙ ap (λ fs. warnings_of last ++ end_warnings last (texts_told fs)) c.deref-2.ensures.value),
-          c.end.ensures.words,
-        ),
+    on_more c.end.result c.end.ensures.warnings (λ ends. (
+      begun,
+      rules,
+      (
+        last,
+        noted,
+        all_noted begun last new told job.fields noted
+            (ends ∙ ap (λ fs. warnings_of last ++ end_warnings last (texts_told fs)) c.deref-2.ensures.value),
+        c.end.ensures.words,
       ),
     ))
-
-pub returns-in-Err-Refused : goal.returns-in-Err-Refused
-returns-in-Err-Refused c = grind (arith, common_steps)
 
 pub loop-doc-init : goal.loop-doc-init
 loop-doc-init c = grind (arith, common_steps)

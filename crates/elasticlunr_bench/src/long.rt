@@ -1,6 +1,6 @@
 //! Pages that are hard to index: tokens of thousands of characters, as pictures and scripts inside
-//! a page are, numbers of which each is another one, a page with one word many times, and characters
-//! that a text of JSON escapes.
+//! a page are, numbers of which each is another one, a page with one word many times, and
+//! characters that a text of JSON escapes.
 
 use crate::digest::Digest;
 use crate::failure::Failure;

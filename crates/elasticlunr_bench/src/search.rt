@@ -1,6 +1,6 @@
 //! An index that is printed, read again and searched: by words that are frequent and by rare ones,
-//! in one field and in all, by any word and by each. No query comes twice, each has a token, and the
-//! texts of a document are read once.
+//! in one field and in all, by any word and by each. No query comes twice, each has a token, and
+//! the texts of a document are read once.
 
 use crate::digest::Digest;
 use crate::failure::Failure;

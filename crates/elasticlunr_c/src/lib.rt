@@ -45,9 +45,9 @@ pub extern "C" fn elasticlunr_answer(
     }
 }
 
-/// The index of documents in the flat form, whose tokens may come with them, in a block of `malloc`.
-/// The status is 0 for the text of an index, 2 for the line of a refusal, 1 where memory ran out,
-/// and 3 where the bytes are not in the flat form. At 1 and 3 both stay as they were.
+/// The index of documents in the flat form, whose tokens may come with them, in a block of
+/// `malloc`. The status is 0 for the text of an index, 2 for the line of a refusal, 1 where memory
+/// ran out, and 3 where the bytes are not in the flat form. At 1 and 3 both stay as they were.
 #[unsafe(no_mangle)]
 pub extern "C" fn elasticlunr_index_documents(
     alloc: Global,
@@ -67,8 +67,8 @@ pub extern "C" fn elasticlunr_index_documents(
 }
 
 /// The head and the pieces of the index of documents in the flat form, in a block of `malloc`. The
-/// status is 0 for their flat form, 2 for the line of a refusal, 1 where memory ran out, and 3 where
-/// the bytes are not in the flat form. At 1 and 3 both stay as they were.
+/// status is 0 for their flat form, 2 for the line of a refusal, 1 where memory ran out, and 3
+/// where the bytes are not in the flat form. At 1 and 3 both stay as they were.
 #[unsafe(no_mangle)]
 pub extern "C" fn elasticlunr_index_pieces(
     alloc: Global,

@@ -68,4 +68,5 @@ abbrev pub IsSearched : (index search : Bytes) → SearchOutcome → (text : Byt
 IsSearched index search Found text = (asked : Asked) × Asks search asked
     × AreFoundIn index asked text
 IsSearched index search (Refused refusal) text = (asked : Asked) × Asks search asked
-    × IsNotSearched index asked refusal × (is_memory refusal ≡ false) × (text ≡ refused_line refusal)
+    × IsNotSearched index asked refusal × (is_memory refusal ≡ false)
+    × (text ≡ refused_line refusal)

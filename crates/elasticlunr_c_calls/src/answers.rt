@@ -1,5 +1,6 @@
 //! Answers and their statuses.
-ghost use Rattle.std.specs.Prelude.{◌≡◌, ◌⊎◌, IfErr, IfOk, length, string_bytes, string_len, vec_len};
+ghost use Rattle.std.specs.Prelude.{◌≡◌, ◌⊎◌, IfErr, IfOk, length, string_bytes, string_len};
+ghost use Rattle.std.specs.Prelude.{vec_len};
 ghost use Rattle.elasticlunr_c_calls.specs.Calls.{HasIndex, HasStatus, IsAnswered, IsAnsweredInto};
 ghost use Rattle.elasticlunr_c_calls.specs.Calls.{HasFaultStatus, HasHits, HasPieces, IsPut};
 ghost use Rattle.elasticlunr_c_calls.specs.Calls.{HasPiecesStatus};
@@ -79,8 +80,8 @@ pub fn pieces_answer(alloc: Global, input: &[u8]) -> Result<(u32, Vec<u8>), u32>
     }
 }
 
-/// The same for a search in the flat form: a line of JSON for each hit in the text of an index. Where
-/// the search is not in this form, there is the status 3 alone.
+/// The same for a search in the flat form: a line of JSON for each hit in the text of an index.
+/// Where the search is not in this form, there is the status 3 alone.
 pub fn search_answer(alloc: Global, index: &[u8], search: &[u8]) -> Result<(u32, String), u32>
     ensures ok { IfOk result (λ a. HasHits index.now search.now a.0 (string_bytes a.1)) }
     ensures err { IfErr result (λ status. (status ≡ 1)

@@ -70,7 +70,8 @@ fn owned(alloc: Global, text: Option<&str>) -> Result<Option<String>, AllocError
 /// Copies of the names in a text with commas between them.
 fn owned_names(alloc: Global, text: Option<&str>) -> Result<Option<Vec<String>>, AllocError>
     ensures { IfOk result (λ names.
-        option_map (λ copies. bytes_of copies.items) names ≡ option_map (λ s. names_in s.now) text.entry) }
+        option_map (λ copies. bytes_of copies.items) names
+        ≡ option_map (λ s. names_in s.now) text.entry) }
 {
     match text {
         Some(text) => Ok(Some(copies_of(alloc, &names_in(alloc, text)?)?)),

@@ -67,7 +67,8 @@ pub fn objects_of<'a>(
     items: &'a [Value],
 ) -> Result<Vec<Object<'a>>, ObjectsError>
     ensures ok { IfOk result (λ objects.
-        AreDocumentsOf (options_told options.now) (map view items.now) (map object_told objects.items)) }
+        AreDocumentsOf (options_told options.now) (map view items.now)
+        (map object_told objects.items)) }
     ensures err { IfErr result (FailsObjects (options_told options.now) (map view items.now)) }
 {
     let mut objects = Vec::with_capacity(alloc, items.len())?;

@@ -25,8 +25,8 @@ use Rattle.elasticlunr_hits.specs.declared.asked.Needed.TheVariants.{One, EachIn
 abbrev pub Told : Type 0
 Told = Bytes × Float
 
--- In each definition `reads` relates the number of a field and a text to the tokens that are read of
--- it.
+-- In each definition `reads` relates the number of a field and a text to the tokens that are read
+-- of it.
 module _ (reads : ℕ → Bytes → List Text → Type 0) (fields : List Bytes) (tables : List Table)
     (contents : Contents) (asked : Asked) where
   -- of the hits of a ranking those stay, in their order, whose document has each token of the query

@@ -80,7 +80,8 @@ fn document_value(
     alloc: Global,
     texts: Option<BTreeMap<String, String>>,
 ) -> Result<Value, AllocError>
-    ensures { IfOk result (λ v. view v ≡ value_of_texts (option_map (λ t. text_map t.entries) texts)) }
+    ensures { IfOk result (λ v. view v ≡ value_of_texts
+        (option_map (λ t. text_map t.entries) texts)) }
 {
     match texts {
         Some(texts) => texts_value(alloc, texts),

@@ -19,7 +19,8 @@ pub(crate) fn search_options(
     asked: &Asked<'_>,
     names: &[&str],
 ) -> Result<SearchOptions, AllocError>
-    ensures { IfOk result (λ options. (all : List Bytes) → borrowed names.now ≡ searched asked.now all
+    ensures { IfOk result (λ options. (all : List Bytes) → borrowed names.now
+        ≡ searched asked.now all
         → AreOptionsOf asked.now all (options_of options)) }
 {
     Ok(SearchOptions {

@@ -80,7 +80,8 @@ fn object_fault_place(
     problem: ObjectFault,
 ) -> Result<Option<Place>, AllocError>
     ensures { IfOk result (λ place. IfSome place
-        (IsPlaceOf None (item (number - 1) ∷ object_fault_path (options_told options.now) problem) text.now)) }
+        (IsPlaceOf None (item (number - 1) ∷ object_fault_path (options_told options.now) problem)
+        text.now)) }
 {
     let item = Step::Item(number.saturating_sub(1));
     let key = Step::Key(object_fault_key(options, problem));

@@ -7,7 +7,8 @@ ghost use Rattle.elasticlunr_input.specs.Counts.{HasCounts, token_count};
 ghost use Rattle.elasticlunr_input.specs.FaultPlaces.{IsPlaceInObjects};
 ghost use Rattle.elasticlunr_input.specs.Fields.{fields_of_first};
 ghost use Rattle.elasticlunr_diagnostics.specs.Forms.{asked_or_told};
-ghost use Rattle.elasticlunr_input.specs.Indexes.{IsIndexOf, IsMadeAs, IsMadeFrom, IsPlacedIfNotJson};
+ghost use Rattle.elasticlunr_input.specs.Indexes.{IsIndexOf, IsMadeAs, IsMadeFrom};
+ghost use Rattle.elasticlunr_input.specs.Indexes.{IsPlacedIfNotJson};
 ghost use Rattle.elasticlunr_input.specs.Indexes.{IsRefusedInput};
 ghost use Rattle.elasticlunr_input.specs.Inputs.{IsHeadOf};
 ghost use Rattle.elasticlunr_input.specs.Lines.{IsLinesMadeWith};
@@ -57,7 +58,8 @@ pub fn made_from<R: MarkedRead, M: Make>(
     maker: &M,
 ) -> Result<M::Made, InputError>
     ensures ok { IfOk result (λ made. IfSome (R.remaining reader.old) (λ text.
-        IsMadeFrom asked (settings_told settings.now) (without_mark text) (M.makes maker.now made))) }
+        IsMadeFrom asked (settings_told settings.now) (without_mark text)
+        (M.makes maker.now made))) }
     ensures counts { OnOk result (IfSome (R.remaining reader.old) (λ text.
         IsMadeFrom asked (settings_told settings.now) (without_mark text)
         (λ _ plan commands. HasCounts plan commands notes.new.documents (token_count notes.new)))) }
@@ -67,7 +69,8 @@ pub fn made_from<R: MarkedRead, M: Make>(
         × IsMadeFrom asked (settings_told settings.now) (without_mark text)
         (λ _ plan commands. EndWithWordless plan commands earlier (warnings_of notes.new)))) }
     ensures err { IfErr result (λ e. IfSome (R.remaining reader.old) (λ text.
-        IsRefusedFrom (asked_or_told asked (without_mark text)) (settings_told settings.now) (without_mark text) e)) }
+        IsRefusedFrom (asked_or_told asked (without_mark text)) (settings_told settings.now)
+        (without_mark text) e)) }
     ensures device { IfErr result (IfDevice (R.has_failed reader.new ≡ true)) }
 {
     let counted = Counted { alloc, maker };
@@ -100,7 +103,8 @@ pub fn index_from<R: MarkedRead>(
         × IsMadeFrom asked (settings_told settings.now) (without_mark text)
         (λ _ plan commands. EndWithWordless plan commands earlier (warnings_of notes.new)))) }
     ensures err { IfErr result (λ e. IfSome (R.remaining reader.old) (λ text.
-        IsRefusedFrom (asked_or_told asked (without_mark text)) (settings_told settings.now) (without_mark text) e)) }
+        IsRefusedFrom (asked_or_told asked (without_mark text)) (settings_told settings.now)
+        (without_mark text) e)) }
     ensures device { IfErr result (IfDevice (R.has_failed reader.new ≡ true)) }
 {
     made_from(alloc, reader, asked, settings, notes, &Line)
@@ -137,12 +141,14 @@ fn made_of_input<R: MarkedRead, M: Make>(
     maker: &M,
 ) -> Result<M::Made, InputError>
     ensures ok { IfOk result (λ made. IfSome (R.remaining reader.old) (λ text.
-        IsMadeFrom asked (settings_told settings.now) (without_mark text) (M.makes maker.now made))) }
+        IsMadeFrom asked (settings_told settings.now) (without_mark text)
+        (M.makes maker.now made))) }
     ensures noted { OnOk result (IfSome (R.remaining reader.old) (λ text.
         IsNotedAs (asked_or_told asked (without_mark text)) (settings_told settings.now)
         (without_mark text) notes.old notes.new)) }
     ensures err { IfErr result (λ e. IfSome (R.remaining reader.old) (λ text.
-        IsRefusedFrom (asked_or_told asked (without_mark text)) (settings_told settings.now) (without_mark text) e)) }
+        IsRefusedFrom (asked_or_told asked (without_mark text)) (settings_told settings.now)
+        (without_mark text) e)) }
 {
     let start = read_start(alloc, reader)?;
     let mut all = without_mark(&start).chain(reader);
@@ -161,7 +167,8 @@ fn made_unmarked<R: MarkedRead, M: Make>(
     ensures ok { IfOk result (λ made. IfSome (R.remaining reader.old) (λ text.
         IsMadeFrom asked (settings_told settings.now) text (M.makes maker.now made))) }
     ensures noted { OnOk result (IfSome (R.remaining reader.old) (λ text.
-        IsNotedAs (asked_or_told asked text) (settings_told settings.now) text notes.old notes.new)) }
+        IsNotedAs (asked_or_told asked text) (settings_told settings.now) text notes.old
+        notes.new)) }
     ensures err { IfErr result (λ e. IfSome (R.remaining reader.old) (λ text.
         IsRefusedFrom (asked_or_told asked text) (settings_told settings.now) text e)) }
 {
@@ -247,10 +254,12 @@ fn made_of_lines<R: MarkedRead, M: Make>(
 ) -> Result<M::Made, InputError>
     ensures ok { IfOk result (λ made. IfSome (R.remaining reader.old) (λ rest.
         IsHeadOf head.now rest last.old.text.items last.old.before
-        → IsLinesMadeWith (settings_told settings.now) (head.now ++ rest) (M.makes maker.now made))) }
+        → IsLinesMadeWith (settings_told settings.now) (head.now ++ rest)
+        (M.makes maker.now made))) }
     ensures noted { OnOk result (IfSome (R.remaining reader.old) (λ rest.
         IsHeadOf head.now rest last.old.text.items last.old.before
-        → IsNotedAs form.Lines (settings_told settings.now) (head.now ++ rest) notes.old notes.new)) }
+        → IsNotedAs form.Lines (settings_told settings.now) (head.now ++ rest) notes.old
+        notes.new)) }
     ensures err { IfErr result (λ e. IfSome (R.remaining reader.old) (λ rest.
         IsHeadOf head.now rest last.old.text.items last.old.before
         → AreRefusedFrom (settings_told settings.now) (head.now ++ rest) e)) }

@@ -77,8 +77,8 @@ impl Watch for Notes {
 pub(crate) fn first_value(alloc: Global, last: &LastLine) -> Result<Vec<Value>, InputError>
     ensures ok { IfOk result (λ values. map Some (map view values.items)
         ≡ map reading (filter is_filled (last.now.text.items ∷ []))) }
-    ensures err { IfErr result
-        (IsMemoryOr ((is_filled last.now.text.items ≡ true) × (reading last.now.text.items ≡ None))) }
+    ensures err { IfErr result (IsMemoryOr
+        ((is_filled last.now.text.items ≡ true) × (reading last.now.text.items ≡ None))) }
     ensures place { IfErr result (IfPlaced
         (IsBelow last.now.before (IsPlaceIn last.now.text.items))) }
     ensures placed { IfErr result (IsUnreadLine last.now) }
@@ -177,7 +177,8 @@ fn value_refused(
     problem: ObjectFault,
 ) -> Result<Message, AllocError>
     ensures { IfOk result (λ message. IfSome message.place (IsBelow last.now.before
-        (IsPlaceOf None (object_fault_path (options_told options.now) problem) last.now.text.items))) }
+        (IsPlaceOf None (object_fault_path (options_told options.now) problem)
+        last.now.text.items))) }
 {
     let place = line_place(alloc, options, &last.text, problem)?;
     let text = object_fault_text(alloc, options, number, Some(value), problem)?;

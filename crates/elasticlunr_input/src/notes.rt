@@ -236,7 +236,8 @@ impl Notes {
     /// Takes the key of a text of the document that was taken last.
     fn text_under(&mut self, reference: &str, key: &str) -> Result<(), AllocError>
         ensures warnings { OnOk result (warnings_of self.new ≡ warnings_of self.old
-            ++ unindexed_warnings (is_known self.old key.now) self.old.taken reference.now key.now) }
+            ++ unindexed_warnings (is_known self.old key.now)
+            self.old.taken reference.now key.now) }
         ensures known { OnOk result ((k : Bytes)
             → is_known self.new k ≡ (is_known self.old k || bytes_eq key.now k)) }
         ensures taken { self.new.taken ≡ self.old.taken }
@@ -264,7 +265,8 @@ impl Notes {
     pub(crate) fn document(&mut self, reference: &str, values: &[&str]) -> Result<(), AllocError>
         ensures taken { self.new.taken ≡ min (self.old.taken + 1) usize.MAX }
         ensures warnings { OnOk result (warnings_of self.new ≡ warnings_of self.old
-            ++ reference_warnings self.new.taken reference.now (last_number self.old reference.now)) }
+            ++ reference_warnings self.new.taken reference.now
+            (last_number self.old reference.now)) }
         ensures number { OnOk result
             (NumbersReference self.old self.new reference.now self.new.taken) }
         ensures texts { OnOk result ((number : ℕ) → has_text self.new number
@@ -282,7 +284,8 @@ impl Notes {
     /// Takes the reference of the document of the last number.
     fn reference(&mut self, reference: &str) -> Result<(), AllocError>
         ensures warnings { OnOk result (warnings_of self.new ≡ warnings_of self.old
-            ++ reference_warnings self.old.taken reference.now (last_number self.old reference.now)) }
+            ++ reference_warnings self.old.taken reference.now
+            (last_number self.old reference.now)) }
         ensures number { OnOk result
             (NumbersReference self.old self.new reference.now self.old.taken) }
         ensures taken { self.new.taken ≡ self.old.taken }
@@ -298,7 +301,8 @@ impl Notes {
     /// Takes whether the document replaces an earlier one.
     fn replacing(&mut self, reference: &str) -> Result<(), AllocError>
         ensures warnings { OnOk result (warnings_of self.new ≡ warnings_of self.old
-            ++ replacing_warnings self.old.taken reference.now (last_number self.old reference.now)) }
+            ++ replacing_warnings self.old.taken reference.now
+            (last_number self.old reference.now)) }
         ensures number { OnOk result
             (NumbersReference self.old self.new reference.now self.old.taken) }
         ensures taken { self.new.taken ≡ self.old.taken }

@@ -6,7 +6,8 @@ use Rattle.elasticlunr_text.specs.Text.{Text, Bytes, word_texts}
 use Rattle.elasticlunr.specs.GivenTokens.{value_texts}
 use Rattle.elasticlunr.specs.declared.values.FieldValue.{FieldValue}
 use Rattle.elasticlunr.specs.declared.values.TokenSource.{TokenSource}
-use Rattle.elasticlunr.specs.declared.values.TokenSource.TheVariants.{AsGiven, FromText, IntoPipeline}
+use Rattle.elasticlunr.specs.declared.values.TokenSource.TheVariants.{AsGiven, FromText}
+use Rattle.elasticlunr.specs.declared.values.TokenSource.TheVariants.{IntoPipeline}
 use Rattle.elasticlunr_job.specs.Commands.{kept_words}
 use Rattle.elasticlunr_job_format.specs.Rules.{WordRules}
 

@@ -6,7 +6,8 @@ ghost use Rattle.std.specs.Str.{chars};
 ghost use Rattle.elasticlunr.specs.Fields.{borrowed, has_name};
 ghost use Rattle.elasticlunr_text.specs.Text.{texts_of, word_texts};
 ghost use Rattle.elasticlunr_job.specs.Commands.{is_short, kept_words};
-ghost use Rattle.elasticlunr_job.specs.Given.{AreGiven, IsSourceOf, chosen_lists, keeps_all, kept_lists};
+ghost use Rattle.elasticlunr_job.specs.Given.{AreGiven, IsSourceOf, chosen_lists, keeps_all};
+ghost use Rattle.elasticlunr_job.specs.Given.{kept_lists};
 ghost use Rattle.elasticlunr_job_format.specs.Rules.{given_rules, rules_told, stems_by};
 
 use elasticlunr::lang::tokenize_whitespace;

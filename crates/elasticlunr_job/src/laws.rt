@@ -47,8 +47,8 @@ pub fn documents_of_a_job_are_read()
     documents_of_calls_are_read::<AnyLanguage>();
 }
 
-/// An index of the choices of a job, whose pipeline is the language's, with stems where the rules say
-/// so, is built for the job under these rules.
+/// An index of the choices of a job, whose pipeline is the language's, with stems where the rules
+/// say so, is built for the job under these rules.
 pub fn an_index_is_built_for_a_job(index: &Index<AnyLanguage>)
     ensures { (pipeline : _) (rules : Option WordRules) (job : Job) (language : AnyLanguage)
         (stems : Bool) → stems ≡ stems_by rules

@@ -67,7 +67,8 @@ pub struct Searcher<L> {
 impl<L: Language> Searcher<L> {
     ghost use Rattle.elasticlunr_search.specs.Ranking.{AreBestHits, AreBestAsChosen};
     ghost use Rattle.elasticlunr_search.specs.Ranking.{AreRankedHits, AreRankedAsChosen};
-    ghost use Rattle.elasticlunr_search.specs.Standing.{fields_of, kept_contents, kept_texts, AreFound};
+    ghost use Rattle.elasticlunr_search.specs.Standing.{fields_of, kept_contents, kept_texts};
+    ghost use Rattle.elasticlunr_search.specs.Standing.{AreFound};
     ghost use Rattle.elasticlunr_search.specs.Standing.{AreFoundAsChosen, AreFoundInFields};
     ghost use Rattle.elasticlunr_search.specs.Standing.{AreFoundInTexts, AreFoundInTrie};
     ghost use Rattle.elasticlunr_search.specs.Standing.{AreFoundInTries, AreFoundOfTokens};
@@ -311,7 +312,8 @@ impl<L: Language> Searcher<L> {
             → LacksFieldOf self.now (asked_fields (option_map (λ f. f.now) field.entry)
             (fields_of self.now)) }
         ensures has_fields { OnOk result
-            (HasFieldsOf self.now (asked_fields (option_map (λ f. f.now) field.entry) (fields_of self.now))) }
+            (HasFieldsOf self.now (asked_fields (option_map (λ f. f.now) field.entry)
+            (fields_of self.now))) }
         ensures errors { IfErr result (λ e. (e ≡ NoSuchField) ⊎ (e ≡ Memory)) }
         ensures found { IfOk result (λ found. AreFoundWithinFields L.tokens_of L.leaves_of leaves
             self.now

@@ -79,7 +79,8 @@ fn references_among(
 ) -> Result<Vec<String>, AllocError>
     ensures sorted { IfOk result (λ found. IsStrictlySortedBy text_cmp (bytes_of found.items)) }
     ensures listed { IfOk result (λ found. (r : Bytes)
-        → is_listed r (bytes_of found.items) ≡ has_among (tables_of tries.now) (chars token.now) r) }
+        → is_listed r (bytes_of found.items) ≡ has_among (tables_of tries.now)
+        (chars token.now) r) }
 {
     let mut found = BTreeSet::new(alloc);
     for trie in tries {

@@ -1,5 +1,6 @@
 -- A site, and the text of its index.
-use Rattle.std.specs.Prelude.{ℕ, List, [], ◌∷◌, ◌++◌, Bool, Option, nat_le, codes, filter, length, map}
+use Rattle.std.specs.Prelude.{ℕ, List, [], ◌∷◌, ◌++◌, Bool, Option, nat_le, codes, filter, length}
+use Rattle.std.specs.Prelude.{map}
 use Rattle.std.specs.Borrow.{Bor}
 use Rattle.elasticlunr.specs.AnyLanguage.TheVariants.{German}
 use Rattle.elasticlunr.specs.After.{IsKeptAfter}

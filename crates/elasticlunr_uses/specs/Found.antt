@@ -40,5 +40,6 @@ abbrev pub RanksInPrints : AnyLanguage → (text query : Bytes) → (hits : List
     → Type 0
 RanksInPrints language text query hits = (plan : Plan) (calls : List Call)
     → IsTrue (all_differ plan.fields) → IsReadableAfter (KeptReads language) plan calls text
-    → RanksAfter (KeptReads language) plan.fields plan.reference_field calls Any (codes "body") query
+    → RanksAfter (KeptReads language) plan.fields plan.reference_field calls
+    Any (codes "body") query
     hits

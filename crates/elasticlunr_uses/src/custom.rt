@@ -95,8 +95,8 @@ pub fn whole(alloc: Global, text: &str) -> Result<Vec<String>, AllocError>
     Ok(tokens)
 }
 
-/// The text of an index of titles, of which a tokenizer makes the tokens, and of bodies. Proved of a
-/// builder to which nothing was given yet: the text is that of one document, whose title has what
+/// The text of an index of titles, of which a tokenizer makes the tokens, and of bodies. Proved of
+/// a builder to which nothing was given yet: the text is that of one document, whose title has what
 /// English makes of the tokenizer's tokens, and whose body has what it makes of words.
 pub fn index_with_tokenizer(
     builder: IndexBuilder<English>,

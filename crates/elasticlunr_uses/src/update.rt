@@ -27,7 +27,8 @@ pub fn updated_and_new(
         ∷ adding_text changes.entry new_text.now ∷ removing_page goes.entry ∷ compacting ∷ [])
         (string_bytes texts.0)) }
     ensures new { IfOk result (λ texts.
-        IsTextOf (adding_page stays.entry ∷ adding_text changes.entry new_text.now ∷ []) (string_bytes texts.1)) }
+        IsTextOf (adding_page stays.entry ∷ adding_text changes.entry new_text.now ∷ [])
+        (string_bytes texts.1)) }
     ensures equal { IfOk result (λ texts. stays.entry.reference.now ≢ changes.entry.reference.now
         → stays.entry.reference.now ≢ goes.entry.reference.now
         → changes.entry.reference.now ≢ goes.entry.reference.now → string_bytes texts.0

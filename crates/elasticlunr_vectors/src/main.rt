@@ -1,6 +1,6 @@
-//! Runs tables of examples against the library and the stemmers, and prints for each how many of its
-//! lines are right. With the code of a language and `current` or `older` as arguments it stems the
-//! lines of standard input instead, and prints a stem for each.
+//! Runs tables of examples against the library and the stemmers, and prints for each how many of
+//! its lines are right. With the code of a language and `current` or `older` as arguments it stems
+//! the lines of standard input instead, and prints a stem for each.
 #![tactic(auto)]
 
 mod cells;

@@ -1,4 +1,5 @@
-//! The stop words of the built-in languages and of Hungarian: each list compared whole with that of the original.
+//! The stop words of the built-in languages and of Hungarian: each list compared whole with that of
+//! the original.
 use crate::cells;
 use crate::tables::Counts;
 use elasticlunr::Language;

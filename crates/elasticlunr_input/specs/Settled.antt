@@ -73,7 +73,7 @@ settled settings job = record job {
 -- this holds of the index of the job that a value is, with these settings
 abbrev pub IsMadeWith : Settings → Data → OfIndex → Type 0
 IsMadeWith settings d Is = (job : Job) × IsJob d job
-× IsMadeBy settings.rules (settled settings job) Is
+    × IsMadeBy settings.rules (settled settings job) Is
 
 -- the check that a value fails first: that it is a job, or one of the job with these settings
 abbrev pub IsRefusedWith : Settings → Data → Refusal → Type 0

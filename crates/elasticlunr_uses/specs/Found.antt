@@ -41,5 +41,4 @@ abbrev pub RanksInPrints : AnyLanguage → (text query : Bytes) → (hits : List
 RanksInPrints language text query hits = (plan : Plan) (calls : List Call)
     → IsTrue (all_differ plan.fields) → IsReadableAfter (KeptReads language) plan calls text
     → RanksAfter (KeptReads language) plan.fields plan.reference_field calls
-    Any (codes "body") query
-    hits
+    Any (codes "body") query hits

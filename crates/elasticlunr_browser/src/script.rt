@@ -98,8 +98,7 @@ fn stemmer_part(stems: bool) -> &'static str
     if stems { STEMMER } else { "" }
 }
 
-/// The text between the parts of the template, with the part that makes stages of tables or
-/// without.
+/// The text between the parts of the template, with the part that makes stages of tables or without.
 fn framed(alloc: Global, printed: &str, part: &str) -> Result<String, AllocError>
     ensures { IfOk result (λ text. string_bytes text
         ≡ HEAD.now ++ printed.now ++ STAGES.now ++ part.now ++ TAIL.now) }

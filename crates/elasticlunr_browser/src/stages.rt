@@ -155,8 +155,8 @@ pub fn stages_of(alloc: Global, pipeline: &Pipeline) -> Result<Vec<Value>, Alloc
     Ok(values)
 }
 
-/// Appends the stages of the language, and its stemmer, if it has a table. The stages of English
-/// are elasticlunr.js's own.
+/// Appends the stages of the language, and its stemmer, if it has a table. The stages of English are
+/// elasticlunr.js's own.
 pub fn push_stages(
     alloc: Global,
     language: ScriptLanguage,

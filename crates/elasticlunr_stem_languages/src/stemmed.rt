@@ -7,8 +7,8 @@ use elasticlunr_stem_stage::{Language as Table, table_stemmer};
 use elasticlunr_text::pipeline::{Pipeline, Stage};
 use std::alloc::{AllocError, Global};
 
-/// A language with a stemmer after its stages, after Snowball 2.2. It has the name, the code and
-/// the tokens of the language; an index tells it apart by the names of the stages. With a built-in
+/// A language with a stemmer after its stages, after Snowball 2.2. It has the name, the code and the
+/// tokens of the language; an index tells it apart by the names of the stages. With a built-in
 /// language and the table of its name it is the language of `elasticlunr build --stems`.
 ///
 /// The stages must make tokens in lower case, as those of the built-in languages do.

@@ -2,8 +2,7 @@
 ghost use Rattle.std.specs.Prelude.{◌≡◌, ◌++◌, Err, IfOk, OnOk, map};
 ghost use Rattle.elasticlunr_flat.specs.Flat.{IsList, IsNumber, IsText, flat_list, flat_number};
 ghost use Rattle.elasticlunr_flat.specs.Flat.{flat_text};
-ghost use Rattle.elasticlunr_in_pieces.specs.Folder.{file_told, folder_told, flat_file};
-ghost use Rattle.elasticlunr_in_pieces.specs.Folder.{flat_folder};
+ghost use Rattle.elasticlunr_in_pieces.specs.Folder.{file_told, folder_told, flat_file, flat_folder};
 ghost use Rattle.elasticlunr_in_pieces.specs.Folder.{IsFlatFile, IsFlatFolder};
 ghost use Rattle.elasticlunr_in_pieces.specs.declared.fault.FormError.TheVariants.{TooLarge};
 

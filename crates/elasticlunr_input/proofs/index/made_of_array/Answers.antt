@@ -1,5 +1,6 @@
 use Rattle.std.proofs.Common.{map, ap, sym, ◌∙◌, [], Some, None, inl, inr}
 use Rattle.serde_json.specs.View.{view, items_of}
+use Rattle.elasticlunr_job.proofs.Stops.{ok_more}
 use Rattle.elasticlunr_input.specs.Asked.{options_of}
 use Rattle.elasticlunr_input.specs.FaultPlaces.{IsPlaceInObjects}
 use Rattle.elasticlunr_input.specs.Indexes.{FailsInput}
@@ -13,7 +14,6 @@ use Rattle.elasticlunr_input.proofs.LinePlaces.{placed_as, some_for}
 use Rattle.elasticlunr_input.proofs.Refusals.{refused_for}
 use Rattle.elasticlunr_input.proofs.InputLemmas.{err_unless}
 use Rattle.elasticlunr_input.proofs.NotingAll.{on_more}
-use Rattle.std.proofs.Common.{rules}
 use Rattle.elasticlunr_input.proofs.index.made_of_array.Goals as goal
 
 pub returns-clause-err : goal.returns-clause-err
@@ -59,7 +59,11 @@ pub returns-in_default-clause-placed : goal.returns-in_default-clause-placed
 returns-in_default-clause-placed g c = λ none. (cc (c.in_ok-value.ensures.ok))
 
 pub returns-clause-ok : goal.returns-clause-ok
-returns-clause-ok g c = search rules
+returns-clause-ok g c =
+    let items = map view c.deref.result.now in
+    let are = sym c.in-Some.ensures ∙ ap (λ vs. Some (items_of (map view vs))) (sym c.deref.ensures.value) in
+    ok_more c.made_of_objects.result _ _
+    (λ made is. (view c.in_ok-value.value, c.in_ok-value.ensures.ok, (items, are, is))) c.made_of_objects.ensures.ok
 
 pub returns-clause-noted : goal.returns-clause-noted
 returns-clause-noted g c =

@@ -50,6 +50,7 @@ returns-clause-noted g c =
       known = c.in_ok-begin.ensures.known;
     } in
     let docs = c.in_ok-made.ensures.ok in
+    let noted = c.in_ok-note_objects.ensures docs.0 docs.1 in
     subst (λ (o : spec.Options). AreNotedObjects settings o items old c.note_objects.new.notes)
     (c.in_ok-options.ensures (c.as_str.ensures.value ∙ c.in_ok-reference.ensures))
-    (c.begin.new.self, begun, c.in_ok-note_objects.ensures docs.0 docs.1)
+    (c.begin.new.self, begun, noted.0, noted.1, noted.2)

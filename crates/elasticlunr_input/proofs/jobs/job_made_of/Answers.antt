@@ -23,8 +23,8 @@ stops_with settings d job is (Refused refusal.UnknownLanguage) fails = (job, is,
 stops_with settings d job is (Refused refusal.DuplicateField) fails = (job, is, fails)
 stops_with settings d job is (Refused refusal.TooManyValues) fails = (job, is, fails)
 
-pub returns-in_ok-note_documents-clause-ok : goal.returns-in_ok-note_documents-clause-ok
-returns-in_ok-note_documents-clause-ok g c = (
+pub returns-clause-ok : goal.returns-clause-ok
+returns-clause-ok g c = (
   job_told c.in_ok-own.own,
   c.in_ok-own.ensures.ok,
   subst (λ job. IsMadeBy (own_rules c.args.settings.now.rules) job (g.M.Make.makes c.args.maker.now c.in_ok-made.made))
@@ -33,8 +33,8 @@ returns-in_ok-note_documents-clause-ok g c = (
       c.in_ok-rules.ensures c.in_ok-made.ensures.ok),
 )
 
-pub returns-in_ok-note_documents-clause-noted : goal.returns-in_ok-note_documents-clause-noted
-returns-in_ok-note_documents-clause-noted g c = (
+pub returns-clause-noted : goal.returns-clause-noted
+returns-clause-noted g c = (
   job_told c.in_ok-own.own,
   c.in_ok-own.ensures.ok,
   subst (λ job. AreNotedUnder (own_rules c.args.settings.now.rules) job c.args.notes.now c.note_documents.new.notes)
